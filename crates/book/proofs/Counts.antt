@@ -1,0 +1,37 @@
+-- A two-byte count at a place of the book.
+-- Assumes nothing.
+use Prim.Native.Nat.{ℕ, suc, _+_, _*_, _-_, _≤_, _<_}
+use mathlib.Core.Path.{_≡_, refl, sym, _∙_, ap}
+use mathlib.Core.List.{List}
+use native.Mathlib.Omega.{arith}
+use lib.Dec.{lit<}
+use lib.ListN.{length, take, drop, getD, length-drop}
+use lib.Seq.{getD-take, getD-drop, drop-drop}
+use borrow.Author.Tests.{lt-ltb, le-ltb}
+use Rattle.refusal.specs.declared.Refusal.the-variants.{BytesMissing}
+use Rattle.refusal.specs.Answer.{given, refused}
+use Rattle.book.specs.Field.{field, bytesOf, countOf}
+
+-- the count that stands at a place
+abbrev pub countAt : List ℕ → ℕ → ℕ
+countAt s at = getD s at 0 + 256 * getD s (at + 1) 0
+
+pub count-missing : (s : List ℕ) (at : ℕ) → length s < at + 2 → countOf (drop at s) ≡ refused BytesMissing
+unfolding countOf bytesOf
+count-missing s at h =
+    let l : length (drop at s) < 2 = rw (length-drop at s) (omega arith) in
+    rw (lt-ltb (length (drop at s)) 2 l)
+
+pub count-given : (s : List ℕ) (at : ℕ) → at + 2 ≤ length s → countOf (drop at s) ≡ given (field (countAt s at) (drop (at + 2) s))
+unfolding countOf bytesOf
+count-given s at h =
+    let l : 2 ≤ length (drop at s) = rw (length-drop at s) (omega arith) in
+    let z : at + 0 ≡ at = omega arith in
+    rw
+    (le-ltb (length (drop at s)) 2 l,
+    getD-take 2 (drop at s) 0 0 (lit< tt),
+    getD-take 2 (drop at s) 1 0 (lit< tt),
+    getD-drop at s 0 0,
+    getD-drop at s 1 0,
+    z,
+    drop-drop 2 at s)

@@ -1,0 +1,250 @@
+-- The laws of a book that was read, for the layers above.
+-- Assumes nothing.
+use Prim.Native.Nat.{ℕ, zero, suc, _+_, _-_, _≤_, _<_}
+use mathlib.Core.Path.{_≡_, refl, sym, _∙_, ap, subst}
+use mathlib.Core.Bool.{Bool, true, false, _&&_, not}
+use mathlib.Core.List.{List, [], _∷_, _++_}
+use native.Mathlib.Omega.{arith}
+use native.Mathlib.Decide.{decLt}
+use native.Mathlib.Nat.{le-of-suc-le-suc}
+use lib.Dec.{ltb}
+use lib.ListN.{length, take, drop, getD, length-replicate, List·getD-append}
+use lib.Seq.{sets-eq, drop-drop}
+use borrow.Author.Tests.{ltb-true, ltb-false}
+use Rattle.refusal.specs.declared.Refusal.the-variants.{BookTooLong}
+use Rattle.refusal.specs.declared.Outcome.the-variants.{Done, Refused}
+use Rattle.refusal.specs.Answer.{Answer, given, refused, onward, refuseIf}
+use Rattle.refusal.proofs.Answers.{onward-given, check-given, given-same}
+use Rattle.nameset.specs.Places.{places}
+use Rattle.nameset.proofs.Count.{count-bounds}
+use Rattle.name.specs.declared.Order.the-variants.{Below, Same}
+use Rattle.name.specs.Rule.{goodLength, goodBytes, isName}
+use Rattle.name.specs.Order.{orderOf, rises}
+use Rattle.name.proofs.Ordering.{rises-below, below-trans, same-refl}
+use Rattle.book.specs.declared.Layout.{Layout}
+use Rattle.book.specs.declared.Reading.{Reading}
+use Rattle.book.specs.Field.{Field, field}
+use Rattle.book.specs.Book.{Block, Book, allBelow, longestBook, nameSection, blockSection, bookOf, namesIn, blocksIn}
+use Rattle.book.specs.Bytes.{nameBytes, namesBytes, blockBytes, blocksBytes}
+use Rattle.book.specs.Layout.{placesFrom, endFrom, noPlaces, placeTable, layoutOf, noLayout, noReading, readingOf}
+use Rattle.book.specs.Access.{LaidOut, BlockFits}
+use Rattle.book.proofs.Parts.{byte-at, reaches}
+use Rattle.book.proofs.Told.{Rising, none, one, Within}
+use Rattle.book.proofs.Steps.{name-placed, BlockPlaced, block-placed}
+use Rattle.book.proofs.Sections.{NameSectionTold, name-section-told, BlockSectionTold, block-section-told, behind-names}
+
+-- ---- the whole book
+
+pub record BookTold (s : List ℕ) (b : Book) : Type 0 where
+  -- a read book has at most 60,000 bytes
+  pub short : length s ≤ longestBook
+  -- N is 1 to 64
+  pub some-name : 1 ≤ length (b .names)
+  pub few-names : length (b .names) ≤ places
+  -- the names keep the rule and rise strictly
+  pub rising : Rising [] (b .names)
+  -- every parent and every child number is below N
+  pub within : Within (length (b .names)) (b .blocks)
+  -- the names stand behind the first two bytes, and the blocks behind two more
+  pub enough : 2 ≤ length s
+  pub after-names : List ℕ
+  pub names-stand : drop 2 s ≡ namesBytes (b .names) after-names
+  pub blocks-stand : drop (endFrom 2 (b .names) + 2) s ≡ blocksBytes (b .blocks) []
+
+pub book-told : (s : List ℕ) (b : Book) → bookOf s ≡ given b → BookTold s b
+unfolding bookOf
+book-told s b e = named (check-given (ltb longestBook (length s)) BookTooLong _ b e)
+  where
+    whole : (f : Field (List (List ℕ))) (bs : List Block) → length s ≤ longestBook → nameSection s ≡ given f → blockSection (length (f .value)) (f .rest) ≡ given bs →
+        BookTold s (record { names = f .value; blocks = bs })
+    whole f bs l p q =
+        let t = name-section-told s f p in
+        let u = block-section-told (length (f .value)) (f .rest) bs q in
+        let c = count-bounds (length (f .value)) (t .good) in
+        let z = behind-names s 2 (f .value) (f .rest) (t .enough) (t .bytes) in
+        record {
+          short = l;
+          some-name = c .0;
+          few-names = c .1;
+          rising = t .rising;
+          within = u .within;
+          enough = t .enough;
+          after-names = f .rest;
+          names-stand = t .bytes;
+          blocks-stand = sym (drop-drop 2 (endFrom 2 (f .value)) s) ∙ ap (drop 2) (z .1) ∙ u .bytes;
+        }
+    blocked : length s ≤ longestBook → (f : Field (List (List ℕ))) → nameSection s ≡ given f →
+        ((bs : List Block) × (blockSection (length (f .value)) (f .rest) ≡ given bs) × (given (record { names = f .value; blocks = bs }) ≡ given b)) → BookTold s b
+    blocked l f p (bs, q, e) = subst (BookTold s) (given-same _ b e) (whole f bs l p q)
+    named : ((ltb longestBook (length s) ≡ false) × (onward (nameSection s) (λ names.
+        onward (blockSection (length (names .value)) (names .rest)) (λ blocks. given (record { names = names .value; blocks = blocks }))) ≡ given b)) →
+        BookTold s b
+    named (l, e) =
+        let o = onward-given (nameSection s) _ b e in
+        blocked (ltb-false longestBook (length s) l) (o .0) (o .1) (onward-given (blockSection (length (o .0 .value)) (o .0 .rest)) _ b (o .2))
+
+-- ---- its names
+
+-- number order is byte order
+pub names-rise : (before : List ℕ) (xs : List (List ℕ)) → Rising before xs → (i j : ℕ) → i < j → j < length xs → orderOf (getD xs i []) (getD xs j []) ≡ Below
+names-rise before [] none i j h l = absurd (omega arith)
+names-rise before (x ∷ xs) (one a b c r) zero zero h l = absurd (omega arith)
+names-rise before (x ∷ xs) (one a b c r) zero (suc j) h l = first x xs r j (le-of-suc-le-suc l)
+  where
+    first : (x : List ℕ) (xs : List (List ℕ)) → Rising x xs → (j : ℕ) → j < length xs → orderOf x (getD xs j []) ≡ Below
+    first x [] none j l = absurd (omega arith)
+    first x (y ∷ ys) (one a b c r) zero l = rises-below x y c
+    first x (y ∷ ys) (one a b c r) (suc j) l = below-trans x y (getD ys j []) (rises-below x y c) (first y ys r j (le-of-suc-le-suc l))
+names-rise before (x ∷ xs) (one a b c r) (suc i) zero h l = absurd (omega arith)
+names-rise before (x ∷ xs) (one a b c r) (suc i) (suc j) h l = names-rise x xs r i j (le-of-suc-le-suc h) (le-of-suc-le-suc l)
+
+-- a byte string has at most one number
+pub one-number : (before : List ℕ) (xs : List (List ℕ)) → Rising before xs → (i j : ℕ) → i < length xs → j < length xs → getD xs i [] ≡ getD xs j [] → i ≡ j
+one-number before xs r i j hi hj e = go (decLt i j) (decLt j i)
+  where
+    differ : (a b : List ℕ) → a ≡ b → orderOf a b ≡ Below → ⊥
+    differ a b p q =
+        let s : orderOf a b ≡ Same = ap (orderOf a) (sym p) ∙ same-refl a in
+        let z : _≡_ {A = ℕ} 0 1 = cc in
+        omega arith
+    go : Dec (i < j) → Dec (j < i) → i ≡ j
+    go (yes h) k = absurd (differ (getD xs i []) (getD xs j []) e (names-rise before xs r i j h hj))
+    go (no h) (yes k) = absurd (differ (getD xs j []) (getD xs i []) (sym e) (names-rise before xs r j i k hi))
+    go (no h) (no k) = omega arith
+
+-- every name keeps the rule
+pub name-good : (before : List ℕ) (xs : List (List ℕ)) → Rising before xs → (i : ℕ) → i < length xs → isName (getD xs i []) ≡ true
+unfolding isName
+name-good before [] none i l = absurd (omega arith)
+name-good before (x ∷ xs) (one a b c r) zero l = rw (a, b)
+name-good before (x ∷ xs) (one a b c r) (suc i) l = name-good x xs r i (le-of-suc-le-suc l)
+
+-- name i stands where the places say
+name-stands : (s : List ℕ) (at : ℕ) (xs : List (List ℕ)) (after : List ℕ) → drop at s ≡ namesBytes xs after → (i : ℕ) → i < length xs →
+    (rest : List ℕ) × (drop (getD (placesFrom at xs) i 0) s ≡ nameBytes (getD xs i []) rest)
+unfolding namesBytes placesFrom
+name-stands s at [] after e i l = absurd (omega arith)
+name-stands s at (x ∷ xs) after e zero l = (namesBytes xs after, e)
+name-stands s at (x ∷ xs) after e (suc i) l =
+    name-stands s (at + 1 + length x) xs after (name-placed s at x (namesBytes xs after) e .2) i (le-of-suc-le-suc l)
+
+places-length : (at : ℕ) (xs : List (List ℕ)) → length (placesFrom at xs) ≡ length xs
+unfolding placesFrom
+places-length at [] = refl
+places-length at (x ∷ xs) = ap suc (places-length (at + 1 + length x) xs)
+
+table-entry : (xs : List (List ℕ)) → length xs ≤ places → (i : ℕ) → i < length xs → getD (placeTable xs) i 0 ≡ getD (placesFrom 2 xs) i 0
+unfolding placeTable noPlaces
+table-entry xs h i l =
+    let n : length (placesFrom 2 xs) ≡ length xs = places-length 2 xs in
+    let r : 0 + length (placesFrom 2 xs) ≤ length noPlaces = omega (arith, length-replicate {A = ℕ} places 0) in
+    ap (λ (t : List ℕ). getD t i 0) (sets-eq (placesFrom 2 xs) noPlaces 0 r)
+    ∙ List·getD-append (placesFrom 2 xs) (drop (0 + length (placesFrom 2 xs)) noPlaces) 0 i (omega arith)
+
+-- what stands where name i does
+pub record NameLaid (s : List ℕ) (at : ℕ) (name : List ℕ) : Type 0 where
+  pub size : at + 1 ≤ length s
+  pub whole : at + 1 + getD s at 0 ≤ length s
+  pub bytes : take (getD s at 0) (drop (at + 1) s) ≡ name
+
+name-laid-at : (s : List ℕ) (at : ℕ) (name rest : List ℕ) → drop at s ≡ nameBytes name rest → NameLaid s at name
+unfolding nameBytes
+name-laid-at s at name rest e =
+    let p = name-placed s at name rest e in
+    let b : getD s at 0 ≡ length name = byte-at s at (length name) (name ++ rest) e in
+    record { size = omega (arith, p .0); whole = rw b (p .0); bytes = rw b (p .1) }
+
+module _ (s : List ℕ) (l : Layout) (laid : LaidOut s l) where
+  laid-told : BookTold s (laid .book)
+  laid-told = book-told s (laid .book) (laid .read)
+
+  names-in : namesIn s ≡ laid .book .names
+  unfolding namesIn
+  names-in = rw (laid .read)
+
+  blocks-in : blocksIn s ≡ laid .book .blocks
+  unfolding blocksIn
+  blocks-in = rw (laid .read)
+
+  -- the layout's counts are those of the names and the blocks
+  pub name-count : l .names ≡ length (namesIn s)
+  unfolding layoutOf
+  name-count = ap (λ (x : Layout). x .names) (laid .same) ∙ ap length (sym names-in)
+
+  pub block-count : l .blocks ≡ length (blocksIn s)
+  unfolding layoutOf
+  block-count = ap (λ (x : Layout). x .blocks) (laid .same) ∙ ap length (sym blocks-in)
+
+  pub few-names : l .names ≤ places
+  few-names = rw (name-count, names-in) (laid-told .few-names)
+
+  pub some-name : 1 ≤ l .names
+  some-name = rw (name-count, names-in) (laid-told .some-name)
+
+  pub short-book : length s ≤ longestBook
+  short-book = laid-told .short
+
+  pub names-rising : Rising [] (namesIn s)
+  names-rising = rw names-in (laid-told .rising)
+
+  -- every parent and every child is below N
+  pub blocks-within : Within (l .names) (blocksIn s)
+  blocks-within = rw (name-count, names-in, blocks-in) (laid-told .within)
+
+  -- the blocks stand from `body` on, up to the end
+  pub blocks-stand : drop (l .body) s ≡ blocksBytes (blocksIn s) []
+  unfolding layoutOf
+  blocks-stand = rw (ap (λ (x : Layout). x .body) (laid .same), blocks-in) (laid-told .blocks-stand)
+
+  pub name-laid : (i : ℕ) → i < l .names → NameLaid s (getD (l .places) i 0) (getD (namesIn s) i [])
+  unfolding layoutOf
+  name-laid i h =
+      let k : i < length (laid .book .names) = subst (λ (n : ℕ). i < n) (name-count ∙ ap length names-in) h in
+      let t = name-stands s 2 (laid .book .names) (laid-told .after-names) (laid-told .names-stand) i k in
+      let e : getD (l .places) i 0 ≡ getD (placesFrom 2 (laid .book .names)) i 0 =
+      ap (λ (x : Layout). getD (x .places) i 0) (laid .same) ∙ table-entry (laid .book .names) (laid-told .few-names) i k in
+      rw (names-in, e) (name-laid-at s (getD (placesFrom 2 (laid .book .names)) i 0) (getD (laid .book .names) i []) (t .0) (t .1))
+
+-- a book that was read without a refusal is laid out as the answer says
+pub laid-out : (s : List ℕ) (r : Reading) → r ≡ readingOf (bookOf s) → r .outcome ≡ Done → LaidOut s (r .layout)
+unfolding readingOf noReading
+laid-out s r e d = go (bookOf s) refl e
+  where
+    go : (a : Answer Book) → bookOf s ≡ a → r ≡ readingOf a → LaidOut s (r .layout)
+    go (given b) q e = record { book = b; read = q; same = ap (λ (x : Reading). x .layout) e }
+    go (refused f) q e =
+        let o : Refused f ≡ Done = sym (ap (λ (x : Reading). x .outcome) e) ∙ d in
+        absurd (let z : _≡_ {A = ℕ} 0 1 = cc in omega arith)
+
+-- ---- its blocks
+
+-- one block after another: what stands at a place where blocks do
+pub next-block : (s : List ℕ) (at : ℕ) (b : Block) (bs : List Block) → drop at s ≡ blocksBytes (b ∷ bs) [] →
+    BlockPlaced s at b (blocksBytes bs []) × BlockFits s at
+unfolding blocksBytes
+next-block s at b bs e =
+    let p = block-placed s at b (blocksBytes bs []) e in
+    (p, record { head = omega (arith, p .fits); whole = rw (p .size) (p .fits) })
+
+both-true : (a b : Bool) → (a && b) ≡ true → (a ≡ true) × (b ≡ true)
+both-true true b e = (refl, e)
+both-true false b e = absurd (let z : _≡_ {A = ℕ} 0 1 = cc in omega arith)
+
+-- each number of a word is below n
+pub child-below : (n : ℕ) (w : List ℕ) → allBelow n w ≡ true → (k : ℕ) → k < length w → getD w k 0 < n
+unfolding allBelow
+child-below n [] e k l = absurd (omega arith)
+child-below n (x ∷ w) e zero l = ltb-true x n (both-true (ltb x n) (allBelow n w) e .0)
+child-below n (x ∷ w) e (suc k) l = child-below n w (both-true (ltb x n) (allBelow n w) e .1) k (le-of-suc-le-suc l)
+
+-- where every byte is below 256, every word has at most 255 names
+abbrev pub ShortWords : List Block → Type 0
+ShortWords [] = Unit {0}
+ShortWords (b ∷ bs) = (length (b .word) ≤ 255) × ShortWords bs
+
+pub words-short : (s : List ℕ) → ((i : ℕ) → getD s i 0 < 256) → (at : ℕ) (bs : List Block) (after : List ℕ) → drop at s ≡ blocksBytes bs after → ShortWords bs
+unfolding blocksBytes
+words-short s bytes at [] after e = tt
+words-short s bytes at (b ∷ bs) after e =
+    let p = block-placed s at b (blocksBytes bs after) e in
+    (omega (arith, p .size, bytes (at + 1)), words-short s bytes (at + 2 + length (b .word)) bs after (p .rest))

@@ -1,0 +1,174 @@
+-- What is known of the parts of a book that was read: which bytes they are, and which rules they keep.
+-- Assumes nothing.
+use Prim.Native.Nat.{ℕ, zero, suc, _+_, _*_, _≤_, _<_}
+use mathlib.Core.Path.{_≡_, refl, sym, _∙_, ap, subst}
+use mathlib.Core.Bool.{Bool, true, false, not}
+use mathlib.Core.List.{List, [], _∷_, _++_}
+use native.Mathlib.Omega.{arith}
+use lib.Dec.{ltb}
+use lib.ListN.{length, take, drop, getD, take-append-drop}
+use lib.Seq.{length-take-le}
+use borrow.Author.Tests.{ltb-true, ltb-false, not-false}
+use Rattle.refusal.specs.declared.Refusal.the-variants.{BytesMissing, BadName, NameNotAbove, NumberNotBelow}
+use Rattle.refusal.specs.Answer.{Answer, given, refused, onward, refuseIf}
+use Rattle.refusal.proofs.Answers.{onward-given, check-given, given-same}
+use Rattle.name.specs.Rule.{goodLength, goodBytes}
+use Rattle.name.specs.Order.{rises}
+use Rattle.book.specs.Field.{Field, field, byteOf, bytesOf, countOf}
+use Rattle.book.specs.Book.{Block, Book, allBelow, nameOf, namesOf, blockOf, blocksOf}
+use Rattle.book.specs.Bytes.{nameBytes, namesBytes, blockBytes, blocksBytes}
+
+-- a given answer and a refused one are never the same
+pub not-refused : {A : Type 0} {a : A} → (r : Rattle.refusal.specs.declared.Refusal.Refusal) → refused r ≡ given a → ⊥
+not-refused r e = let z : _≡_ {A = ℕ} 0 1 = cc in omega arith
+
+pub byte-told : (s : List ℕ) (f : Field ℕ) → byteOf s ≡ given f → s ≡ f .value ∷ f .rest
+unfolding byteOf
+byte-told [] f e = absurd (not-refused BytesMissing e)
+byte-told (b ∷ s) f e = ap (λ (g : Field ℕ). g .value ∷ g .rest) (given-same (field b s) f e)
+
+pub bytes-told : (n : ℕ) (s : List ℕ) (f : Field (List ℕ)) → bytesOf n s ≡ given f → (s ≡ f .value ++ f .rest) × (length (f .value) ≡ n)
+unfolding bytesOf
+bytes-told n s f e =
+    let c = check-given (ltb (length s) n) BytesMissing (given (field (take n s) (drop n s))) f e in
+    let g : field (take n s) (drop n s) ≡ f = given-same (field (take n s) (drop n s)) f (c .1) in
+    (sym (take-append-drop n s) ∙ ap (λ (x : Field (List ℕ)). x .value ++ x .rest) g,
+    ap (λ (x : Field (List ℕ)). length (x .value)) (sym g) ∙ length-take-le n s (ltb-false (length s) n (c .0)))
+
+-- a name that was read
+pub record NameTold (before s : List ℕ) (f : Field (List ℕ)) : Type 0 where
+  pub bytes : s ≡ nameBytes (f .value) (f .rest)
+  pub long : goodLength (length (f .value)) ≡ true
+  pub good : goodBytes (f .value) ≡ true
+  pub above : rises before (f .value) ≡ true
+
+pub name-told : (before s : List ℕ) (f : Field (List ℕ)) → nameOf before s ≡ given f → NameTold before s f
+unfolding nameOf nameBytes
+name-told before s f e = sized (onward-given (byteOf s) _ f e)
+  where
+    judged : (size : Field ℕ) (name : Field (List ℕ)) → s ≡ size .value ∷ size .rest → goodLength (size .value) ≡ true →
+        bytesOf (size .value) (size .rest) ≡ given name →
+        refuseIf (not (goodBytes (name .value))) BadName (refuseIf (not (rises before (name .value))) NameNotAbove (given name)) ≡ given f →
+        NameTold before s f
+    judged size name h g b e =
+        let t = bytes-told (size .value) (size .rest) name b in
+        let c = check-given (not (goodBytes (name .value))) BadName _ f e in
+        let d = check-given (not (rises before (name .value))) NameNotAbove _ f (c .1) in
+        subst (NameTold before s) (given-same name f (d .1))
+        (record {
+          bytes = h ∙ rw (t .0, t .1) refl;
+          long = rw (t .1) g;
+          good = not-false _ (c .0);
+          above = not-false _ (d .0);
+        })
+    sized : ((size : Field ℕ) × (byteOf s ≡ given size)
+        × (refuseIf (not (goodLength (size .value))) BadName
+        (onward (bytesOf (size .value) (size .rest)) (λ name.
+        refuseIf (not (goodBytes (name .value))) BadName (refuseIf (not (rises before (name .value))) NameNotAbove (given name)))) ≡ given f)) →
+        NameTold before s f
+    sized (size, h, e) =
+        let c = check-given (not (goodLength (size .value))) BadName _ f e in
+        let n = onward-given (bytesOf (size .value) (size .rest)) _ f (c .1) in
+        judged size (n .0) (byte-told s size h) (not-false _ (c .0)) (n .1) (n .2)
+
+-- names that were read: each keeps the rule and stands above the one before it
+pub data Rising : List ℕ → List (List ℕ) → Type 0 where
+  none : {before : List ℕ} → Rising before []
+  one : {before x : List ℕ} {xs : List (List ℕ)} → goodLength (length x) ≡ true → goodBytes x ≡ true → rises before x ≡ true → Rising x xs →
+      Rising before (x ∷ xs)
+
+pub record NamesTold (n : ℕ) (before s : List ℕ) (f : Field (List (List ℕ))) : Type 0 where
+  pub bytes : s ≡ namesBytes (f .value) (f .rest)
+  pub many : length (f .value) ≡ n
+  pub rising : Rising before (f .value)
+
+pub names-told : (n : ℕ) (before s : List ℕ) (f : Field (List (List ℕ))) → namesOf n before s ≡ given f → NamesTold n before s f
+unfolding namesOf namesBytes
+names-told zero before s f e = subst (NamesTold zero before s) (given-same (field [] s) f e) (record { bytes = refl; many = refl; rising = none })
+names-told (suc n) before s f e = more (λ b t g. names-told n b t g) (onward-given (nameOf before s) _ f e)
+  where
+    more : ((b t : List ℕ) (g : Field (List (List ℕ))) → namesOf n b t ≡ given g → NamesTold n b t g) →
+        ((x : Field (List ℕ)) × (nameOf before s ≡ given x)
+        × (onward (namesOf n (x .value) (x .rest)) (λ others. given (field (x .value ∷ others .value) (others .rest))) ≡ given f)) →
+        NamesTold (suc n) before s f
+    more again (x, h, e) =
+        let o = onward-given (namesOf n (x .value) (x .rest)) _ f e in
+        let t = name-told before s x h in
+        let u = again (x .value) (x .rest) (o .0) (o .1) in
+        subst (NamesTold (suc n) before s) (given-same (field (x .value ∷ o .0 .value) (o .0 .rest)) f (o .2))
+        (record {
+          bytes = t .bytes ∙ ap (nameBytes (x .value)) (u .bytes);
+          many = ap suc (u .many);
+          rising = one (t .long) (t .good) (t .above) (u .rising);
+        })
+
+-- a block that was read over n names
+pub record BlockTold (n : ℕ) (s : List ℕ) (f : Field Block) : Type 0 where
+  pub bytes : s ≡ blockBytes (f .value) (f .rest)
+  pub parent : f .value .parent < n
+  pub children : allBelow n (f .value .word) ≡ true
+
+abbrev made : ℕ → Field (List ℕ) → Field Block
+made parent word = field (record { parent = parent; word = word .value }) (word .rest)
+
+pub block-told : (n : ℕ) (s : List ℕ) (f : Field Block) → blockOf n s ≡ given f → BlockTold n s f
+unfolding blockOf blockBytes
+block-told n s f e = started (onward-given (byteOf s) _ f e)
+  where
+    ended : (p k : Field ℕ) (w : Field (List ℕ)) → byteOf s ≡ given p → p .value < n → byteOf (p .rest) ≡ given k →
+        bytesOf (k .value) (k .rest) ≡ given w → refuseIf (not (allBelow n (w .value))) NumberNotBelow (given (made (p .value) w)) ≡ given f →
+        BlockTold n s f
+    ended p k w hp below hk hw e =
+        let t = bytes-told (k .value) (k .rest) w hw in
+        let c = check-given (not (allBelow n (w .value))) NumberNotBelow _ f e in
+        subst (BlockTold n s) (given-same (made (p .value) w) f (c .1))
+        (record {
+          bytes = byte-told s p hp ∙ ap (λ (r : List ℕ). p .value ∷ r) (byte-told (p .rest) k hk ∙ rw (t .0, t .1) refl);
+          parent = below;
+          children = not-false _ (c .0);
+        })
+    counted : (p : Field ℕ) → byteOf s ≡ given p → p .value < n →
+        ((k : Field ℕ) × (byteOf (p .rest) ≡ given k)
+        × (onward (bytesOf (k .value) (k .rest)) (λ w. refuseIf (not (allBelow n (w .value))) NumberNotBelow (given (made (p .value) w))) ≡ given f)) →
+        BlockTold n s f
+    counted p hp below (k, hk, e) =
+        let o = onward-given (bytesOf (k .value) (k .rest)) _ f e in
+        ended p k (o .0) hp below hk (o .1) (o .2)
+    started : ((p : Field ℕ) × (byteOf s ≡ given p)
+        × (refuseIf (not (ltb (p .value) n)) NumberNotBelow
+        (onward (byteOf (p .rest)) (λ k.
+        onward (bytesOf (k .value) (k .rest)) (λ w. refuseIf (not (allBelow n (w .value))) NumberNotBelow (given (made (p .value) w))))) ≡ given f)) →
+        BlockTold n s f
+    started (p, hp, e) =
+        let c = check-given (not (ltb (p .value) n)) NumberNotBelow _ f e in
+        counted p hp (ltb-true (p .value) n (not-false _ (c .0))) (onward-given (byteOf (p .rest)) _ f (c .1))
+
+-- blocks that were read over n names
+abbrev pub Within : ℕ → List Block → Type 0
+Within n [] = Unit {0}
+Within n (b ∷ bs) = (b .parent < n) × (allBelow n (b .word) ≡ true) × Within n bs
+
+pub record BlocksTold (n m : ℕ) (s : List ℕ) (f : Field (List Block)) : Type 0 where
+  pub bytes : s ≡ blocksBytes (f .value) (f .rest)
+  pub many : length (f .value) ≡ m
+  pub within : Within n (f .value)
+
+pub blocks-told : (n m : ℕ) (s : List ℕ) (f : Field (List Block)) → blocksOf n m s ≡ given f → BlocksTold n m s f
+unfolding blocksOf blocksBytes
+blocks-told n zero s f e = subst (BlocksTold n zero s) (given-same (field [] s) f e) (record { bytes = refl; many = refl; within = tt })
+blocks-told n (suc m) s f e = more (λ t g. blocks-told n m t g) (onward-given (blockOf n s) _ f e)
+  where
+    more : ((t : List ℕ) (g : Field (List Block)) → blocksOf n m t ≡ given g → BlocksTold n m t g) →
+        ((b : Field Block) × (blockOf n s ≡ given b)
+        × (onward (blocksOf n m (b .rest)) (λ others. given (field (b .value ∷ others .value) (others .rest))) ≡ given f)) →
+        BlocksTold n (suc m) s f
+    more again (b, h, e) =
+        let o = onward-given (blocksOf n m (b .rest)) _ f e in
+        let t = block-told n s b h in
+        let u = again (b .rest) (o .0) (o .1) in
+        subst (BlocksTold n (suc m) s) (given-same (field (b .value ∷ o .0 .value) (o .0 .rest)) f (o .2))
+        (record {
+          bytes = t .bytes ∙ ap (blockBytes (b .value)) (u .bytes);
+          many = ap suc (u .many);
+          within = (t .parent, t .children, u .within);
+        })

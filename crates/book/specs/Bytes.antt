@@ -1,0 +1,22 @@
+-- Names and blocks as the bytes of a book, each before the bytes that follow it.
+-- Assumes nothing.
+use Prim.Native.Nat.{ℕ}
+use mathlib.Core.List.{List, [], _∷_, _++_}
+use lib.ListN.{length}
+use Rattle.book.specs.Book.{Block}
+
+-- a length byte, then the name's bytes
+unfoldable pub nameBytes : List ℕ → List ℕ → List ℕ
+nameBytes name rest = length name ∷ (name ++ rest)
+
+unfoldable pub namesBytes : List (List ℕ) → List ℕ → List ℕ
+namesBytes [] rest = rest
+namesBytes (x ∷ xs) rest = nameBytes x (namesBytes xs rest)
+
+-- a parent number, a child count, then the children
+unfoldable pub blockBytes : Block → List ℕ → List ℕ
+blockBytes b rest = b .parent ∷ (length (b .word) ∷ (b .word ++ rest))
+
+unfoldable pub blocksBytes : List Block → List ℕ → List ℕ
+blocksBytes [] rest = rest
+blocksBytes (b ∷ bs) rest = blockBytes b (blocksBytes bs rest)

@@ -1,0 +1,26 @@
+// Bytes, counts and parts of the book.
+ghost use mathlib.Core.Path.{_≡_};
+ghost use Prim.Native.Nat.{_+_, _*_, _-_, _≤_, _<_};
+ghost use lib.ListN.{length, getD, take, drop};
+
+pub fn wide(byte: u8) -> usize
+    ensures { λ r. ⌜ (r ≡ byte) × (r < 256) ⌝ }
+{
+    byte as usize
+}
+
+// The two-byte count at a place, the low byte first.
+pub fn count_at(bytes: &[u8], at: usize) -> usize
+    requires { ⌜ at + 2 ≤ length (now bytes) ⌝ }
+    ensures { λ r. ⌜ (r ≡ getD (now (bytes .entry)) at 0 + 256 * getD (now (bytes .entry)) (at + 1) 0) × (r < 65536) ⌝ }
+{
+    wide(bytes[at]) + 256 * wide(bytes[at + 1])
+}
+
+// The bytes from one place up to another.
+pub fn part(bytes: &[u8], from: usize, to: usize) -> &[u8]
+    requires { ⌜ (from ≤ to) × (to ≤ length (now bytes)) ⌝ }
+    ensures { λ r. ⌜ now r ≡ take (to - from) (drop from (now (bytes .entry))) ⌝ }
+{
+    &bytes[from..to]
+}

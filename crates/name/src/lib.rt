@@ -1,0 +1,105 @@
+// The rule for a name's bytes, and the order of names.
+ghost use mathlib.Core.Path.{_≡_};
+ghost use Rattle.name.specs.Class.{classOf};
+ghost use Rattle.name.specs.Rule.{goodLength, goodBytes};
+ghost use Rattle.name.specs.Order.{orderOf, rises};
+
+// The most bytes that a name has.
+const LONGEST: usize = 32;
+
+// The class of a byte that no name has, of one that may stand later only, and of one that may start a name.
+const NEITHER: u8 = 0;
+const START: u8 = 2;
+
+// The class of each byte value; 1 is later only.
+const CLASSES: [u8; 256] = [
+    0, 0, 0, 0, 0, 0, 0, 0, 0, 0, 0, 0, 0, 0, 0, 0,
+    0, 0, 0, 0, 0, 0, 0, 0, 0, 0, 0, 0, 0, 0, 0, 0,
+    0, 0, 0, 0, 0, 0, 0, 0, 0, 0, 0, 0, 0, 1, 1, 0,
+    1, 1, 1, 1, 1, 1, 1, 1, 1, 1, 0, 0, 0, 0, 0, 0,
+    0, 2, 2, 2, 2, 2, 2, 2, 2, 2, 2, 2, 2, 2, 2, 2,
+    2, 2, 2, 2, 2, 2, 2, 2, 2, 2, 2, 0, 0, 0, 0, 2,
+    0, 2, 2, 2, 2, 2, 2, 2, 2, 2, 2, 2, 2, 2, 2, 2,
+    2, 2, 2, 2, 2, 2, 2, 2, 2, 2, 2, 0, 0, 0, 0, 0,
+    0, 0, 0, 0, 0, 0, 0, 0, 0, 0, 0, 0, 0, 0, 0, 0,
+    0, 0, 0, 0, 0, 0, 0, 0, 0, 0, 0, 0, 0, 0, 0, 0,
+    0, 0, 0, 0, 0, 0, 0, 0, 0, 0, 0, 0, 0, 0, 0, 0,
+    0, 0, 0, 0, 0, 0, 0, 0, 0, 0, 0, 0, 0, 0, 0, 0,
+    0, 0, 0, 0, 0, 0, 0, 0, 0, 0, 0, 0, 0, 0, 0, 0,
+    0, 0, 0, 0, 0, 0, 0, 0, 0, 0, 0, 0, 0, 0, 0, 0,
+    0, 0, 0, 0, 0, 0, 0, 0, 0, 0, 0, 0, 0, 0, 0, 0,
+    0, 0, 0, 0, 0, 0, 0, 0, 0, 0, 0, 0, 0, 0, 0, 0,
+];
+
+// How two byte strings stand to each other, compared byte by byte, a proper prefix first.
+pub enum Order {
+    Below,
+    Same,
+    Above,
+}
+
+pub fn class_of(byte: u8) -> u8
+    ensures { λ r. ⌜ r ≡ classOf byte ⌝ }
+{
+    CLASSES[byte as usize]
+}
+
+// Whether a name may have this many bytes.
+pub fn good_length(size: usize) -> bool
+    ensures { λ r. ⌜ r ≡ goodLength size ⌝ }
+{
+    if size < 1 {
+        return false;
+    }
+    size <= LONGEST
+}
+
+// Whether the bytes are those of a name, its length aside.
+pub fn good_bytes(bytes: &[u8]) -> bool
+    ensures { λ r. ⌜ r ≡ goodBytes (now (bytes .entry)) ⌝ }
+{
+    if bytes.len() == 0 {
+        return false;
+    }
+    if class_of(bytes[0]) != START {
+        return false;
+    }
+    let mut i = 1;
+    while i < bytes.len() {
+        if class_of(bytes[i]) == NEITHER {
+            return false;
+        }
+        i += 1;
+    }
+    true
+}
+
+pub fn compare(a: &[u8], b: &[u8]) -> Order
+    ensures { λ r. ⌜ r ≡ orderOf (now (a .entry)) (now (b .entry)) ⌝ }
+{
+    let mut i = 0;
+    while i < a.len() {
+        if b.len() <= i {
+            return Order::Above;
+        }
+        if a[i] < b[i] {
+            return Order::Below;
+        }
+        if b[i] < a[i] {
+            return Order::Above;
+        }
+        i += 1;
+    }
+    if i < b.len() { Order::Below } else { Order::Same }
+}
+
+// Whether b comes after a, strictly.
+pub fn rises(a: &[u8], b: &[u8]) -> bool
+    ensures { λ r. ⌜ r ≡ rises (now (a .entry)) (now (b .entry)) ⌝ }
+{
+    match compare(a, b) {
+        Order::Below => true,
+        Order::Same => false,
+        Order::Above => false,
+    }
+}

@@ -1,0 +1,60 @@
+-- Sets of name numbers, and what each operation of the crate computes. What members each result has is in proofs/Laws.antt.
+-- Assumes nothing.
+use Prim.Native.Nat.{ℕ, _/_, _%_, _^_, _<_}
+use mathlib.Core.Bool.{Bool}
+use lib.Dec.{eqb}
+use lib.Bits.{bitOr, bitAnd, bitXor}
+use lib.Count.{trailingZeros, ones}
+use Rattle.nameset.specs.Places.{places}
+use Rattle.nameset.specs.declared.NameSet.{NameSet}
+
+-- Name i is in s where the binary digit i is 1.
+unfoldable pub member : NameSet → ℕ → Bool
+member s i = eqb (s .bits / 2 ^ i % 2) 1
+
+-- No digit stands at or past the number of places, as in every set that code holds.
+abbrev pub Sized : NameSet → Type 0
+Sized s = s .bits < 2 ^ places
+
+-- The set with no member.
+abbrev pub empty : NameSet
+empty = record { bits = 0 }
+
+-- The set s with the name i put in.
+unfoldable pub with : NameSet → ℕ → NameSet
+with s i = record { bits = bitOr (s .bits) (2 ^ i) }
+
+-- The names in a or in b.
+unfoldable pub union : NameSet → NameSet → NameSet
+union a b = record { bits = bitOr (a .bits) (b .bits) }
+
+-- The names in a and in b.
+unfoldable pub both : NameSet → NameSet → NameSet
+both a b = record { bits = bitAnd (a .bits) (b .bits) }
+
+-- The names in a and not in b.
+unfoldable pub minus : NameSet → NameSet → NameSet
+minus a b = record { bits = bitXor (a .bits) (bitAnd (a .bits) (b .bits)) }
+
+-- Whether there is no member.
+unfoldable pub isEmpty : NameSet → Bool
+isEmpty s = eqb (s .bits) 0
+
+-- The smallest member, or the number of places where there is none.
+unfoldable pub first : NameSet → ℕ
+first s = trailingZeros places (s .bits)
+
+-- The set without its smallest member.
+unfoldable pub rest : NameSet → NameSet
+rest s = minus s (with empty (first s))
+
+-- The number of members.
+unfoldable pub size : NameSet → ℕ
+size s = ones (s .bits)
+
+-- The set that a word keeps, and the word that keeps a set.
+unfoldable pub ofWord : ℕ → NameSet
+ofWord word = record { bits = word }
+
+unfoldable pub wordOf : NameSet → ℕ
+wordOf s = s .bits

@@ -1,0 +1,113 @@
+// Sets of name numbers by value, one bit for each place.
+ghost use mathlib.Core.Path.{_≡_};
+ghost use mathlib.Core.Bool.{false, _&&_, _||_, not};
+ghost use Prim.Native.Nat.{_<_};
+ghost use lib.Dec.{eqb};
+ghost use Rattle.nameset.specs.Places.{places, goodCount};
+ghost use Rattle.nameset.specs.Set.{member, empty, with, union, both, minus, ofWord, wordOf};
+ghost use Rattle.nameset.specs.Promise.{Made, Emptiness, Smallest, Shrunk};
+
+// The number of places: names are numbered below it.
+pub const PLACES: usize = 64;
+
+// Whether there may be this many names.
+pub fn good_count(names: usize) -> bool
+    ensures { λ r. ⌜ r ≡ goodCount names ⌝ }
+{
+    if names < 1 {
+        return false;
+    }
+    names <= PLACES
+}
+
+// Name i is a member where bit i is 1. Only this crate looks at the bits.
+pub struct NameSet {
+    bits: u64,
+}
+
+impl NameSet {
+    pub fn empty() -> NameSet
+        ensures { λ r. ⌜ Made r empty (λ j. false) ⌝ }
+    {
+        NameSet { bits: 0 }
+    }
+
+    pub fn has(self, i: usize) -> bool
+        requires { ⌜ i < places ⌝ }
+        ensures { λ r. ⌜ r ≡ member self i ⌝ }
+    {
+        (self.bits >> i) % 2 == 1
+    }
+
+    pub fn with(self, i: usize) -> NameSet
+        requires { ⌜ i < places ⌝ }
+        ensures { λ r. ⌜ Made r (with self i) (λ j. member self j || eqb i j) ⌝ }
+    {
+        NameSet {
+            bits: self.bits | (1u64 << i),
+        }
+    }
+
+    pub fn union(self, other: NameSet) -> NameSet
+        ensures { λ r. ⌜ Made r (union self other) (λ j. member self j || member other j) ⌝ }
+    {
+        NameSet {
+            bits: self.bits | other.bits,
+        }
+    }
+
+    // The names in both sets.
+    pub fn both(self, other: NameSet) -> NameSet
+        ensures { λ r. ⌜ Made r (both self other) (λ j. member self j && member other j) ⌝ }
+    {
+        NameSet {
+            bits: self.bits & other.bits,
+        }
+    }
+
+    // The names of the first set that are not in the other.
+    pub fn minus(self, other: NameSet) -> NameSet
+        ensures { λ r. ⌜ Made r (minus self other) (λ j. member self j && not (member other j)) ⌝ }
+    {
+        NameSet {
+            bits: self.bits ^ (self.bits & other.bits),
+        }
+    }
+
+    pub fn is_empty(self) -> bool
+        ensures { λ r. ⌜ Emptiness self r ⌝ }
+    {
+        self.bits == 0
+    }
+
+    // The smallest member, or the number of places where there is none.
+    pub fn first(self) -> usize
+        ensures { λ r. ⌜ Smallest self r ⌝ }
+    {
+        u64::trailing_zeros(self.bits) as usize
+    }
+
+    // The set without its smallest member; the empty set stays empty.
+    pub fn rest(self) -> NameSet
+        ensures { λ r. ⌜ Shrunk self r ⌝ }
+    {
+        NameSet {
+            bits: self.bits & std::num::wrapping_sub_u64(self.bits, 1),
+        }
+    }
+
+    // A set and the word that keeps it in a row of numbers: rows that are lent to a call are numbers, since a lent row of structs
+    // takes a proof by hand.
+    pub fn of_word(word: u64) -> NameSet
+        ensures { λ r. ⌜ r ≡ ofWord word ⌝ }
+    {
+        NameSet { bits: word }
+    }
+
+    pub fn word(self) -> u64
+        ensures { λ r. ⌜ r ≡ wordOf self ⌝ }
+    {
+        let word = self.bits;
+        word
+    }
+}

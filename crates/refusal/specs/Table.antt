@@ -1,0 +1,35 @@
+-- Paper 01, "Where a call stops": the number of each refusal, and what a refused call answers.
+-- Assumes nothing.
+use Prim.Native.Nat.{ℕ}
+use mathlib.Core.Bool.{Bool, false}
+use Rattle.refusal.specs.declared.Refusal.{Refusal}
+use Rattle.refusal.specs.declared.Refusal.the-variants.{BookTooLong, BytesMissing, BadNameCount, BadName, NameNotAbove, NumberNotBelow, BytesLeftOver, BadParent, NoBlock, NotAChain, BadWord, BufferTooShort, NotADeclaration, UnknownName, NameTwice}
+
+-- The number in the table's second column.
+abbrev pub numberOf : Refusal → ℕ
+numberOf BookTooLong = 1
+numberOf BytesMissing = 2
+numberOf BadNameCount = 3
+numberOf BadName = 4
+numberOf NameNotAbove = 5
+numberOf NumberNotBelow = 6
+numberOf BytesLeftOver = 7
+numberOf BadParent = 8
+numberOf NoBlock = 9
+numberOf NotAChain = 10
+numberOf BadWord = 11
+numberOf BufferTooShort = 12
+numberOf NotADeclaration = 13
+numberOf UnknownName = 14
+numberOf NameTwice = 15
+
+-- What a refused call answers: its number, and "a yes or no due is no, a length or parent number due is 0".
+-- The model due, the empty model, is defined with the model record.
+pub record Stopped : Type 0 where
+  pub number : ℕ
+  pub yes : Bool
+  pub length : ℕ
+  pub parent : ℕ
+
+abbrev pub stoppedBy : Refusal → Stopped
+stoppedBy r = record { number = numberOf r; yes = false; length = 0; parent = 0 }

@@ -1,0 +1,77 @@
+// Why a call stopped, and how a call ended.
+ghost use mathlib.Core.Path.{_≡_};
+ghost use Rattle.refusal.specs.Table.{numberOf};
+ghost use Rattle.refusal.specs.Answer.{outcomeNumber};
+
+// One variant for each number of paper 01's table, in the table's order.
+pub enum Refusal {
+    // 1: the book has more than 60,000 bytes.
+    BookTooLong,
+    // 2: bytes are missing for a field.
+    BytesMissing,
+    // 3: the count of names is 0 or above the number of places.
+    BadNameCount,
+    // 4: a name's length or one of its bytes breaks the rule for names.
+    BadName,
+    // 5: a name is not above the one before it.
+    NameNotAbove,
+    // 6: a parent or child number in a block is not below the count of names.
+    NumberNotBelow,
+    // 7: bytes are left over after the last block.
+    BytesLeftOver,
+    // 8: the parent asked for is not below the count of names.
+    BadParent,
+    // 9: no block has the parent whose model is wanted from the sample.
+    NoBlock,
+    // 10: the model record is no chain over the names.
+    NotAChain,
+    // 11: the word has more than 255 names, or a number not below the count of names.
+    BadWord,
+    // 12: the output buffer is shorter than the declaration.
+    BufferTooShort,
+    // 13: the text does not have the form of a declaration.
+    NotADeclaration,
+    // 14: the declaration has a name that is not in the book.
+    UnknownName,
+    // 15: the model has a name twice.
+    NameTwice,
+}
+
+// How a call ended, where its answer's values stand beside it.
+pub enum Outcome {
+    Done,
+    Refused(Refusal),
+}
+
+// The refusal's number in paper 01's table.
+pub fn number(refusal: Refusal) -> u8
+    ensures { λ r. ⌜ r ≡ numberOf refusal ⌝ }
+{
+    match refusal {
+        Refusal::BookTooLong => 1,
+        Refusal::BytesMissing => 2,
+        Refusal::BadNameCount => 3,
+        Refusal::BadName => 4,
+        Refusal::NameNotAbove => 5,
+        Refusal::NumberNotBelow => 6,
+        Refusal::BytesLeftOver => 7,
+        Refusal::BadParent => 8,
+        Refusal::NoBlock => 9,
+        Refusal::NotAChain => 10,
+        Refusal::BadWord => 11,
+        Refusal::BufferTooShort => 12,
+        Refusal::NotADeclaration => 13,
+        Refusal::UnknownName => 14,
+        Refusal::NameTwice => 15,
+    }
+}
+
+// The number of the refusal, or 0 where the call was not refused.
+pub fn outcome_number(outcome: Outcome) -> u8
+    ensures { λ r. ⌜ r ≡ outcomeNumber outcome ⌝ }
+{
+    match outcome {
+        Outcome::Done => 0,
+        Outcome::Refused(refusal) => number(refusal),
+    }
+}
