@@ -1,0 +1,130 @@
+// Reads cases from standard input and prints a line for each. A case is a label, a book and a text, each behind its length in three
+// bytes, the low one first. The line has the label, the refusal's number (0 for none), N, M, the number of the name that is the text
+// (or -), and each block as its parent, a colon and the number of its children.
+use book::Found;
+use book::Layout;
+use refusal::Outcome;
+ghost use mathlib.Core.Path.{_≡_};
+ghost use Prim.Native.Nat.{_≤_, _<_};
+ghost use lib.ListN.{length};
+ghost use Rattle.book.specs.Access.{LaidOut};
+
+const OUT: i32 = 1;
+
+fn print_number(n: usize) {
+    io::print_decimal(OUT, n as u64);
+}
+
+fn print_found(found: Found) {
+    match found {
+        Found::At(i) => print_number(i),
+        Found::Nothing => {
+            io::write_all(OUT, b"-");
+        }
+    }
+}
+
+// Each block's parent and number of children.
+fn print_blocks(bytes: &[u8], layout: Layout)
+    requires { ⌜ LaidOut (now bytes) layout ⌝ }
+{
+    let mut at = layout.body;
+    let mut left = layout.blocks;
+    while 0 < left {
+        let block = book::block_at_place(bytes, at);
+        print_block(block.parent, block.from, block.to);
+        at = block.to;
+        left -= 1;
+    }
+}
+
+fn print_block(parent: usize, from: usize, to: usize) {
+    io::write_all(OUT, b" ");
+    print_number(parent);
+    io::write_all(OUT, b":");
+    if from <= to {
+        print_number(to - from);
+    }
+}
+
+fn print_case(label: &[u8], bytes: &[u8], text: &[u8]) {
+    let reading = book::read_book(bytes);
+    let outcome = reading.outcome;
+    let layout = reading.layout;
+    io::write_all(OUT, label);
+    io::write_all(OUT, b": ");
+    io::print_decimal(OUT, refusal::outcome_number(outcome) as u64);
+    io::write_all(OUT, b" ");
+    print_number(layout.names);
+    io::write_all(OUT, b" ");
+    print_number(layout.blocks);
+    if let Outcome::Done = outcome {
+        print_rest(bytes, layout, text);
+    }
+    io::write_all(OUT, b"\n");
+}
+
+fn print_rest(bytes: &[u8], layout: Layout, text: &[u8])
+    requires { ⌜ LaidOut (now bytes) layout ⌝ }
+{
+    io::write_all(OUT, b" ");
+    print_found(book::find_name(bytes, layout, text));
+    print_blocks(bytes, layout);
+}
+
+fn wide(byte: u8) -> usize
+    ensures { λ r. ⌜ r < 256 ⌝ }
+{
+    byte as usize
+}
+
+// Where the field that begins at a place ends, or the stream's length where it is cut short.
+fn field_end(stream: &[u8], at: usize) -> usize
+    ensures { λ r. ⌜ r ≤ length (now (stream .entry)) ⌝ }
+{
+    if stream.len() <= at {
+        return stream.len();
+    }
+    if stream.len() - at < 3 {
+        return stream.len();
+    }
+    let size = wide(stream[at]) + 256 * wide(stream[at + 1]) + 65536 * wide(stream[at + 2]);
+    if stream.len() - at - 3 < size {
+        return stream.len();
+    }
+    at + 3 + size
+}
+
+// The bytes of a field, behind its three bytes of length.
+fn field(stream: &[u8], at: usize, end: usize) -> &[u8]
+    requires { ⌜ end ≤ length (now stream) ⌝ }
+{
+    if end < 3 {
+        return &stream[end..end];
+    }
+    if end - 3 < at {
+        return &stream[end..end];
+    }
+    let from = at + 3;
+    &stream[from..end]
+}
+
+fn run(stream: &[u8]) {
+    let mut at = 0;
+    while at < stream.len() {
+        let label = field_end(stream, at);
+        let bytes = field_end(stream, label);
+        let text = field_end(stream, bytes);
+        print_case(field(stream, at, label), field(stream, label, bytes), field(stream, bytes, text));
+        if text <= at {
+            return;
+        }
+        at = text;
+    }
+}
+
+fn main() {
+    let mut buffer = [0u8; 262144];
+    let n = io::read_full(0, &mut buffer);
+    run(&buffer[..n]);
+}

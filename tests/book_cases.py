@@ -1,0 +1,142 @@
+#!/usr/bin/env python3
+"""The cases of the program book_test: books on both sides of each limit of paper 01, with what is due of each.
+
+Without an argument it writes crates/book_test/stdin and stdout; with --check it says whether they are as written here.
+"""
+import pathlib
+import sys
+
+FOLDER = pathlib.Path(__file__).resolve().parent.parent / "crates" / "book_test"
+
+
+def name(text, size=None):
+    """A length byte and a name's bytes; `size` puts another length byte in front."""
+    return bytes([len(text) if size is None else size]) + text
+
+
+def count(n):
+    return bytes([n % 256, n // 256])
+
+
+def block(parent, children):
+    return bytes([parent, len(children)]) + bytes(children)
+
+
+def book(names, blocks, n=None, m=None):
+    """A book of names and blocks; n and m put other counts in front of them."""
+    head = count(len(names) if n is None else n) + b"".join(names)
+    return head + count(len(blocks) if m is None else m) + b"".join(blocks)
+
+
+def two_letters(i):
+    return name(bytes([65 + i // 26, 97 + i % 26]))
+
+
+EXAMPLE_NAMES = [b"contribution", b"entry", b"leaver", b"member", b"reason", b"total"]
+EXAMPLE = book([name(x) for x in EXAMPLE_NAMES], [block(1, [3, 0, 5]), block(1, [3, 2, 4]), block(1, [3, 0, 4])])
+A = [name(b"a")]
+AB = [name(b"a"), name(b"b")]
+
+
+def long_book(size):
+    """One name, 233 blocks of 255 children, and one more block that fills the book."""
+    blocks = [block(0, [0] * 255)] * 233
+    rest = size - len(book(A, blocks)) - 2
+    return book(A, blocks + [block(0, [0] * rest)])
+
+
+def cases():
+    """Each case: a label, the book, a text to look up, and the line that is due behind the label."""
+    yield "example", EXAMPLE, b"leaver", "0 6 3 2 1:3 1:3 1:3"
+    for i, text in enumerate(EXAMPLE_NAMES):
+        yield f"name {i}", EXAMPLE, text, f"0 6 3 {i} 1:3 1:3 1:3"
+    for text in (b"", b"a", b"contributio", b"contributions", b"lever", b"membes", b"totals", b"zzz"):
+        yield f"no name '{text.decode()}'", EXAMPLE, text, "0 6 3 - 1:3 1:3 1:3"
+    for k in range(len(EXAMPLE)):
+        yield f"cut at {k}", EXAMPLE[:k], b"", "2 0 0"
+    yield "one byte left over", EXAMPLE + b"\0", b"", "7 0 0"
+    yield "left over after M = 0", book(A, []) + b"\0", b"", "7 0 0"
+
+    # 1
+    yield "60,000 bytes", long_book(60000), b"a", "0 1 234 0" + " 0:255" * 233 + " 0:111"
+    yield "60,001 bytes", long_book(60001), b"", "1 0 0"
+    yield "60,001 bytes of nothing", bytes(60001), b"", "1 0 0"
+
+    # 3, seen before anything behind it is missing
+    yield "N = 0", count(0), b"", "3 0 0"
+    yield "N = 1", book(A, []), b"a", "0 1 0 0"
+    yield "N = 64", book([two_letters(i) for i in range(64)], []), b"Cl", "0 64 0 63"
+    yield "N = 65", book([two_letters(i) for i in range(65)], []), b"", "3 0 0"
+    yield "N = 65, nothing behind", count(65), b"", "3 0 0"
+    yield "N = 256", count(256), b"", "3 0 0"
+    yield "N = 257", count(257), b"", "3 0 0"
+    yield "N = 65535", count(65535), b"", "3 0 0"
+
+    # 4: the length before its bytes are missing, the bytes after
+    yield "length 0", count(1) + name(b"", 0), b"", "4 0 0"
+    yield "length 1", book([name(b"_")], []), b"_", "0 1 0 0"
+    yield "length 32", book([name(b"a" * 32)], []), b"a" * 32, "0 1 0 0"
+    yield "length 33", book([name(b"a" * 33)], []), b"", "4 0 0"
+    yield "length 33, nothing behind", count(1) + name(b"", 33), b"", "4 0 0"
+    yield "length 255, nothing behind", count(1) + name(b"", 255), b"", "4 0 0"
+    yield "bad first byte, last byte missing", count(1) + name(b"9", 2), b"", "2 0 0"
+    for b in range(256):
+        first = chr(b) in "ABCDEFGHIJKLMNOPQRSTUVWXYZabcdefghijklmnopqrstuvwxyz_"
+        later = first or chr(b) in "0123456789-."
+        yield f"first byte {b}", book([name(bytes([b]))], []), b"", "0 1 0 -" if first else "4 0 0"
+        yield f"later byte {b}", book([name(bytes([97, b]))], []), b"", "0 1 0 -" if later else "4 0 0"
+
+    # 5, after 4
+    yield "equal names", book([name(b"ab"), name(b"ab")], []), b"", "5 0 0"
+    yield "falling names", book([name(b"b"), name(b"a")], []), b"", "5 0 0"
+    yield "prefix first", book([name(b"a"), name(b"ab")], []), b"ab", "0 2 0 1"
+    yield "prefix second", book([name(b"ab"), name(b"a")], []), b"", "5 0 0"
+    yield "case counts", book([name(b"B"), name(b"a")], []), b"a", "0 2 0 1"
+    yield "later byte decides", book([name(b"a-"), name(b"a.")], []), b"a.", "0 2 0 1"
+    yield "falling and bad", book([name(b"b"), name(b"a!")], []), b"", "4 0 0"
+    yield "third below the second", book([name(b"a"), name(b"c"), name(b"b")], []), b"", "5 0 0"
+
+    # 6
+    yield "M = 0", book(A, []), b"", "0 1 0 -"
+    yield "M = 65535", book(A, [], m=65535), b"", "2 0 0"
+    yield "M = 65535, bad parent", book(A, [block(1, [])], m=65535), b"", "6 0 0"
+    yield "no child", book(A, [block(0, [])]), b"", "0 1 1 - 0:0"
+    yield "255 children", book(A, [block(0, [0] * 255)]), b"", "0 1 1 - 0:255"
+    yield "parent N - 1", book(AB, [block(1, [])]), b"", "0 2 1 - 1:0"
+    yield "parent N", book(AB, [block(2, [])]), b"", "6 0 0"
+    yield "parent N, count missing", book(AB, [b"\2"]), b"", "6 0 0"
+    yield "child N - 1", book(AB, [block(0, [1])]), b"", "0 2 1 - 0:1"
+    yield "child N", book(AB, [block(0, [2])]), b"", "6 0 0"
+    yield "last child N", book(AB, [block(0, [0] * 254 + [2])]), b"", "6 0 0"
+    yield "bad child, last child missing", book(AB, [bytes([0, 2, 9])]), b"", "2 0 0"
+    yield "bad child in the second block", book(AB, [block(0, [1]), block(1, [9])]), b"", "6 0 0"
+    yield "bad child and bytes left over", book(AB, [block(0, [2])]) + b"\0", b"", "6 0 0"
+
+
+def size(text):
+    return len(text).to_bytes(3, "little")
+
+
+def written():
+    fed, due = b"", ""
+    for label, bytes_, text, line in cases():
+        for part in (label.encode(), bytes_, text):
+            fed += size(part) + part
+        due += f"{label}: {line}\n"
+    return {"stdin": fed, "stdout": due.encode()}
+
+
+def main():
+    files = written()
+    if sys.argv[1:] == ["--check"]:
+        stale = [f for f, want in files.items() if not (FOLDER / f).is_file() or (FOLDER / f).read_bytes() != want]
+        for f in stale:
+            print(f"crates/book_test/{f} is not what tests/book_cases.py writes")
+        sys.exit(1 if stale else 0)
+    for f, want in files.items():
+        (FOLDER / f).write_bytes(want)
+    print(f"{len(list(cases()))} cases, {len(files['stdin'])} bytes fed")
+
+
+if __name__ == "__main__":
+    main()
