@@ -5,3 +5,4 @@ pub mod Steps
 pub mod Sections
 pub mod Laws
 pub mod Find
+pub mod Example

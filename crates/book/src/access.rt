@@ -46,8 +46,8 @@ pub fn compare_name(bytes: &[u8], layout: Layout, i: usize, text: &[u8]) -> Orde
     ensures { λ r. ⌜ r ≡ orderOf (getD (namesIn (now (bytes .entry))) i []) (now (text .entry)) ⌝ }
 {
     let places = layout.places;
-    let at = places[i] as usize;
-    compare_at_place(bytes, at, text)
+    let place = places[i] as usize;
+    compare_at_place(bytes, place, text)
 }
 
 // The number of the name that is the text. Names rise, so the search halves what is left at each step.

@@ -47,17 +47,21 @@ fn print_block(parent: usize, from: usize, to: usize) {
     }
 }
 
+fn print_head(label: &[u8], refusal: u8, names: usize, blocks: usize) {
+    io::write_all(OUT, label);
+    io::write_all(OUT, b": ");
+    io::print_decimal(OUT, refusal as u64);
+    io::write_all(OUT, b" ");
+    print_number(names);
+    io::write_all(OUT, b" ");
+    print_number(blocks);
+}
+
 fn print_case(label: &[u8], bytes: &[u8], text: &[u8]) {
     let reading = book::read_book(bytes);
     let outcome = reading.outcome;
     let layout = reading.layout;
-    io::write_all(OUT, label);
-    io::write_all(OUT, b": ");
-    io::print_decimal(OUT, refusal::outcome_number(outcome) as u64);
-    io::write_all(OUT, b" ");
-    print_number(layout.names);
-    io::write_all(OUT, b" ");
-    print_number(layout.blocks);
+    print_head(label, refusal::outcome_number(outcome), layout.names, layout.blocks);
     if let Outcome::Done = outcome {
         print_rest(bytes, layout, text);
     }

@@ -7,65 +7,34 @@ use Rattle.book_test.proofs.print_case.Tie as tie
 use Rattle.book_test.proofs.print_case.Reads as reads
 use Rattle.book_test.proofs.print_case.Lts as lts
 use Rattle.book.proofs.read_book.Reads as read-book-reads
-use Rattle.book_test.proofs.print_number.Reads as print-number-reads
+use Rattle.book_test.proofs.print_head.Reads as print-head-reads
 use Rattle.book_test.proofs.print_rest.Reads as print-rest-reads
-use Rattle.io.proofs.print_decimal.Reads as print-decimal-reads
 use Rattle.io.proofs.write_all.Reads as write-all-reads
 use Rattle.refusal.proofs.outcome_number.Reads as outcome-number-reads
 
 read-book-requires : tie.Need-read-book-requires
 read-book-requires c κs = search needs
 
-write-all-requires : tie.Need-write-all-requires
-write-all-requires c κs = search needs
-
-slice-aggregate-write-all : tie.Need-slice-aggregate-write-all
-slice-aggregate-write-all c = search needs
-
-write-all-requires-2 : tie.Need-write-all-requires-2
-write-all-requires-2 c κs = search needs
-
 outcome-number-requires : tie.Need-outcome-number-requires
 outcome-number-requires c κs = search needs
 
-cast-print-decimal : tie.Need-cast-print-decimal
-cast-print-decimal c = search needs
-
-print-decimal-requires : tie.Need-print-decimal-requires
-print-decimal-requires c κs = search needs
-
-slice-aggregate-write-all-2 : tie.Need-slice-aggregate-write-all-2
-slice-aggregate-write-all-2 c = search needs
-
-write-all-requires-3 : tie.Need-write-all-requires-3
-write-all-requires-3 c κs = search needs
-
-print-number-requires : tie.Need-print-number-requires
-print-number-requires c κs = search needs
-
-slice-aggregate-write-all-3 : tie.Need-slice-aggregate-write-all-3
-slice-aggregate-write-all-3 c = search needs
-
-write-all-requires-4 : tie.Need-write-all-requires-4
-write-all-requires-4 c κs = search needs
-
-print-number-requires-2 : tie.Need-print-number-requires-2
-print-number-requires-2 c κs = search needs
+print-head-requires : tie.Need-print-head-requires
+print-head-requires c κs = search needs
 
 enum-told : tie.Need-enum-told
 enum-told c = search needs
 
 print-rest-requires : tie.Need-print-rest-requires
-print-rest-requires c κs = laid-out _ _ (c .before .before .before .before .before .before .before .before .before .before .before .before .before .before .read-book .ensures) (c .enum-told .given .1)
+print-rest-requires c κs = laid-out _ _ (c .before .before .before .before .before .read-book .ensures) (c .enum-told .given .1)
 
 enum-told-2 : tie.Need-enum-told-2
 enum-told-2 c = search needs
 
-slice-aggregate-write-all-4 : tie.Need-slice-aggregate-write-all-4
-slice-aggregate-write-all-4 c = search needs
+slice-aggregate-write-all : tie.Need-slice-aggregate-write-all
+slice-aggregate-write-all c = search needs
 
-write-all-requires-5 : tie.Need-write-all-requires-5
-write-all-requires-5 c κs = search needs
+write-all-requires : tie.Need-write-all-requires
+write-all-requires c κs = search needs
 
 returns : tie.Need-returns
 returns c = search needs
@@ -75,21 +44,11 @@ print-case-spec =
     tie.close
     (tie.spec
     read-book-requires
-    write-all-requires
-    slice-aggregate-write-all
-    write-all-requires-2
     outcome-number-requires
-    cast-print-decimal
-    print-decimal-requires
-    slice-aggregate-write-all-2
-    write-all-requires-3
-    print-number-requires
-    slice-aggregate-write-all-3
-    write-all-requires-4
-    print-number-requires-2
+    print-head-requires
     enum-told
     print-rest-requires
     enum-told-2
-    slice-aggregate-write-all-4
-    write-all-requires-5
+    slice-aggregate-write-all
+    write-all-requires
     returns)

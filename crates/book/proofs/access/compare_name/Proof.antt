@@ -13,14 +13,14 @@ use Rattle.book.proofs.access.compare_name.Reads as reads
 use Rattle.book.proofs.access.compare_name.Lts as lts
 use Rattle.book.proofs.access.compare_at_place.Reads as compare-at-place-reads
 
-mul-at : tie.Need-mul-at
-mul-at c = let p = c .before .before .before .pre in omega (arith, few-names _ _ (p .0), p .1)
+mul-place : tie.Need-mul-place
+mul-place c = let p = c .before .before .before .pre in omega (arith, few-names _ _ (p .0), p .1)
 
-array-read-at : tie.Need-array-read-at
-array-read-at c = let p = c .before .before .before .pre in omega (arith, few-names _ _ (p .0), p .1)
+array-read-place : tie.Need-array-read-place
+array-read-place c = let p = c .before .before .before .pre in omega (arith, few-names _ _ (p .0), p .1)
 
-cast-at : tie.Need-cast-at
-cast-at c = search needs
+cast-place : tie.Need-cast-place
+cast-place c = search needs
 
 compare-at-place-requires : tie.Need-compare-at-place-requires
 compare-at-place-requires c κs = let p = c .before .before .before .pre in let t = name-laid _ _ (p .0) _ (p .1) in (t .size, t .whole)
@@ -32,4 +32,4 @@ returns c =
 
 pub compare-name-spec : {M : Type 1} → statement M
 compare-name-spec =
-    tie.close (tie.spec mul-at array-read-at cast-at compare-at-place-requires returns)
+    tie.close (tie.spec mul-place array-read-place cast-place compare-at-place-requires returns)
