@@ -1,13 +1,13 @@
 -- Paper 01, "The book" and rows 1 to 7 of "Where a call stops": what a list of bytes is as a book.
--- The rows are checked in the order in which the definitions below name them.
+-- Read from `bookOf`, at the end, inwards: the checks of a definition apply from top to bottom, and the first that applies is the answer.
 -- Assumes nothing.
 use Prim.Native.Nat.{ℕ, zero, suc}
-use mathlib.Core.Bool.{Bool, true, false, _&&_, not}
+use mathlib.Core.Bool.{Bool, true, _&&_, not}
 use mathlib.Core.List.{List, [], _∷_}
 use lib.Dec.{ltb}
 use lib.ListN.{length}
 use Rattle.refusal.specs.declared.Refusal.the-variants.{BookTooLong, BadNameCount, BadName, NameNotAbove, NumberNotBelow, BytesLeftOver}
-use Rattle.refusal.specs.Answer.{Answer, given, refused, onward, refuseIf, valueOr}
+use Rattle.refusal.specs.Answer.{Answer, given, onward, refuseIf, valueOr}
 use Rattle.nameset.specs.Places.{goodCount}
 use Rattle.name.specs.Rule.{goodLength, goodBytes}
 use Rattle.name.specs.Order.{rises}

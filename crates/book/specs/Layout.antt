@@ -1,6 +1,6 @@
 -- Where the parts of a book stand among its bytes, so that a name or a block is found again without reading from the start.
 -- Assumes nothing.
-use Prim.Native.Nat.{ℕ, zero, suc, _+_}
+use Prim.Native.Nat.{ℕ, _+_}
 use mathlib.Core.List.{List, [], _∷_}
 use lib.ListN.{length, replicate}
 use lib.Seq.{sets}
@@ -10,7 +10,7 @@ use Rattle.refusal.specs.Answer.{Answer, given, refused}
 use Rattle.nameset.specs.Places.{places}
 use Rattle.book.specs.declared.Layout.{Layout}
 use Rattle.book.specs.declared.Reading.{Reading}
-use Rattle.book.specs.Book.{Book, bookOf}
+use Rattle.book.specs.Book.{Book}
 
 -- The place of each name's length byte, where the names stand one after the other from `at` on.
 unfoldable pub placesFrom : ℕ → List (List ℕ) → List ℕ

@@ -76,7 +76,7 @@ pub fn find_name(bytes: &[u8], layout: Layout, text: &[u8]) -> Found
     Found::Nothing
 }
 
-// The block at a place of a book that was read.
+// The block at a place. That a block of the book stands there is the caller's to know (`next-block` of the laws).
 pub fn block_at_place(bytes: &[u8], at: usize) -> BlockPlace
     requires { ⌜ BlockFits (now bytes) at ⌝ }
     ensures { λ r. ⌜ r ≡ blockPlace (now (bytes .entry)) at ⌝ }

@@ -42,7 +42,8 @@ fn largest(word: &[u8]) -> u8
     top
 }
 
-fn all_below(word: &[u8], n: usize) -> bool
+// Whether each number of a word is below n.
+pub fn all_below(word: &[u8], n: usize) -> bool
     requires { ⌜ 0 < n ⌝ }
     ensures { λ r. ⌜ r ≡ allBelow n (now (word .entry)) ⌝ }
 {

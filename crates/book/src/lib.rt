@@ -16,6 +16,7 @@ pub use access::block_at_place;
 pub use access::compare_name;
 pub use access::find_name;
 pub use access::name_bytes;
+pub use blocks::all_below;
 pub use field::part;
 
 // The most bytes that a book has.
@@ -66,7 +67,7 @@ fn refused(refusal: Refusal) -> Reading
     }
 }
 
-// Reads a book of any bytes whatever, in one pass.
+// Reads a book of any bytes whatever, from its first byte to its last.
 pub fn read_book(bytes: &[u8]) -> Reading
     ensures { λ r. ⌜ r ≡ readingOf (bookOf (now (bytes .entry))) ⌝ }
 {

@@ -7,11 +7,11 @@ ghost use Rattle.name.specs.Order.{orderOf, rises};
 // The most bytes that a name has.
 const LONGEST: usize = 32;
 
-// The class of a byte that no name has, of one that may stand later only, and of one that may start a name.
+// The classes that the code asks for: of a byte that no name has, and of one that may start a name.
 const NEITHER: u8 = 0;
 const START: u8 = 2;
 
-// The class of each byte value; 1 is later only.
+// The class of each byte value: 0 neither, 1 later only, 2 start.
 const CLASSES: [u8; 256] = [
     0, 0, 0, 0, 0, 0, 0, 0, 0, 0, 0, 0, 0, 0, 0, 0,
     0, 0, 0, 0, 0, 0, 0, 0, 0, 0, 0, 0, 0, 0, 0, 0,

@@ -1,0 +1,51 @@
+-- The answer of each way through the checks.
+-- Assumes nothing.
+use Prim.Native.Nat.{ℕ}
+use mathlib.Core.Path.{_≡_, refl}
+use mathlib.Core.Bool.{Bool, true, false, not}
+use mathlib.Core.List.{List}
+use Rattle.refusal.specs.declared.Refusal.the-variants.{BadNameCount, NotAChain, BadWord}
+use Rattle.refusal.specs.Answer.{Answer, given, refused, outcomeOf, outcomeNumber, valueOr}
+use Rattle.nameset.specs.Places.{places, goodCount}
+use Rattle.model.specs.declared.Model.{Model}
+use Rattle.model.specs.Check.{isChain}
+use Rattle.model.specs.Run.{accepts}
+use Rattle.intake.specs.declared.Acceptance.the-variants.{Refused}
+use Rattle.intake.specs.Acceptance.{badModel, badWord, answerOf, acceptance, acceptanceNumber, acceptanceYes, AcceptsWord}
+
+-- ---- each way through the checks
+
+number-law : (a : Answer Bool) → acceptanceNumber (acceptance a) ≡ outcomeNumber (outcomeOf a)
+unfolding acceptance acceptanceNumber
+number-law (given true) = refl
+number-law (given false) = refl
+number-law (refused r) = refl
+
+yes-law : (a : Answer Bool) → acceptanceYes (acceptance a) ≡ valueOr false a
+unfolding acceptance acceptanceYes
+yes-law (given true) = refl
+yes-law (given false) = refl
+yes-law (refused r) = refl
+
+module _ (n : ℕ) (m : Model) (w : List ℕ) where
+  promised : (a : Answer Bool) → answerOf n m w ≡ a → AcceptsWord n m w (acceptance a)
+  promised a e = rw (← e) record { same = refl; number = number-law (answerOf n m w); yes = yes-law (answerOf n m w) }
+
+  module _ {count : Bool} (e : count ≡ goodCount n) where
+    pub stops-count : not count ≡ true → AcceptsWord n m w (Refused BadNameCount)
+    unfolding acceptance answerOf
+    stops-count c = promised (refused BadNameCount) (rw (← e, c))
+
+    module _ (c : not count ≡ false) {chain : Bool} (f : chain ≡ isChain places n m) where
+      pub stops-model : not chain ≡ true → AcceptsWord n m w (Refused NotAChain)
+      unfolding acceptance answerOf badModel
+      stops-model k = promised (refused NotAChain) (rw (← e, c, ← f, k))
+
+      module _ (k : not chain ≡ false) {word : Bool} (g : word ≡ badWord n w) where
+        pub stops-word : word ≡ true → AcceptsWord n m w (Refused BadWord)
+        unfolding acceptance answerOf badModel
+        stops-word h = promised (refused BadWord) (rw (← e, c, ← f, k, ← g, h))
+
+        pub answers : word ≡ false → {yes b : Bool} → yes ≡ accepts m w → yes ≡ b → AcceptsWord n m w (acceptance (given b))
+        unfolding answerOf badModel
+        answers h {b = b} a q = promised (given b) (rw (← e, c, ← f, k, ← g, h, ← a, q))

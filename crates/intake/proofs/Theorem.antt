@@ -1,0 +1,85 @@
+-- What callers may rely on, in the words of paper 01. The statements to read first.
+-- Assumes nothing.
+use Prim.Native.Nat.{ℕ, _≤_, _<_}
+use mathlib.Core.Path.{_≡_, refl, sym, _∙_}
+use mathlib.Core.Bool.{Bool, true, false, not, _||_, false≢true}
+use mathlib.Core.List.{List}
+use mathlib.Core.Logic.{_↔_}
+use borrow.Author.Tests.{ltb-false, le-ltb, not-false}
+use lib.Dec.{ltb}
+use lib.ListN.{length}
+use Rattle.refusal.specs.declared.Refusal.the-variants.{BadNameCount, NotAChain, BadWord}
+use Rattle.refusal.specs.Answer.{given, refuseIf}
+use Rattle.nameset.specs.Places.{places, goodCount}
+use Rattle.nameset.proofs.Count.{count-bounds, bounds-count}
+use Rattle.book.specs.Book.{allBelow}
+use Rattle.model.specs.declared.Model.{Model}
+use Rattle.model.specs.Record.{IsChain}
+use Rattle.model.specs.Check.{isChain}
+use Rattle.model.specs.Accept.{Accepts, Names}
+use Rattle.model.specs.Run.{accepts}
+use Rattle.model.proofs.Tests.{never}
+use Rattle.model.proofs.Chain.{chain-law}
+use Rattle.model.proofs.Acceptance.{accepts-law}
+use Rattle.intake.specs.declared.Acceptance.{Acceptance}
+use Rattle.intake.specs.declared.Acceptance.the-variants.{Yes}
+use Rattle.intake.specs.Acceptance.{badModel, longest, badWord, answerOf, acceptance, AcceptsWord}
+use Rattle.intake.proofs.Words.{names-law}
+
+-- Nothing stops the call for acceptance of a word.
+pub record Passes (n : ℕ) (m : Model) (w : List ℕ) : Type 0 where
+  pub some : 0 < n
+  pub few : n ≤ places
+  pub chain : IsChain places n m
+  pub short : length w ≤ longest
+  pub names : Names n w
+
+-- ---- helpers
+
+neither : (a b : Bool) → (a || b) ≡ false → (a ≡ false) × (b ≡ false)
+neither true b e = absurd (false≢true (sym e))
+neither false b e = (refl, e)
+
+good-word : (n : ℕ) (w : List ℕ) → badWord n w ≡ false → (length w ≤ longest) × Names n w
+unfolding badWord
+good-word n w e =
+    let p = neither (ltb longest (length w)) (not (allBelow n w)) e in
+    (ltb-false longest (length w) (p .0), names-law n w .0 (not-false (allBelow n w) (p .1)))
+
+-- A yes says that no check stopped the call.
+clear : (a b c d : Bool) → acceptance (refuseIf a BadNameCount (refuseIf b NotAChain (refuseIf c BadWord (given d)))) ≡ Yes
+    → (a ≡ false) × (b ≡ false) × (c ≡ false) × (d ≡ true)
+unfolding acceptance
+clear true b c d e = absurd (never (cc))
+clear false true c d e = absurd (never (cc))
+clear false false true d e = absurd (never (cc))
+clear false false false true e = (refl, refl, refl, refl)
+clear false false false false e = absurd (never (cc))
+
+-- ---- demand 2, acceptance
+
+-- The call answers yes exactly when nothing stops it and the word is a joining of one part for each factor of the model in order.
+pub yes-exactly : (n : ℕ) (m : Model) (w : List ℕ) (r : Acceptance) → AcceptsWord n m w r → (r ≡ Yes) ↔ (Passes n m w × Accepts m w)
+unfolding acceptance answerOf badModel badWord
+yes-exactly n m w r h = (λ e. to (clear (not (goodCount n)) (badModel n m) (badWord n w) (accepts m w) (sym (h .same) ∙ e)), λ p. h .same ∙ from (p .0) (p .1))
+  where
+    to : (not (goodCount n) ≡ false) × (badModel n m ≡ false) × (badWord n w ≡ false) × (accepts m w ≡ true) → Passes n m w × Accepts m w
+    to (a, b, c, d) = (
+      record {
+        some = count-bounds n (not-false (goodCount n) a) .0;
+        few = count-bounds n (not-false (goodCount n) a) .1;
+        chain = chain-law places n m .0 (not-false (isChain places n m) b);
+        short = good-word n w c .0;
+        names = good-word n w c .1;
+      },
+      accepts-law m w .0 d,
+    )
+
+    from : Passes n m w → Accepts m w → acceptance (answerOf n m w) ≡ Yes
+    from p a = rw (
+      bounds-count n (p .some) (p .few),
+      chain-law places n m .1 (p .chain),
+      le-ltb longest (length w) (p .short),
+      names-law n w .1 (p .names),
+      accepts-law m w .1 a,
+    )

@@ -1,0 +1,33 @@
+-- What a word and a list of words show: paper 01's follow facts, as steps between points.
+-- Assumes nothing.
+use Prim.Native.Nat.{ℕ}
+use mathlib.Core.Path.{_≡_}
+use mathlib.Core.List.{List, [], _∷_}
+use mathlib.Core.Logic.{_⊎_}
+use Rattle.model.specs.declared.Model.{Model}
+use Rattle.model.specs.Accept.{Accepts}
+
+-- The start of a word, a name, the end of a word.
+pub data Point : Type 0 where
+  start : Point
+  name : ℕ → Point
+  end : Point
+
+-- v comes next after u on the way from p over the names of w to the end.
+abbrev pub Beside : Point → List ℕ → Point → Point → Type 0
+Beside p [] u v = (p ≡ u) × (end ≡ v)
+Beside p (x ∷ w) u v = ((p ≡ u) × (name x ≡ v)) ⊎ Beside (name x) w u v
+
+-- The word w shows the step from u to v.
+abbrev pub Shows : List ℕ → Point → Point → Type 0
+Shows w u v = Beside start w u v
+
+-- The step from u to v is a fact of the words: one of them shows it.
+abbrev pub Fact : List (List ℕ) → Point → Point → Type 0
+Fact [] u v = ⊥
+Fact (w ∷ ws) u v = Shows w u v ⊎ Fact ws u v
+
+-- m accepts every one of the words.
+abbrev pub AcceptsAll : Model → List (List ℕ) → Type 0
+AcceptsAll m [] = Unit {0}
+AcceptsAll m (w ∷ ws) = Accepts m w × AcceptsAll m ws

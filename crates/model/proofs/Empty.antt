@@ -1,0 +1,36 @@
+-- The empty model is a chain over any names, and a record with no factor accepts only the empty word.
+-- Assumes nothing.
+use Prim.Native.Nat.{ℕ, zero, suc}
+use mathlib.Core.Path.{_≡_, refl, sym}
+use mathlib.Core.List.{List, []}
+use mathlib.Core.Logic.{_↔_, inl}
+use native.Mathlib.Omega.{arith}
+use lib.ListN.{getD, replicate, length-replicate}
+use Rattle.model.specs.declared.Model.{Model}
+use Rattle.model.specs.Record.{none, factorOf, modeOf, IsChain, emptyModel}
+use Rattle.model.specs.Accept.{Joined, none as no-factor, part, Accepts}
+
+same : (n i a : ℕ) → getD (replicate n a) i a ≡ a
+same zero i a = refl
+same (suc n) zero a = refl
+same (suc n) (suc i) a = same n i a
+
+pub empty-chain : (size n : ℕ) → IsChain size n (emptyModel size)
+unfolding emptyModel factorOf modeOf
+empty-chain size n = record {
+  factors = length-replicate size none;
+  modes = length-replicate size 0;
+  few = omega arith;
+  placed = λ x l. inl (same size x none);
+  others = λ x l. same size x none;
+  named = λ i l. absurd (omega arith);
+  known = λ i l. absurd (omega arith);
+  rest = λ i l. same size i 0;
+}
+
+pub empty-words : (m : Model) (w : List ℕ) → m .count ≡ 0 → Accepts m w ↔ (w ≡ [])
+empty-words m w e = (go, λ f. no-factor (sym e) f)
+  where
+    go : Joined m 0 w → w ≡ []
+    go (no-factor p f) = f
+    go (part u v l p k j) = absurd (omega arith)

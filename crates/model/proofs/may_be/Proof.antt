@@ -1,0 +1,16 @@
+-- `model::may_be` meets its contract.
+-- Assumes nothing.
+use Rattle.model.specs.Check.{mayBe}
+use Rattle.model.proofs.may_be.Statement.{statement}
+use Rattle.model.proofs.may_be.Tie as tie
+
+returns : tie.Need-returns
+unfolding mayBe
+returns c = simp (c .if1 .taken)
+
+returns-2 : tie.Need-returns-2
+unfolding mayBe
+returns-2 c = simp (c .if1 .left)
+
+pub may-be-spec : {M : Type 1} → statement M
+may-be-spec = tie.close (tie.spec returns returns-2)

@@ -1,0 +1,47 @@
+-- The check of a model record, computed: it says exactly when the record is a chain over n names (proofs/Chain.antt). `size` is the number of places.
+-- Assumes nothing.
+use Prim.Native.Nat.{ℕ, zero, suc}
+use mathlib.Core.Bool.{Bool, true, false, _&&_, _||_}
+use mathlib.Core.List.{List}
+use lib.Dec.{eqb, ltb, leb}
+use lib.ListN.{length, getD}
+use Rattle.model.specs.declared.Model.{Model}
+use Rattle.model.specs.Record.{none}
+
+-- Every number below n passes the test.
+unfoldable pub allBelow : ℕ → (ℕ → Bool) → Bool
+allBelow zero test = true
+allBelow (suc n) test = allBelow n test && test n
+
+-- Some number below n passes the test.
+unfoldable pub anyBelow : ℕ → (ℕ → Bool) → Bool
+anyBelow zero test = false
+anyBelow (suc n) test = anyBelow n test || test n
+
+-- Whether v may be the entry of a number: true for a number below N, false for the others.
+unfoldable pub mayHold : ℕ → Bool → ℕ → Bool
+mayHold count true v = eqb v none || ltb v count
+mayHold count false v = eqb v none
+
+-- Whether f may be a mode: true for a factor below F, false for the rest.
+unfoldable pub mayBe : Bool → ℕ → Bool
+mayBe true f = leb f 3
+mayBe false f = eqb f 0
+
+-- "each number below N has 255 or a value below F, all others have 255"
+unfoldable pub allPlaced : ℕ → ℕ → ℕ → List ℕ → Bool
+allPlaced size n count factors = allBelow size (λ x. mayHold count (ltb x n) (getD factors x none))
+
+-- "each factor has a name"
+unfoldable pub allNamed : ℕ → ℕ → List ℕ → Bool
+allNamed n count factors = allBelow count (λ i. anyBelow n (λ x. eqb (getD factors x none) i))
+
+-- "modes below F are 0 to 3, the rest are 0"
+unfoldable pub allKnown : ℕ → ℕ → List ℕ → Bool
+allKnown size count modes = allBelow size (λ i. mayBe (ltb i count) (getD modes i 0))
+
+-- Whether m is a chain over n names.
+unfoldable pub isChain : ℕ → ℕ → Model → Bool
+isChain size n m =
+    eqb (length (m .factor)) size && (eqb (length (m .mode)) size && (leb (m .count) size
+    && (allPlaced size n (m .count) (m .factor) && (allNamed n (m .count) (m .factor) && allKnown size (m .count) (m .mode)))))

@@ -1,0 +1,4 @@
+pub mod Record
+pub mod Check
+pub mod Accept
+pub mod Run

@@ -1,0 +1,41 @@
+-- The model record of paper 01, and when it is a chain over n names. The record has `size` places for names and as many for modes: 64 in paper 01.
+-- Assumes nothing.
+use Prim.Native.Nat.{ℕ, _≤_, _<_}
+use mathlib.Core.Path.{_≡_}
+use mathlib.Core.Logic.{_⊎_}
+use lib.ListN.{length, getD, replicate}
+use Rattle.model.specs.declared.Model.{Model}
+
+-- The entry of a name that no factor holds.
+abbrev pub none : ℕ
+none = 255
+
+-- The factor that holds the name x.
+unfoldable pub factorOf : Model → ℕ → ℕ
+factorOf m x = getD (m .factor) x none
+
+-- The mode of factor i: 0 plain, 1 `?`, 2 `+`, 3 `*`.
+unfoldable pub modeOf : Model → ℕ → ℕ
+modeOf m i = getD (m .mode) i 0
+
+-- "It is a chain over N names if:"
+pub record IsChain (size n : ℕ) (m : Model) : Type 0 where
+  -- a record with `size` places and `size` modes
+  pub factors : length (m .factor) ≡ size
+  pub modes : length (m .mode) ≡ size
+  -- "F is at most 64;"
+  pub few : m .count ≤ size
+  -- "each number below N has 255 or a value below F,"
+  pub placed : (x : ℕ) → x < n → (factorOf m x ≡ none) ⊎ (factorOf m x < m .count)
+  -- "all others have 255;"
+  pub others : (x : ℕ) → n ≤ x → factorOf m x ≡ none
+  -- "each factor has a name;"
+  pub named : (i : ℕ) → i < m .count → (x : ℕ) × (x < n) × (factorOf m x ≡ i)
+  -- "modes below F are 0 to 3,"
+  pub known : (i : ℕ) → i < m .count → modeOf m i ≤ 3
+  -- "the rest are 0."
+  pub rest : (i : ℕ) → m .count ≤ i → modeOf m i ≡ 0
+
+-- The model of a parent whose words are all empty, and the one due of a refused call: "F = 0, all 255, all modes 0".
+unfoldable pub emptyModel : ℕ → Model
+emptyModel size = record { count = 0; factor = replicate size none; mode = replicate size 0 }
