@@ -1,0 +1,92 @@
+-- `add_pairs` meets its contract: what is left of the word decides what the rows hold in the end.
+-- Assumes nothing.
+use Prim.Native.Nat.{_-_, _<_}
+use mathlib.Core.Path.{_≡_, sym, _∙_}
+use native.Mathlib.Omega.{arith}
+use lib.ListN.{length, length-set}
+use borrow.Author.Needs.{needs}
+use Rattle.nameset.specs.Places.{places}
+use Rattle.follow.specs.Adding.{withPairs}
+use Rattle.follow.proofs.Words.{pairsLeft, pairs-begin, pairs-next, pairs-done}
+use Rattle.follow.proofs.add_pairs.Statement.{statement}
+use Rattle.follow.proofs.add_pairs.Tie as tie
+
+abbrev Inv-loop : tie.InvT-loop
+Inv-loop rows₀ word a₀ i₀ rows a i = (a < places) × (length rows ≡ places) × (withPairs rows₀ word ≡ pairsLeft rows a word i)
+
+abbrev μ-loop : tie.MeasureT-loop
+μ-loop rows₀ word a₀ i₀ rows a i = length word - i
+
+first-name-requires : tie.Need-first-name-requires Inv-loop μ-loop
+first-name-requires c κs = c .before .before .pre .1
+
+loop-holds : tie.Need-loop-holds Inv-loop μ-loop
+loop-holds c =
+    (c .first-name .ensures .1, c .before .before .before .pre .0, pairs-begin _ _ _ (c .first-name .ensures .0))
+
+name-at-requires : tie.Need-name-at-requires Inv-loop μ-loop
+name-at-requires c κs = (c .before .before .before .before .before .pre .1, c .loop-test .taken)
+
+mul-of-word : tie.Need-mul-of-word Inv-loop μ-loop
+mul-of-word c = omega arith
+
+slice-read-of-word : tie.Need-slice-read-of-word Inv-loop μ-loop
+slice-read-of-word c = omega arith
+
+of-word-requires : tie.Need-of-word-requires Inv-loop μ-loop
+of-word-requires c κs = search needs
+
+with-requires : tie.Need-with-requires Inv-loop μ-loop
+with-requires c κs = search needs
+
+word-requires : tie.Need-word-requires Inv-loop μ-loop
+word-requires c κs = search needs
+
+mul-rows : tie.Need-mul-rows Inv-loop μ-loop
+mul-rows c = omega arith
+
+slice-write-rows : tie.Need-slice-write-rows Inv-loop μ-loop
+slice-write-rows c = omega arith
+
+add-i : tie.Need-add-i Inv-loop μ-loop
+add-i c = omega arith
+
+loop-less : tie.Need-loop-less Inv-loop μ-loop
+loop-less c = omega arith
+
+loop-again : tie.Need-loop-again Inv-loop μ-loop
+loop-again c =
+    let name = c .before .before .before .before in
+    let inv = name .before .before .loop .inv in (
+      name .name-at .ensures .1,
+      simp length-set (inv .1),
+      inv .2 ∙ pairs-next _ _ _ _ _ _ _ _ (name .before .loop-test .taken) (name .name-at .ensures .0) (c .before .before .of-word .ensures) (c .before .with .ensures .same) (c .word .ensures),
+    )
+
+same-length : tie.Need-same-length Inv-loop μ-loop
+same-length c = search needs
+
+returns : tie.Need-returns Inv-loop μ-loop
+returns c = let inv = c .before .loop .inv in (sym (inv .2 ∙ pairs-done _ _ _ _ (c .loop-test .left)), inv .1)
+
+pub add-pairs-spec : {M : Type 1} → statement M
+add-pairs-spec =
+    tie.close
+    (tie.spec
+    Inv-loop
+    μ-loop
+    first-name-requires
+    loop-holds
+    name-at-requires
+    mul-of-word
+    slice-read-of-word
+    of-word-requires
+    with-requires
+    word-requires
+    mul-rows
+    slice-write-rows
+    add-i
+    loop-less
+    loop-again
+    same-length
+    returns)

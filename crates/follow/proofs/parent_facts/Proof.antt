@@ -1,0 +1,128 @@
+-- `parent_facts` meets its contract: the blocks still to come decide what is added to the facts so far.
+-- Assumes nothing.
+use Prim.Native.Nat.{ℕ, _≤_}
+use mathlib.Core.Path.{_≡_, _∙_, ap}
+use mathlib.Core.Bool.{true}
+use mathlib.Core.List.{List}
+use mathlib.Core.Logic.{⊎-elim}
+use native.Mathlib.Omega.{arith}
+use lib.ListN.{length, length-replicate}
+use borrow.Author.Needs.{needs}
+use Rattle.nameset.specs.Places.{places}
+use Rattle.book.specs.Book.{allBelow}
+use Rattle.follow.specs.Adding.{noRows}
+use Rattle.follow.proofs.Walk.{Walk, Turn, word-added, none-added, walk-begin, walk-turn, walk-done, to-is, part-fits, word-below, own-turn, other-turn}
+use Rattle.follow.proofs.parent_facts.Statement.{statement}
+use Rattle.follow.proofs.parent_facts.Tie as tie
+
+abbrev Inv-loop : tie.InvT-loop
+Inv-loop bytes parent starts₀ ends₀ rows₀ empty₀ blocks₀ at₀ left₀ starts ends rows empty blocks at left =
+    Walk bytes parent (record { starts = starts; ends = ends; follows = rows; empty = empty }) blocks at left × (length rows ≡ places) × (blocks ≤ at)
+
+abbrev μ-loop : tie.MeasureT-loop
+μ-loop bytes parent starts₀ ends₀ rows₀ empty₀ blocks₀ at₀ left₀ starts ends rows empty blocks at left =
+    left
+
+-- the block at which the walk stands
+turned : (c : tie.In-loop Inv-loop μ-loop) →
+    Turn (c .before .before .before .before .before .args .bytes .now) (c .before .before .before .before .before .args .parent)
+    (record { starts = c .before .loop .starts; ends = c .before .loop .ends; follows = c .before .loop .rows; empty = c .before .loop .empty })
+    (c .before .loop .blocks) (c .before .loop .at) (c .before .loop .left)
+turned c = walk-turn _ _ _ _ _ _ (c .before .loop .inv .0) (c .loop-test .taken)
+
+below : (c : tie.After-part Inv-loop μ-loop) → allBelow places (c .part .result .now) ≡ true
+below c =
+    let b = c .before .before .before in
+    word-below _ _ _ _ _ _ (turned (b .before)) _ (b .block-at-place .ensures) _ (c .part .ensures)
+
+empty-requires : tie.Need-empty-requires Inv-loop μ-loop
+empty-requires c κs = search needs
+
+empty-requires-2 : tie.Need-empty-requires-2 Inv-loop μ-loop
+empty-requires-2 c κs = search needs
+
+loop-holds : tie.Need-loop-holds Inv-loop μ-loop
+unfolding noRows
+loop-holds c =
+    (walk-begin _ _ _ _ _ (c .before .before .before .pre) (c .before .empty .ensures .same) (c .empty2 .ensures .same), length-replicate {A = ℕ} places 0, omega arith)
+
+block-at-place-requires : tie.Need-block-at-place-requires Inv-loop μ-loop
+block-at-place-requires c κs = turned c .fits
+
+part-requires : tie.Need-part-requires Inv-loop μ-loop
+part-requires c κs =
+    let b = c .before .before in
+    part-fits _ _ _ _ _ _ (turned (b .before)) _ (b .block-at-place .ensures)
+
+with-first-requires : tie.Need-with-first-requires Inv-loop μ-loop
+with-first-requires c κs = below c
+
+with-last-requires : tie.Need-with-last-requires Inv-loop μ-loop
+with-last-requires c κs = below (c .before)
+
+slice-aggregate-add-pairs : tie.Need-slice-aggregate-add-pairs Inv-loop μ-loop
+slice-aggregate-add-pairs c = search needs
+
+add-pairs-requires : tie.Need-add-pairs-requires Inv-loop μ-loop
+add-pairs-requires c κs =
+    let p = c .before .before .before in
+    (p .before .before .before .before .before .loop .inv .1, below p)
+
+or-empty-requires : tie.Need-or-empty-requires Inv-loop μ-loop
+or-empty-requires c κs = search needs
+
+add-blocks : tie.Need-add-blocks Inv-loop μ-loop
+add-blocks c =
+    let t = c .before .before .before .before .before .before .before .before .before .before in
+    omega (arith, turned t .fits .head, t .before .loop .inv .2, t .before .before .before .before .before .good)
+
+sub-left : tie.Need-sub-left Inv-loop μ-loop
+sub-left c = omega arith
+
+loop-less : tie.Need-loop-less Inv-loop μ-loop
+loop-less c = omega arith
+
+loop-again : tie.Need-loop-again Inv-loop μ-loop
+loop-again c =
+    let b = c .before .before in
+    let t = turned (b .before) in
+    let found = b .block-at-place .ensures in
+    let inv = b .before .before .loop .inv in
+    ⊎-elim
+    (λ w. (
+      own-turn _ _ _ _ _ _ t _ found _ _ _ (w .0 .taken) (w .1 .ensures)
+          (word-added _ _ _ _ _ _ (w .8 ∙ w .2 .ensures) (w .9 ∙ w .3 .ensures) (w .10 ∙ w .5 .ensures .0) (w .11 ∙ w .7 .ensures)) (w .12),
+      ap (λ (l : List ℕ). length l) (w .10) ∙ w .5 .ensures .1,
+      omega (arith, w .12, inv .2, to-is _ _ _ _ _ _ t _ found),
+    ))
+    (λ w. (
+      other-turn _ _ _ _ _ _ t _ found _ _ (w .0 .left) (none-added _ _ _ _ _ (w .1) (w .2) (w .3) (w .4)) (w .5),
+      ap (λ (l : List ℕ). length l) (w .3) ∙ inv .1,
+      omega (arith, w .5, inv .2, to-is _ _ _ _ _ _ t _ found),
+    ))
+    (c .if1 .came)
+
+returns : tie.Need-returns Inv-loop μ-loop
+returns c = walk-done _ _ _ _ _ _ (c .before .loop .inv .0) (c .loop-test .left)
+
+pub parent-facts-spec : {M : Type 1} → statement M
+parent-facts-spec =
+    tie.close
+    (tie.spec
+    Inv-loop
+    μ-loop
+    empty-requires
+    empty-requires-2
+    loop-holds
+    block-at-place-requires
+    part-requires
+    with-first-requires
+    with-last-requires
+    slice-aggregate-add-pairs
+    add-pairs-requires
+    or-empty-requires
+    add-blocks
+    sub-left
+    loop-less
+    loop-again
+    returns)

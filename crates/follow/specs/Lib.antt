@@ -1,0 +1,4 @@
+pub mod Follow
+pub mod View
+pub mod Sample
+pub mod Adding

@@ -1,0 +1,147 @@
+// Follow facts of one parent: which names may start a word, which may end one, which follow which, and whether a word is empty.
+use book::Layout;
+use book::block_at_place;
+use book::part;
+use nameset::NameSet;
+use nameset::PLACES;
+ghost use mathlib.Core.Path.{_≡_};
+ghost use mathlib.Core.Bool.{true, _||_};
+ghost use Prim.Native.Nat.{_<_};
+ghost use lib.ListN.{length, getD};
+ghost use Rattle.nameset.specs.Places.{places};
+ghost use Rattle.book.specs.Book.{allBelow, blocksIn};
+ghost use Rattle.book.specs.Access.{LaidOut};
+ghost use Rattle.follow.specs.Follow.{isEmpty};
+ghost use Rattle.follow.specs.Sample.{wordsOf};
+ghost use Rattle.follow.specs.Adding.{withFirst, withLast, withPairs, withWord, factsOf};
+
+// Row a of `follows` keeps the names that follow a, as a word of `nameset`.
+pub struct Facts {
+    pub starts: NameSet,
+    pub ends: NameSet,
+    pub follows: [u64; PLACES],
+    pub empty: bool,
+}
+
+// How many blocks a parent has, and what their words show.
+pub struct ParentFacts {
+    pub blocks: usize,
+    pub facts: Facts,
+}
+
+// The name at a place of a word.
+fn name_at(word: &[u8], i: usize) -> usize
+    requires { ⌜ (allBelow places (now word) ≡ true) × (i < length (now word)) ⌝ }
+    ensures { λ r. ⌜ (r ≡ getD (now (word .entry)) i 0) × (r < places) ⌝ }
+{
+    word[i] as usize
+}
+
+// The first name of a word, 0 where it has none.
+fn first_name(word: &[u8]) -> usize
+    requires { ⌜ allBelow places (now word) ≡ true ⌝ }
+    ensures { λ r. ⌜ (r ≡ getD (now (word .entry)) 0 0) × (r < places) ⌝ }
+{
+    if word.len() == 0 {
+        return 0;
+    }
+    name_at(word, 0)
+}
+
+// The set with the first name of a word put in.
+fn with_first(names: NameSet, word: &[u8]) -> NameSet
+    requires { ⌜ allBelow places (now word) ≡ true ⌝ }
+    ensures { λ r. ⌜ r ≡ withFirst names (now (word .entry)) ⌝ }
+{
+    if word.len() == 0 {
+        return names;
+    }
+    names.with(name_at(word, 0))
+}
+
+// The set with the last name of a word put in.
+fn with_last(names: NameSet, word: &[u8]) -> NameSet
+    requires { ⌜ allBelow places (now word) ≡ true ⌝ }
+    ensures { λ r. ⌜ r ≡ withLast names (now (word .entry)) ⌝ }
+{
+    if word.len() == 0 {
+        return names;
+    }
+    names.with(name_at(word, word.len() - 1))
+}
+
+// Whether there was an empty word before, or this one is empty.
+fn or_empty(empty: bool, word: &[u8]) -> bool
+    ensures { λ r. ⌜ r ≡ (empty || isEmpty (now (word .entry))) ⌝ }
+{
+    if word.len() == 0 {
+        return true;
+    }
+    empty
+}
+
+// Puts each pair of neighbours of a word into the rows.
+fn add_pairs(rows: &mut [u64], word: &[u8])
+    requires { ⌜ (length (now rows) ≡ places) × (allBelow places (now word) ≡ true) ⌝ }
+    ensures { λ _. ⌜ (now (rows .exit) ≡ withPairs (now (rows .entry)) (now (word .entry))) × (length (now (rows .exit)) ≡ places) ⌝ }
+{
+    let mut a = first_name(word);
+    let mut i = 1;
+    while i < word.len() {
+        let b = name_at(word, i);
+        rows[a] = NameSet::of_word(rows[a]).with(b).word();
+        a = b;
+        i += 1;
+    }
+}
+
+// The facts with a word added.
+pub fn add_word(facts: Facts, word: &[u8]) -> Facts
+    requires { ⌜ allBelow places (now word) ≡ true ⌝ }
+    ensures { λ r. ⌜ r ≡ withWord facts (now (word .entry)) ⌝ }
+{
+    let mut rows = facts.follows;
+    add_pairs(&mut rows, word);
+    Facts {
+        starts: with_first(facts.starts, word),
+        ends: with_last(facts.ends, word),
+        follows: rows,
+        empty: or_empty(facts.empty, word),
+    }
+}
+
+// The facts of a parent in a book that was read, in one walk over its blocks.
+pub fn parent_facts(bytes: &[u8], layout: Layout, parent: usize) -> ParentFacts
+    requires { ⌜ LaidOut (now bytes) layout ⌝ }
+    ensures { λ r. ⌜ (r .blocks ≡ length (wordsOf parent (blocksIn (now (bytes .entry))))) × (r .facts ≡ factsOf (wordsOf parent (blocksIn (now (bytes .entry))))) ⌝ }
+{
+    let mut starts = NameSet::empty();
+    let mut ends = NameSet::empty();
+    let mut rows = [0u64; PLACES];
+    let mut empty = false;
+    let mut blocks = 0;
+    let mut at = layout.body;
+    let mut left = layout.blocks;
+    while 0 < left {
+        let block = block_at_place(bytes, at);
+        if block.parent == parent {
+            let word = part(bytes, block.from, block.to);
+            starts = with_first(starts, word);
+            ends = with_last(ends, word);
+            add_pairs(&mut rows, word);
+            empty = or_empty(empty, word);
+            blocks += 1;
+        }
+        at = block.to;
+        left -= 1;
+    }
+    ParentFacts {
+        blocks,
+        facts: Facts {
+            starts,
+            ends,
+            follows: rows,
+            empty,
+        },
+    }
+}

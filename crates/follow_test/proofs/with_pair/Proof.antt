@@ -1,0 +1,20 @@
+-- `with_pair` meets its contract: the word's numbers are below the number of places.
+-- Assumes nothing.
+use mathlib.Core.Path.{refl}
+use borrow.Author.Needs.{needs}
+use Rattle.book.specs.Book.{allBelow}
+use Rattle.follow_test.proofs.with_pair.Statement.{statement}
+use Rattle.follow_test.proofs.with_pair.Tie as tie
+
+slice-aggregate-add-word : tie.Need-slice-aggregate-add-word
+slice-aggregate-add-word c = search needs
+
+add-word-requires : tie.Need-add-word-requires
+unfolding allBelow
+add-word-requires c κs = refl
+
+returns : tie.Need-returns
+returns c = search needs
+
+pub with-pair-spec : {M : Type 1} → statement M
+with-pair-spec = tie.close (tie.spec slice-aggregate-add-word add-word-requires returns)
