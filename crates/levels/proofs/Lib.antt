@@ -1,0 +1,10 @@
+pub mod Samples
+pub mod Tests
+pub mod Below
+pub mod Facts
+pub mod Reach
+pub mod Paths
+pub mod Levels
+pub mod Skipped
+pub mod Longest
+pub mod Theorem

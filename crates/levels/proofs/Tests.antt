@@ -1,0 +1,43 @@
+-- What the tests mean.
+-- Assumes nothing.
+use Prim.Native.Nat.{ℕ, zero, suc, _<_}
+use mathlib.Core.Path.{_≡_, refl, sym, _∙_, ap}
+use mathlib.Core.Bool.{Bool, true, false, _&&_, _||_, not, true≢false, false≢true}
+use mathlib.Core.Logic.{_⊎_, inl, inr, ⊎-elim, _↔_}
+use borrow.Author.Tests.{eqb-true, eq-eqb, ltb-true, lt-ltb}
+use lib.Dec.{ltb, eqb}
+use Rattle.model.specs.Check.{anyBelow}
+use Rattle.model.proofs.Tests.{both, and-left, and-right, any-law}
+use Rattle.levels.specs.Below.{someBelow}
+
+pub and-is : (a b : Bool) → ((a && b) ≡ true) ↔ ((a ≡ true) × (b ≡ true))
+and-is a b = (λ e. (and-left a b e, and-right a b e), λ p. both a b (p .0) (p .1))
+
+pub or-is : (a b : Bool) → ((a || b) ≡ true) ↔ ((a ≡ true) ⊎ (b ≡ true))
+or-is true b = (λ e. inl refl, λ p. refl)
+or-is false b = (λ e. inr e, λ p. ⊎-elim (λ e. absurd (false≢true e)) (λ e. e) p)
+
+pub not-is : (a : Bool) → (not a ≡ true) ↔ (a ≡ false)
+not-is true = (λ e. sym e, λ e. sym e)
+not-is false = (λ e. refl, λ e. refl)
+
+pub both-ways : (a : Bool) → a ≡ true → a ≡ false → ⊥
+both-ways a p q = true≢false (sym p ∙ q)
+
+pub refuted : (a : Bool) → (a ≡ true → ⊥) → a ≡ false
+refuted true f = absurd (f refl)
+refuted false f = refl
+
+pub ltb-is : (m n : ℕ) → (ltb m n ≡ true) ↔ (m < n)
+ltb-is m n = (ltb-true m n, lt-ltb m n)
+
+pub eqb-is : (m n : ℕ) → (eqb m n ≡ true) ↔ (m ≡ n)
+eqb-is m n = (eqb-true m n, eq-eqb m n)
+
+some-any : (n : ℕ) (test : ℕ → Bool) → someBelow n test ≡ anyBelow n test
+unfolding someBelow anyBelow
+some-any zero test = refl
+some-any (suc n) test = ap (λ (b : Bool). b || test n) (some-any n test)
+
+pub some-is : (n : ℕ) (test : ℕ → Bool) → (someBelow n test ≡ true) ↔ ((k : ℕ) × (k < n) × (test k ≡ true))
+some-is n test = (λ e. any-law n test .0 (sym (some-any n test) ∙ e), λ p. some-any n test ∙ any-law n test .1 p)

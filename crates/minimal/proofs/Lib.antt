@@ -1,0 +1,10 @@
+pub mod Order
+pub mod Unique
+pub mod Groups
+pub mod Append
+pub mod Built
+pub mod Modes
+pub mod FromLevels
+pub mod Exact
+pub mod Main
+pub mod Demand

@@ -1,0 +1,17 @@
+-- A record under construction: factors are appended one after the other.
+-- Assumes nothing.
+use Prim.Native.Nat.{ℕ, suc, _+_}
+use mathlib.Core.Bool.{Bool, cond}
+use mathlib.Core.List.{List, [], _∷_}
+use lib.ListN.{set}
+use Rattle.model.specs.declared.Model.{Model}
+
+-- The entries from place x on, with v for each name that the factor holds.
+unfoldable pub entriesWith : (ℕ → Bool) → ℕ → ℕ → List ℕ → List ℕ
+entriesWith holds v x [] = []
+entriesWith holds v x (e ∷ es) = cond (holds x) v e ∷ entriesWith holds v (suc x) es
+
+-- One factor more, behind the others.
+unfoldable pub withFactor : Model → (ℕ → Bool) → ℕ → Model
+withFactor m holds mode =
+    record { count = m .count + 1; factor = entriesWith holds (m .count) 0 (m .factor); mode = set (m .mode) (m .count) mode }
