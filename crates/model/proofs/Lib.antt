@@ -4,3 +4,4 @@ pub mod Words
 pub mod Chain
 pub mod Acceptance
 pub mod Empty
+pub mod Building

@@ -1,4 +1,5 @@
 // The model record, when it is a chain, and which words it accepts.
+mod build; // build.rt: the record under construction
 ghost use Prim.Native.Nat.{ℕ, _-_, _≤_, _<_};
 ghost use mathlib.Core.Path.{_≡_};
 ghost use mathlib.Core.Bool.{_||_};

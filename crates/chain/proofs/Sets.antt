@@ -1,0 +1,195 @@
+-- Laws of reach by rounds, and of sets that are empty, meet, or have one name.
+-- Assumes nothing.
+use Prim.Native.Nat.{ℕ, zero, suc, _+_, _≤_, _<_}
+use mathlib.Core.Path.{_≡_, refl, sym, _∙_, ap, fun-ext}
+use mathlib.Core.Bool.{Bool, true, false, cond, _&&_, _||_, not, false≢true}
+use mathlib.Core.List.{List}
+use mathlib.Core.Logic.{_⊎_, inl, inr}
+use native.Mathlib.Omega.{arith}
+use native.Mathlib.Numerals.{add-one}
+use native.Mathlib.Decide.{ℕ-discrete}
+use borrow.Author.Tests.{eq-eqb, ne-eqb}
+use lib.Dec.{eqb, ltb}
+use lib.ListN.{length, getD}
+use Rattle.nameset.specs.Places.{places}
+use Rattle.nameset.specs.declared.NameSet.{NameSet}
+use Rattle.nameset.specs.Set.{member, Sized, first, ofWord}
+use Rattle.nameset.specs.Promise.{Emptiness, Shrunk}
+use Rattle.nameset.proofs.Laws.{first-in}
+use Rattle.follow.specs.Follow.{Follow}
+use Rattle.follow.specs.View.{viewOf}
+use Rattle.follow.specs.declared.Facts.{Facts}
+use Rattle.levels.specs.Below.{someBelow, countBelow}
+use Rattle.levels.specs.Reach.{reachBy, reaches, occurs}
+use Rattle.peel.specs.Shown.{Shown}
+use Rattle.peel.specs.Sets.{meets, inRows, stepsOver}
+use Rattle.peel.proofs.Tests.{and-is, or-is, ltb-is, some-is, same-test, not-true, both-ways}
+use Rattle.peel.proofs.Below.{some-count}
+use Rattle.peel.proofs.Reaching.{edge-follows}
+use Rattle.rows.specs.Rows.{inWord, inRow, Round, amongRows}
+use Rattle.chain.specs.Chain.{Reached, factors}
+
+-- ---- reach
+
+pub reach-none : (facts : Facts) (n : ℕ) → Shown (viewOf n facts) → (a b : ℕ) → inRow (facts .follows) a b ≡ reachBy (viewOf n facts) 0 a b
+unfolding inRow inWord reachBy
+reach-none facts n s a b = sym (edge-follows (viewOf n facts) s a b)
+
+pub reach-more : (f : Follow) (old new : List ℕ) (k : ℕ) → ((a b : ℕ) → inRow old a b ≡ reachBy f k a b) → Round old new k → (a b : ℕ) → inRow new a b ≡ reachBy f (k + 1) a b
+unfolding reachBy
+reach-more f old new k e r a b = r .law a b ∙ rw (add-one k, e a b, e a k, e k b)
+
+pub reach-all : (facts : Facts) (n k : ℕ) (rows : List ℕ) → k ≡ n → length rows ≡ places → ((a b : ℕ) → inRow rows a b ≡ reachBy (viewOf n facts) k a b) → Reached (viewOf n facts) rows
+unfolding reaches
+reach-all facts n k rows q h e = record { size = h; law = λ a b. e a b ∙ ap (λ (j : ℕ). reachBy (viewOf n facts) j a b) q }
+
+-- The rows after k rounds, whichever facts over n names the first rows are of.
+pub record Rounds (n : ℕ) (old new : List ℕ) (k : ℕ) : Type 0 where
+  pub size : length new ≡ places
+  pub law : (facts : Facts) → facts .follows ≡ old → Shown (viewOf n facts) → (a b : ℕ) → inRow new a b ≡ reachBy (viewOf n facts) k a b
+
+pub rounds-none : (n : ℕ) (old : List ℕ) → length old ≡ places → Rounds n old old 0
+rounds-none n old h = record { size = h; law = λ facts e s a b. ap (λ (r : List ℕ). inRow r a b) (sym e) ∙ reach-none facts n s a b }
+
+pub rounds-more : {n : ℕ} {old new : List ℕ} {k : ℕ} → Rounds n old new k → (next : List ℕ) → Round new next k → Rounds n old next (k + 1)
+rounds-more {n} {old} {new} {k} r next t = record { size = t .size; law = λ facts e s. reach-more (viewOf n facts) new next k (r .law facts e s) t }
+
+pub rounds-all : {n : ℕ} {old new : List ℕ} {k : ℕ} → Rounds n old new k → (facts : Facts) → facts .follows ≡ old → Shown (viewOf n facts) → k ≡ n → Reached (viewOf n facts) new
+rounds-all {n} {old} {new} {k} r facts e s q = reach-all facts n k new q (r .size) (r .law facts e s)
+
+-- ---- names that occur
+
+pub occurs-law : (facts : Facts) (n : ℕ) → Shown (viewOf n facts) → (x : ℕ) → (member (facts .starts) x || amongRows n (facts .follows) x) ≡ occurs (viewOf n facts) x
+unfolding amongRows inRow inWord occurs
+occurs-law facts n s x =
+    same-test (starts || follows) (ltb x n && (starts || follows)) (λ e. and-is (ltb x n) (starts || follows) .1 (ltb-is x n .1 (small (or-is starts follows .0 e)), e))
+    (λ e. and-is (ltb x n) (starts || follows) .0 e .1)
+  where
+    starts : Bool
+    starts = member (facts .starts) x
+
+    follows : Bool
+    follows = someBelow n (λ b. member (ofWord (getD (facts .follows) b 0)) x)
+
+    small : (starts ≡ true) ⊎ (follows ≡ true) → x < n
+    small (inl e) = s .starts x e
+    small (inr e) = let p = some-is n (λ b. member (ofWord (getD (facts .follows) b 0)) x) .0 e in s .follows (p .0) x (p .2)
+
+-- ---- a set that is empty or not
+
+pub some-set : (s : NameSet) (r : Bool) → Emptiness s r → not r ≡ someBelow places (member s)
+some-set s true e = sym (not-true (someBelow places (member s)) (λ t. let p = some-is places (member s) .0 t in both-ways (member s (p .0)) (p .2) (e .none refl (p .0))))
+some-set s false e = go (someBelow places (member s)) refl
+  where
+    go : (b : Bool) → someBelow places (member s) ≡ b → true ≡ b
+    go true q = refl
+    go false q =
+        absurd (false≢true (e .all (λ j l. not-true (member s j) (λ m. both-ways (someBelow places (member s)) (some-is places (member s) .1 (j, l, m)) q))))
+
+pub some-empty : (s : NameSet) (r : Bool) → Emptiness s r → r ≡ true → someBelow places (member s) ≡ false
+some-empty s r e q = sym (some-set s r e) ∙ rw q
+
+pub some-full : (s : NameSet) (r : Bool) → Emptiness s r → r ≡ false → someBelow places (member s) ≡ true
+some-full s r e q = sym (some-set s r e) ∙ rw q
+
+-- ---- sets that meet
+
+pub meet-law : (a b s : NameSet) (r : Bool) → ((j : ℕ) → member s j ≡ (member a j && member b j)) → Emptiness s r → not r ≡ meets places (member a) (member b)
+unfolding meets
+meet-law a b s r law e = some-set s r e ∙ ap (someBelow places) (fun-ext law)
+
+pub over-empty : (starts ends : ℕ → Bool) (follows : ℕ → ℕ → Bool) (lower higher : ℕ → Bool) (empty : Bool) → empty ≡ true → true ≡ stepsOver places empty starts ends follows lower higher
+unfolding stepsOver
+over-empty starts ends follows lower higher empty e = rw e
+
+module _ (empty : Bool) (starts ends : NameSet) (follows : List ℕ) (lower higher : NameSet) (n : empty ≡ false) where
+  pub over-end : (r : Bool) → r ≡ meets places (member ends) (member lower) → r ≡ true →
+      true ≡ stepsOver places empty (member starts) (member ends) (inRow follows) (member lower) (member higher)
+  unfolding stepsOver
+  over-end r e t = rw (n, ← e, t)
+
+  pub over-rest : (r q : Bool) (rows u : NameSet) → r ≡ meets places (member ends) (member lower) → r ≡ false →
+      ((j : ℕ) → member rows j ≡ inRows places (inRow follows) (member lower) j) → ((j : ℕ) → member u j ≡ (member starts j || member rows j)) →
+      q ≡ meets places (member u) (member higher) → q ≡ stepsOver places empty (member starts) (member ends) (inRow follows) (member lower) (member higher)
+  unfolding stepsOver
+  over-rest r q rows u e t law both f =
+      let z : _≡_ {A = ℕ → Bool} (member u) (λ y. member starts y || inRows places (inRow follows) (member lower) y) =
+      fun-ext (λ j. both j ∙ ap (λ (b : Bool). member starts j || b) (law j)) in
+      rw (n, ← e, t, ← z) f
+
+-- ---- how many names a set has
+
+pub count-none : (n : ℕ) (p : ℕ → Bool) → someBelow n p ≡ false → countBelow n p ≡ 0
+unfolding someBelow countBelow
+count-none zero p e = refl
+count-none (suc n) p e = go (someBelow n p) (p n) refl refl e (count-none n p)
+  where
+    go : (a b : Bool) → someBelow n p ≡ a → p n ≡ b → (a || b) ≡ false → (someBelow n p ≡ false → countBelow n p ≡ 0) → countBelow n p + cond (p n) 1 0 ≡ 0
+    go true b u v h ih = absurd (false≢true (sym h))
+    go false true u v h ih = absurd (false≢true (sym h))
+    go false false u v h ih = rw v (omega (arith, ih u))
+
+-- one test passes where the other does, but for x
+pub count-without : (n : ℕ) (p q : ℕ → Bool) (x : ℕ) → x < n → p x ≡ true → q x ≡ false → ((j : ℕ) → (j ≡ x → ⊥) → q j ≡ p j) → countBelow n p ≡ suc (countBelow n q)
+unfolding countBelow
+count-without zero p q x h a b e = absurd (omega arith)
+count-without (suc n) p q x h a b e = go (ℕ-discrete x n) (λ l. count-without n p q x l a b e)
+  where
+    same : (m : ℕ) → m ≤ x → countBelow m p ≡ countBelow m q
+    same zero l = refl
+    same (suc m) l = let k : q m ≡ p m = e m (λ u. omega arith) in rw k (ap (λ (c : ℕ). c + cond (p m) 1 0) (same m (omega arith)))
+
+    go : Dec (x ≡ n) → (x < n → countBelow n p ≡ suc (countBelow n q)) → countBelow n p + cond (p n) 1 0 ≡ suc (countBelow n q + cond (q n) 1 0)
+    go (yes u) ih =
+        let i : p n ≡ true = ap p (sym u) ∙ a in
+        let j : q n ≡ false = ap q (sym u) ∙ b in
+        rw (i, j) (omega (arith, same n (omega arith)))
+    go (no u) ih = let k : q n ≡ p n = e n (λ v. u (sym v)) in rw k (omega (arith, ih (omega arith)))
+
+pub one-none : (s : NameSet) (r : Bool) → Emptiness s r → r ≡ true → false ≡ eqb (countBelow places (member s)) 1
+one-none s r e q = sym (ne-eqb (countBelow places (member s)) 1 (λ u. omega (arith, count-none places (member s) (some-empty s r e q))))
+
+last-law : (a t : Bool) → t ≡ false → (a && not t) ≡ a
+last-law true t e = rw e
+last-law false t e = refl
+
+gone : (a t : Bool) → t ≡ true → (a && not t) ≡ false
+gone true t e = rw e
+gone false t e = refl
+
+pub one-some : (s t : NameSet) (r q : Bool) → Sized s → Emptiness s r → r ≡ false → Shrunk s t → Emptiness t q → q ≡ eqb (countBelow places (member s)) 1
+one-some s t r q z e n h g = go q refl
+  where
+    found : (first s < places) × (member s (first s) ≡ true)
+    found = first-in s z (sym (e .same) ∙ n)
+
+    count : countBelow places (member s) ≡ suc (countBelow places (member t))
+    count =
+        count-without places (member s) (member t) (first s) (found .0) (found .1)
+        (h .members (first s) ∙ gone (member s (first s)) (eqb (first s) (first s)) (eq-eqb (first s) (first s) refl))
+        (λ j d. h .members j ∙ last-law (member s j) (eqb (first s) j) (ne-eqb (first s) j (λ u. d (sym u))))
+
+    go : (b : Bool) → q ≡ b → b ≡ eqb (countBelow places (member s)) 1
+    go true u = sym (eq-eqb (countBelow places (member s)) 1 (omega (arith, count, count-none places (member t) (some-empty t q g u))))
+    go false u =
+        let k : 1 ≤ countBelow places (member t) = (rw (some-full t q g u) at (some-count places (member t))) in
+        sym (ne-eqb (countBelow places (member s)) 1 (λ v. omega (arith, count)))
+
+-- ---- the number of factors of a level
+
+pub factors-groups : (singles leaders : NameSet) (r q : Bool) → Emptiness singles r → r ≡ true → q ≡ eqb (countBelow places (member leaders)) 1 →
+    q ≡ eqb (factors places (member singles) (member leaders)) 1
+unfolding factors
+factors-groups singles leaders r q e t f =
+    let z : 0 + countBelow places (member leaders) ≡ countBelow places (member leaders) = omega arith in
+    rw (some-empty singles r e t, z) f
+
+pub factors-singles : (singles leaders : NameSet) (r q : Bool) → Emptiness singles r → r ≡ false → Emptiness leaders q → q ≡ eqb (factors places (member singles) (member leaders)) 1
+unfolding factors
+factors-singles singles leaders r q e t f = rw (some-full singles r e t) (go q refl)
+  where
+    go : (b : Bool) → q ≡ b → b ≡ eqb (1 + countBelow places (member leaders)) 1
+    go true u = sym (eq-eqb (1 + countBelow places (member leaders)) 1 (omega (arith, count-none places (member leaders) (some-empty leaders q f u))))
+    go false u =
+        let k : 1 ≤ countBelow places (member leaders) = (rw (some-full leaders q f u) at (some-count places (member leaders))) in
+        sym (ne-eqb (1 + countBelow places (member leaders)) 1 (λ v. omega arith))

@@ -1,0 +1,25 @@
+-- `just_one` meets its contract.
+-- Assumes nothing.
+use borrow.Author.Needs.{needs}
+use Rattle.chain.proofs.Sets.{one-none, one-some}
+use Rattle.chain.proofs.just_one.Statement.{statement}
+use Rattle.chain.proofs.just_one.Tie as tie
+
+is-empty-requires : tie.Need-is-empty-requires
+is-empty-requires c κs = search needs
+
+rest-requires : tie.Need-rest-requires
+rest-requires c κs = search needs
+
+is-empty-requires-2 : tie.Need-is-empty-requires-2
+is-empty-requires-2 c κs = search needs
+
+returns : tie.Need-returns
+returns c = one-none _ _ (c .before .is-empty .ensures) (c .if1 .taken)
+
+returns-2 : tie.Need-returns-2
+returns-2 c = one-some _ _ _ _ (search needs) (c .before .before .before .is-empty .ensures) (c .before .before .if1 .left) (c .before .rest .ensures) (c .is-empty2 .ensures)
+
+pub just-one-spec : {M : Type 1} → statement M
+just-one-spec =
+    tie.close (tie.spec is-empty-requires rest-requires is-empty-requires-2 returns returns-2)

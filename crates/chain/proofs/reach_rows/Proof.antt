@@ -1,0 +1,40 @@
+-- `reach_rows` meets its contract.
+-- Assumes nothing.
+use Prim.Native.Nat.{_-_, _≤_}
+use mathlib.Core.Path.{refl}
+use native.Mathlib.Omega.{arith}
+use borrow.Author.Needs.{needs}
+use Rattle.nameset.specs.Places.{places}
+use Rattle.nameset.specs.Set.{size}
+use Rattle.chain.proofs.Sets.{Rounds, rounds-none, rounds-more, rounds-all}
+use Rattle.chain.proofs.reach_rows.Statement.{statement}
+use Rattle.chain.proofs.reach_rows.Tie as tie
+
+abbrev Inv-loop : tie.InvT-loop
+Inv-loop n rows₀ k₀ rows k = (k ≤ n) × (n ≤ places) × Rounds n rows₀ rows k
+
+abbrev μ-loop : tie.MeasureT-loop
+μ-loop n rows₀ k₀ rows k = n - k
+
+loop-holds : tie.Need-loop-holds Inv-loop μ-loop
+loop-holds c = (omega arith, omega arith, rounds-none _ _ (search needs))
+
+round-requires : tie.Need-round-requires Inv-loop μ-loop
+round-requires c κs = (omega arith, c .before .before .loop .inv .2 .size)
+
+add-k : tie.Need-add-k Inv-loop μ-loop
+add-k c = search needs
+
+loop-less : tie.Need-loop-less Inv-loop μ-loop
+loop-less c = search needs
+
+loop-again : tie.Need-loop-again Inv-loop μ-loop
+loop-again c = let inv = c .before .before .before .loop .inv in (omega arith, inv .1, rounds-more (inv .2) _ (c .round .ensures))
+
+returns : tie.Need-returns Inv-loop μ-loop
+returns c = rounds-all (c .before .loop .inv .2) _ refl (c .before .before .before .pre .1) (omega arith)
+
+pub reach-rows-spec : {M : Type 1} → statement M
+reach-rows-spec =
+    tie.close
+    (tie.spec Inv-loop μ-loop loop-holds round-requires add-k loop-less loop-again returns)
