@@ -1,0 +1,5 @@
+pub mod Puts
+pub mod Text
+pub mod Steps
+pub mod Calls
+pub mod Back

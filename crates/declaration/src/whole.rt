@@ -1,0 +1,60 @@
+// The text of a declaration.
+use super::parts::put_factor;
+use super::parts::put_name;
+use super::put::put_all;
+use super::put::put_some;
+use book::Layout;
+use model::Model;
+ghost use mathlib.Core.Path.{_≡_};
+ghost use Prim.Native.Nat.{_+_, _≤_, _<_};
+ghost use lib.ListN.{length};
+ghost use Rattle.book.specs.Book.{namesIn};
+ghost use Rattle.book.specs.Access.{LaidOut};
+ghost use Rattle.declaration.specs.Put.{Put};
+ghost use Rattle.declaration.specs.Parts.{beforeByte, factorsText, modelText, textOf};
+
+// What stands before factor i.
+fn before(i: usize) -> u8
+    ensures { λ r. ⌜ r ≡ beforeByte i ⌝ }
+{
+    if i == 0 { b'(' } else { b',' }
+}
+
+// The factors, each behind its bracket or comma.
+fn put_factors(buffer: &mut [u8], at: usize, bytes: &[u8], layout: Layout, m: Model) -> usize
+    requires { ⌜ LaidOut (now bytes) layout × (at + length (factorsText (namesIn (now bytes)) (layout .names) m 0 (m .count)) ≤ length (now buffer)) ⌝ }
+    ensures { λ r. ⌜ Put (now (buffer .entry)) at (factorsText (namesIn (now (bytes .entry))) (layout .names) m 0 (m .count)) r (now (buffer .exit)) ⌝ }
+{
+    let mut to = at;
+    let mut i = 0;
+    while i < m.count {
+        to = put_some(buffer, to, before(i));
+        to = put_factor(buffer, to, bytes, layout, m, i);
+        i += 1;
+    }
+    to
+}
+
+// `EMPTY`, or the factors in brackets.
+fn put_model(buffer: &mut [u8], at: usize, bytes: &[u8], layout: Layout, m: Model) -> usize
+    requires { ⌜ LaidOut (now bytes) layout × (at + length (modelText (namesIn (now bytes)) (layout .names) m) ≤ length (now buffer)) ⌝ }
+    ensures { λ r. ⌜ Put (now (buffer .entry)) at (modelText (namesIn (now (bytes .entry))) (layout .names) m) r (now (buffer .exit)) ⌝ }
+{
+    if m.count == 0 {
+        return put_all(buffer, at, b"EMPTY");
+    }
+    let to = put_factors(buffer, at, bytes, layout, m);
+    put_some(buffer, to, b')')
+}
+
+// The whole, from the buffer's start on.
+pub fn put_declaration(buffer: &mut [u8], bytes: &[u8], layout: Layout, parent: usize, m: Model) -> usize
+    requires { ⌜ LaidOut (now bytes) layout × (parent < layout .names) × (length (textOf (namesIn (now bytes)) (layout .names) parent m) ≤ length (now buffer)) ⌝ }
+    ensures { λ r. ⌜ Put (now (buffer .entry)) 0 (textOf (namesIn (now (bytes .entry))) (layout .names) parent m) r (now (buffer .exit)) ⌝ }
+{
+    let opened = put_all(buffer, 0, b"<!ELEMENT ");
+    let named = put_name(buffer, opened, bytes, layout, parent);
+    let spaced = put_some(buffer, named, b' ');
+    let modelled = put_model(buffer, spaced, bytes, layout, m);
+    put_some(buffer, modelled, b'>')
+}

@@ -1,0 +1,121 @@
+// Steps along a text: its next unread byte, white space, a run of name bytes, a token.
+ghost use mathlib.Core.Path.{_≡_};
+ghost use mathlib.Core.Bool.{Bool};
+ghost use Prim.Native.Nat.{_+_, _≤_};
+ghost use lib.ListN.{length, drop};
+ghost use Rattle.name.specs.Class.{laterByte};
+ghost use Rattle.spelling.specs.Token.{isSpace};
+ghost use Rattle.scan.specs.Unread.{endOfText, nextOf, runOf, kindOf};
+ghost use Rattle.scan.specs.Piece.{wordEnd, pieceAt};
+
+// What stands for the next byte at the end of a text.
+const END: usize = 256;
+
+// The kinds of a token: the end of the text, a word, and each sign; the marks are 7 to 9.
+const OVER: u8 = 0;
+const WORD: u8 = 1;
+const OTHER: u8 = 10;
+
+// A token of the text: whether white space stands before it, its kind, and the places where it begins and ends.
+pub struct Piece {
+    pub gap: bool,
+    pub kind: u8,
+    pub from: usize,
+    pub to: usize,
+}
+
+// The next unread byte, or 256 at the end of the text.
+pub fn next_unread(text: &[u8], at: usize) -> usize
+    ensures { λ r. ⌜ (r ≡ nextOf (drop at (now (text .entry)))) × (r ≤ endOfText) ⌝ }
+{
+    if at < text.len() { text[at] as usize } else { END }
+}
+
+// Whether the next byte is white space.
+fn is_space(next: usize) -> bool
+    ensures { λ r. ⌜ r ≡ isSpace next ⌝ }
+{
+    next == 32
+}
+
+// Whether the next byte may stand in a name.
+fn is_name_byte(next: usize) -> bool
+    requires { ⌜ next ≤ endOfText ⌝ }
+    ensures { λ r. ⌜ r ≡ laterByte next ⌝ }
+{
+    if next < END { name::class_of(next as u8) != 0 } else { false }
+}
+
+// The first place from `at` on that holds no white space.
+pub fn skip_spaces(text: &[u8], at: usize) -> usize
+    requires { ⌜ at ≤ length (now text) ⌝ }
+    ensures { λ r. ⌜ (r ≡ at + runOf isSpace (drop at (now (text .entry)))) × (r ≤ length (now (text .entry))) ⌝ }
+{
+    let mut i = at;
+    while is_space(next_unread(text, i)) {
+        i += 1;
+    }
+    i
+}
+
+// The first place from `at` on that holds no name byte.
+pub fn skip_name(text: &[u8], at: usize) -> usize
+    requires { ⌜ at ≤ length (now text) ⌝ }
+    ensures { λ r. ⌜ (r ≡ at + runOf laterByte (drop at (now (text .entry)))) × (r ≤ length (now (text .entry))) ⌝ }
+{
+    let mut i = at;
+    while is_name_byte(next_unread(text, i)) {
+        i += 1;
+    }
+    i
+}
+
+// The kind of the token that begins with a byte.
+pub fn kind_of(next: usize) -> u8
+    requires { ⌜ next ≤ endOfText ⌝ }
+    ensures { λ r. ⌜ r ≡ kindOf next ⌝ }
+{
+    if is_name_byte(next) {
+        return WORD;
+    }
+    match next {
+        40 => 2,
+        41 => 3,
+        44 => 4,
+        124 => 5,
+        62 => 6,
+        63 => 7,
+        43 => 8,
+        42 => 9,
+        256 => OVER,
+        _ => OTHER,
+    }
+}
+
+// Where the token ends that begins at a place with this byte.
+fn token_end(text: &[u8], from: usize, next: usize) -> usize
+    requires { ⌜ (from ≤ length (now text)) × (next ≡ nextOf (drop from (now text))) × (next ≤ endOfText) ⌝ }
+    ensures { λ r. ⌜ (r ≡ wordEnd (now (text .entry)) from) × (r ≤ length (now (text .entry))) ⌝ }
+{
+    if is_name_byte(next) {
+        return skip_name(text, from);
+    }
+    if from < text.len() { from + 1 } else { from }
+}
+
+// The next token, and the white space before it.
+pub fn piece_at(text: &[u8], at: usize) -> Piece
+    requires { ⌜ at ≤ length (now text) ⌝ }
+    ensures { λ r. ⌜ (r ≡ pieceAt (now (text .entry)) at) × (r .to ≤ length (now (text .entry))) ⌝ }
+{
+    let from = skip_spaces(text, at);
+    let next = next_unread(text, from);
+    let kind = kind_of(next);
+    let to = token_end(text, from, next);
+    Piece {
+        gap: at < from,
+        kind,
+        from,
+        to,
+    }
+}

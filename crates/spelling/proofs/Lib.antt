@@ -1,0 +1,13 @@
+pub mod Tests
+pub mod Bytes
+pub mod Cutting
+pub mod Form
+pub mod House
+pub mod Names
+pub mod Numbers
+pub mod Tree
+pub mod Length
+pub mod Theorem
+pub mod Refusals
+pub mod Texts
+pub mod Books
