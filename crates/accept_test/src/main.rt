@@ -93,7 +93,7 @@ fn bad_records() {
     // An empty factor, a value from F on, and 254.
     show(intake::accepts_word(3, record_of(3, 0, 2, 0, 1, 3, 1), b""));
     show(intake::accepts_word(3, record_of(2, 0, 2, 1, 1, 3, 0), b""));
-    show(intake::accepts_word(3, record_of(3, 0, 2, 254, 1, 3, 1), b""));
+    show(intake::accepts_word(3, record_of(2, 0, 1, 254, 1, 3, 0), b""));
     // A number from N on that a factor holds.
     show(intake::accepts_word(2, sample(), b""));
     // A mode above 3, and one from F on that is not 0.
