@@ -11,6 +11,7 @@ use lib.Dec.{ltb}
 use lib.ListN.{length, take, drop, getD, length-replicate, List·getD-append}
 use lib.Seq.{sets-eq, drop-drop}
 use borrow.Author.Tests.{ltb-true, ltb-false}
+use Rattle.refusal.specs.declared.Refusal.{Refusal}
 use Rattle.refusal.specs.declared.Refusal.the-variants.{BookTooLong}
 use Rattle.refusal.specs.declared.Outcome.the-variants.{Done, Refused}
 use Rattle.refusal.specs.Answer.{Answer, given, refused, onward, refuseIf}
@@ -158,11 +159,12 @@ module _ (s : List ℕ) (l : Layout) (laid : LaidOut s l) where
   laid-told : BookTold s (laid .book)
   laid-told = book-told s (laid .book) (laid .read)
 
-  names-in : namesIn s ≡ laid .book .names
+  -- the names and the blocks are those of the book
+  pub names-in : namesIn s ≡ laid .book .names
   unfolding namesIn
   names-in = rw (laid .read)
 
-  blocks-in : blocksIn s ≡ laid .book .blocks
+  pub blocks-in : blocksIn s ≡ laid .book .blocks
   unfolding blocksIn
   blocks-in = rw (laid .read)
 
@@ -215,6 +217,16 @@ laid-out s r e d = go (bookOf s) refl e
     go (refused f) q e =
         let o : Refused f ≡ Done = sym (ap (λ (x : Reading). x .outcome) e) ∙ d in
         absurd (let z : _≡_ {A = ℕ} 0 1 = cc in omega arith)
+
+-- a book whose answer is a refusal is refused by its definition too
+pub book-refused : (a : Answer Book) (r : Reading) (f : Refusal) → r ≡ readingOf a → r .outcome ≡ Refused f → a ≡ refused f
+unfolding readingOf noReading
+book-refused (given b) r f e o =
+    let q : Done ≡ Refused f = sym (ap (λ (x : Reading). x .outcome) e) ∙ o in
+    absurd (let z : _≡_ {A = ℕ} 0 1 = cc in omega arith)
+book-refused (refused g) r f e o =
+    let q : Refused g ≡ Refused f = sym (ap (λ (x : Reading). x .outcome) e) ∙ o in
+    cc
 
 -- ---- its blocks
 

@@ -14,10 +14,10 @@ use Rattle.refusal.specs.Answer.{Answer, given, refused}
 use Rattle.nameset.specs.Places.{places}
 use Rattle.book.specs.declared.Layout.{Layout}
 use Rattle.book.specs.declared.Reading.{Reading}
-use Rattle.book.specs.Book.{Book, bookOf, namesIn}
-use Rattle.book.specs.Layout.{readingOf, noReading, layoutOf}
+use Rattle.book.specs.Book.{bookOf, namesIn}
+use Rattle.book.specs.Layout.{readingOf, layoutOf}
 use Rattle.book.specs.Access.{LaidOut}
-use Rattle.book.proofs.Laws.{laid-out, name-count}
+use Rattle.book.proofs.Laws.{laid-out, book-refused, name-count, names-in}
 use Rattle.model.specs.declared.Model.{Model}
 use Rattle.model.specs.Record.{IsChain}
 use Rattle.model.specs.Check.{isChain}
@@ -86,15 +86,6 @@ module _ (aside text : List ℕ) (size : ℕ) (filled : List ℕ) (put : Put asi
 
 -- ---- the checks before
 
-book-refused : (a : Answer Book) (r : Reading) (f : Refusal) → r ≡ readingOf a → r .outcome ≡ Refused f → a ≡ refused f
-unfolding readingOf noReading
-book-refused (given b) r f e o =
-    let q : Done ≡ Refused f = sym (ap (λ (x : Reading). x .outcome) e) ∙ o in
-    absurd (let z : _≡_ {A = ℕ} 0 1 = cc in omega arith)
-book-refused (refused g) r f e o =
-    let q : Refused g ≡ Refused f = sym (ap (λ (x : Reading). x .outcome) e) ∙ o in
-    cc
-
 -- a call that stops with this refusal
 stopped : (d : List ℕ) (w : Written) (f : Refusal) (a : Answer (List ℕ)) → w ≡ written (noText f) → a ≡ refused f → (w ≡ written a) × (d ≡ bufferAfter d a)
 unfolding noText bufferAfter
@@ -112,10 +103,6 @@ module _ (s : List ℕ) (p : ℕ) (m : Model) (d : List ℕ) (r : Reading) (read
     names-are : r .layout .names ≡ length (laid .book .names)
     unfolding layoutOf
     names-are = ap (λ (x : Layout). x .names) (laid .same)
-
-    names-in : namesIn s ≡ laid .book .names
-    unfolding namesIn
-    names-in = rw (laid .read)
 
     pub stopped-parent : (w : Written) → r .layout .names ≤ p → w ≡ written (noText BadParent) → (w ≡ written (writeAnswer s p m (length d))) × (d ≡ bufferAfter d (writeAnswer s p m (length d)))
     unfolding writeAnswer
@@ -138,7 +125,7 @@ module _ (s : List ℕ) (p : ℕ) (m : Model) (d : List ℕ) (r : Reading) (read
         unfolding writeAnswer
         answer-is =
             let k : isChain places (length (laid .book .names)) m ≡ true = subst (λ (n : ℕ). isChain places n m ≡ true) names-are good in
-            rw (names-in, laid .read, lt-ltb p (length (laid .book .names)) (omega (arith, names-are)), k)
+            rw (names-in s (r .layout) laid, laid .read, lt-ltb p (length (laid .book .names)) (omega (arith, names-are)), k)
 
         pub all-passed : (w : Written) (f : List ℕ) → (w ≡ written (fitted (length d) (declaration (namesIn s) p m))) × (f ≡ bufferAfter d (fitted (length d) (declaration (namesIn s) p m))) →
             (w ≡ written (writeAnswer s p m (length d))) × (f ≡ bufferAfter d (writeAnswer s p m (length d)))

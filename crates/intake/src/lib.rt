@@ -1,12 +1,13 @@
 // The calls open to the outside. None has a requirement: each says for every input what it answers.
-ghost use mathlib.Core.Path.{_≡_};
-ghost use Prim.Native.Nat.{_<_};
-ghost use Rattle.intake.specs.Acceptance.{badWord, AcceptsWord};
 use model::Model;
+use refusal::Outcome;
 use refusal::Refusal;
 
-// The most names that a word may have in a call.
-pub const LONGEST: usize = 255;
+mod accept; // accept.rt: whether a model accepts a word
+mod infer; // infer.rt: the model of a parent
+
+pub use accept::accepts_word;
+pub use infer::model_of_parent;
 
 // Whether a word is accepted, or why the call stopped.
 pub enum Acceptance {
@@ -15,34 +16,8 @@ pub enum Acceptance {
     Refused(Refusal),
 }
 
-// Whether the word is too long, or has a number that is no name's.
-fn bad_word(names: usize, word: &[u8]) -> bool
-    requires { ⌜ 0 < names ⌝ }
-    ensures { λ r. ⌜ r ≡ badWord names (now (word .entry)) ⌝ }
-{
-    if LONGEST < word.len() {
-        true
-    } else {
-        !book::all_below(word, names)
-    }
-}
-
-// Whether the model accepts the word: 3, then 10, then 11, else yes or no.
-pub fn accepts_word(names: usize, model: Model, word: &[u8]) -> Acceptance
-    ensures { λ r. ⌜ AcceptsWord names model (now (word .entry)) r ⌝ }
-{
-    if !nameset::good_count(names) {
-        return Acceptance::Refused(Refusal::BadNameCount);
-    }
-    if !model::is_chain(names, model) {
-        return Acceptance::Refused(Refusal::NotAChain);
-    }
-    if bad_word(names, word) {
-        return Acceptance::Refused(Refusal::BadWord);
-    }
-    if model::accepted(model, word) {
-        Acceptance::Yes
-    } else {
-        Acceptance::No
-    }
+// How a call for a model ended, and the model: the empty one where it was refused.
+pub struct Inferred {
+    pub outcome: Outcome,
+    pub model: Model,
 }

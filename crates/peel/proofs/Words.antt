@@ -9,6 +9,7 @@ use borrow.Author.Tests.{eqb-true, eq-eqb}
 use lib.Dec.{eqb, ltb}
 use Rattle.model.specs.Accept.{Names}
 use Rattle.follow.specs.Follow.{Follow, followOf, someWord, beginsWith, endsWith, hasPair}
+use Rattle.follow.specs.Sample.{Over}
 use Rattle.levels.specs.Below.{someBelow}
 use Rattle.levels.specs.Reach.{edge, reaches, occurs}
 use Rattle.peel.specs.Shown.{Shown}
@@ -20,11 +21,6 @@ use Rattle.peel.proofs.Reaching.{edge-is, reach-step, reach-trans, occu
 abbrev In : List ℕ → List (List ℕ) → Type 0
 In w [] = ⊥
 In w (v ∷ vs) = (w ≡ v) ⊎ In w vs
-
--- Every word is one over n names.
-abbrev pub AllNames : ℕ → List (List ℕ) → Type 0
-AllNames n [] = Unit {0}
-AllNames n (w ∷ ws) = Names n w × AllNames n ws
 
 some-word : (test : List ℕ → Bool) (ws : List (List ℕ)) → someWord test ws ≡ true → (w : List ℕ) × In w ws × (test w ≡ true)
 unfolding someWord
@@ -41,7 +37,7 @@ word-some test [] w i e = absurd i
 word-some test (v ∷ vs) w (inl q) e = or-is (test v) (someWord test vs) .1 (inl (ap test (sym q) ∙ e))
 word-some test (v ∷ vs) w (inr i) e = or-is (test v) (someWord test vs) .1 (inr (word-some test vs w i e))
 
-names-in : (n : ℕ) (ws : List (List ℕ)) (w : List ℕ) → AllNames n ws → In w ws → Names n w
+names-in : (n : ℕ) (ws : List (List ℕ)) (w : List ℕ) → Over n ws → In w ws → Names n w
 names-in n [] w a i = absurd i
 names-in n (v ∷ vs) w a (inl q) = rw q (a .0)
 names-in n (v ∷ vs) w a (inr i) = names-in n vs w (a .1) i
@@ -110,7 +106,7 @@ module _ (f : Follow) where
 
 -- ---- the facts of a sample
 
-module _ (n : ℕ) (words : List (List ℕ)) (all : AllNames n words) where
+module _ (n : ℕ) (words : List (List ℕ)) (all : Over n words) where
   told : (w : List ℕ) → In w words → Told (followOf n words) w
   told w i =
       record

@@ -1,4 +1,4 @@
--- `intake::accepts_word` meets its contract: one answer for each check.
+-- `accepts_word` meets its contract: one answer for each check.
 -- Assumes nothing.
 use mathlib.Core.Path.{sym, _∙_}
 use borrow.Author.Needs.{needs}
@@ -6,8 +6,8 @@ use borrow.Author.Tests.{not-false}
 use Rattle.nameset.proofs.Count.{count-bounds}
 use Rattle.intake.specs.Acceptance.{acceptance}
 use Rattle.intake.proofs.Answers.{stops-count, stops-model, stops-word, answers}
-use Rattle.intake.proofs.accepts_word.Statement.{statement}
-use Rattle.intake.proofs.accepts_word.Tie as tie
+use Rattle.intake.proofs.accept.accepts_word.Statement.{statement}
+use Rattle.intake.proofs.accept.accepts_word.Tie as tie
 
 good-count-requires : tie.Need-good-count-requires
 good-count-requires c κs = search needs

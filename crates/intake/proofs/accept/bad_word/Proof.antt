@@ -1,12 +1,12 @@
--- `intake::bad_word` meets its contract.
+-- `bad_word` meets its contract.
 -- Assumes nothing.
 use mathlib.Core.Path.{ap}
 use mathlib.Core.Bool.{Bool, not}
 use borrow.Author.Tests.{lt-ltb, le-ltb}
 use borrow.Author.Needs.{needs}
 use Rattle.intake.specs.Acceptance.{badWord}
-use Rattle.intake.proofs.bad_word.Statement.{statement}
-use Rattle.intake.proofs.bad_word.Tie as tie
+use Rattle.intake.proofs.accept.bad_word.Statement.{statement}
+use Rattle.intake.proofs.accept.bad_word.Tie as tie
 
 all-below-requires : tie.Need-all-below-requires
 all-below-requires c κs = search needs

@@ -1,0 +1,70 @@
+-- The answer of each way through the call for a model.
+-- Assumes nothing.
+use Prim.Native.Nat.{ℕ, zero, suc, _≤_, _<_}
+use mathlib.Core.Path.{_≡_, refl, sym, _∙_, ap}
+use mathlib.Core.Bool.{Bool, true, false}
+use mathlib.Core.List.{List, [], _∷_}
+use native.Mathlib.Omega.{arith}
+use lib.ListN.{length}
+use borrow.Author.Tests.{lt-ltb, le-ltb}
+use Rattle.refusal.specs.declared.Refusal.{Refusal}
+use Rattle.refusal.specs.declared.Refusal.the-variants.{BadParent, NoBlock}
+use Rattle.refusal.specs.declared.Outcome.the-variants.{Done, Refused}
+use Rattle.refusal.specs.Answer.{Answer, given, refused}
+use Rattle.book.specs.declared.Layout.{Layout}
+use Rattle.book.specs.declared.Reading.{Reading}
+use Rattle.book.specs.Book.{bookOf, blocksIn}
+use Rattle.book.specs.Layout.{readingOf, layoutOf}
+use Rattle.book.specs.Access.{LaidOut}
+use Rattle.book.proofs.Laws.{laid-out, book-refused, blocks-in}
+use Rattle.model.specs.declared.Model.{Model}
+use Rattle.follow.specs.Sample.{wordsOf}
+use Rattle.sample.specs.Sample.{chainOfWords}
+use Rattle.intake.specs.declared.Inferred.{Inferred}
+use Rattle.intake.specs.Inference.{sampleOf, noWord, badParent, chainIn, modelAnswer, noModel, inferred}
+
+none-there : (ws : List (List ℕ)) → length ws ≡ 0 → noWord ws ≡ true
+unfolding noWord
+none-there [] e = refl
+none-there (w ∷ ws) e = absurd (let z : _≡_ {A = ℕ} (suc (length ws)) 0 = e in omega arith)
+
+some-there : (ws : List (List ℕ)) → (length ws ≡ 0 → ⊥) → noWord ws ≡ false
+unfolding noWord
+some-there [] d = absurd (d refl)
+some-there (w ∷ ws) d = refl
+
+module _ (s : List ℕ) (p : ℕ) (r : Reading) (read : r ≡ readingOf (bookOf s)) where
+  pub stopped-book : (x : Inferred) (f : Refusal) → r .outcome ≡ Refused f → x ≡ inferred (noModel f) → x ≡ inferred (modelAnswer s p)
+  unfolding modelAnswer noModel
+  stopped-book x f o e = rw (book-refused (bookOf s) r f read o) e
+
+  module _ (done : r .outcome ≡ Done) where
+    pub laid : LaidOut s (r .layout)
+    laid = laid-out s r read done
+
+    names-are : r .layout .names ≡ length (laid .book .names)
+    unfolding layoutOf
+    names-are = ap (λ (x : Layout). x .names) (laid .same)
+
+    sample-is : wordsOf p (blocksIn s) ≡ sampleOf (laid .book) p
+    unfolding sampleOf
+    sample-is = ap (wordsOf p) (blocks-in s (r .layout) laid)
+
+    pub stopped-parent : (x : Inferred) → r .layout .names ≤ p → x ≡ inferred (noModel BadParent) → x ≡ inferred (modelAnswer s p)
+    unfolding modelAnswer noModel badParent
+    stopped-parent x h e = rw (laid .read, le-ltb p (length (laid .book .names)) (omega (arith, names-are))) e
+
+    module _ (below : p < r .layout .names) (k : ℕ) (counted : k ≡ length (wordsOf p (blocksIn s))) where
+      count-is : k ≡ length (sampleOf (laid .book) p)
+      count-is = counted ∙ ap length sample-is
+
+      pub stopped-none : (x : Inferred) → k ≡ 0 → x ≡ inferred (noModel NoBlock) → x ≡ inferred (modelAnswer s p)
+      unfolding modelAnswer noModel badParent
+      stopped-none x z e =
+          rw (laid .read, lt-ltb p (length (laid .book .names)) (omega (arith, names-are)), none-there (sampleOf (laid .book) p) (sym count-is ∙ z)) e
+
+      pub model-made : (m : Model) → (k ≡ 0 → ⊥) → m ≡ chainOfWords (r .layout .names) (wordsOf p (blocksIn s)) → record { outcome = Done; model = m } ≡ inferred (modelAnswer s p)
+      unfolding modelAnswer badParent chainIn inferred
+      model-made m d e =
+          rw (laid .read, lt-ltb p (length (laid .book .names)) (omega (arith, names-are)), some-there (sampleOf (laid .book) p) (λ z. d (count-is ∙ z)))
+          (ap (λ (x : Model). record { outcome = Done; model = x }) (e ∙ ap (λ (n : ℕ). chainOfWords n (wordsOf p (blocksIn s))) names-are ∙ ap (chainOfWords (length (laid .book .names))) sample-is))

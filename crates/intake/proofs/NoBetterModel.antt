@@ -1,0 +1,76 @@
+-- Demand 3, for the call: the model accepts every sample word, and every other chain that does accepts some word that ours does not.
+-- The statements to read; their proofs are cited from `minimal`, where the same is stated for lists of words.
+-- Assumes nothing.
+use Prim.Native.Nat.{ℕ, _+_, _≤_}
+use mathlib.Core.Path.{_≡_, sym, _∙_, ap, subst}
+use mathlib.Core.List.{List, []}
+use native.Mathlib.Omega.{arith}
+use lib.ListN.{length}
+use Rattle.refusal.specs.declared.Outcome.the-variants.{Done}
+use Rattle.refusal.specs.Answer.{given}
+use Rattle.nameset.specs.Places.{places}
+use Rattle.book.specs.Book.{Book, bookOf}
+use Rattle.model.specs.declared.Model.{Model}
+use Rattle.model.specs.Record.{none, IsChain}
+use Rattle.model.specs.Accept.{Accepts, Names}
+use Rattle.language.specs.Word.{AcceptsAll}
+use Rattle.follow.specs.Follow.{Follow}
+use Rattle.follow.specs.Sample.{SameWords}
+use Rattle.follow.proofs.Laws.{same-facts}
+use Rattle.levels.specs.Chain.{chainOf}
+use Rattle.minimal.proofs.Demand as Demand
+use Rattle.sample.specs.Sample.{chainOfWords}
+use Rattle.intake.specs.declared.Inferred.{Inferred}
+use Rattle.intake.specs.Inference.{sampleOf, chainIn, modelAnswer, inferred}
+use Rattle.intake.proofs.Samples.{few, sample-names, answer-given}
+
+-- For every book that is not refused and every parent with a block in it, whatever the call answered.
+module _ (bytes : List ℕ) (parent : ℕ) (answer : Inferred) (call : answer ≡ inferred (modelAnswer bytes parent))
+    (book : Book) (read : bookOf bytes ≡ given book) (block : ¬ (sampleOf book parent ≡ [])) where
+  -- the number of the book's names; the words of all blocks of the parent; the call's model
+  abbrev n : ℕ
+  n = length (book .names)
+
+  abbrev sample : List (List ℕ)
+  sample = sampleOf book parent
+
+  abbrev ours : Model
+  ours = answer .model
+
+  answer-is : answer ≡ record { outcome = Done; model = chainIn book parent }
+  unfolding inferred
+  answer-is = call ∙ ap inferred (answer-given bytes book read parent block)
+
+  -- The call is not refused,
+  pub not-refused : answer .outcome ≡ Done
+  not-refused = ap (λ (x : Inferred). x .outcome) answer-is
+
+  pub model-is : chainOfWords n sample ≡ ours
+  unfolding chainIn
+  model-is = sym (ap (λ (x : Inferred). x .model) answer-is)
+
+  small : places ≤ none
+  small = omega arith
+
+  -- its model is a chain over the book's names,
+  pub is-chain : IsChain places n ours
+  unfolding chainOfWords
+  is-chain = subst (IsChain places n) model-is (Demand.is-chain places n (few bytes book read) small sample (sample-names bytes book read parent) block)
+
+  -- it accepts every sample word,
+  pub accepts-sample : AcceptsAll ours sample
+  unfolding chainOfWords
+  accepts-sample = subst (λ (m : Model). AcceptsAll m sample) model-is (Demand.accepts-words places n (few bytes book read) small sample (sample-names bytes book read parent) block)
+
+  -- and every other chain over the book's names that accepts every sample word accepts a word, handed over here, that ours does not accept.
+  pub no-better : (other : Model) → IsChain places n other → AcceptsAll other sample → ¬ (other ≡ ours) →
+      (w : List ℕ) × Accepts other w × (¬ Accepts ours w) × (length w ≤ other .count + 1) × Names n w
+  unfolding chainOfWords
+  no-better other c a =
+      subst (λ (m : Model). ¬ (other ≡ m) → (w : List ℕ) × Accepts other w × (¬ Accepts m w) × (length w ≤ other .count + 1) × Names n w) model-is
+      (Demand.other-accepts-more places n (few bytes book read) small sample (sample-names bytes book read parent) block other c a)
+
+-- "In whatever order and however often": the chain depends only on which words there are.
+pub same-sample : (n : ℕ) (us vs : List (List ℕ)) → SameWords us vs → chainOfWords n us ≡ chainOfWords n vs
+unfolding chainOfWords
+same-sample n us vs same = ap (λ (f : Follow). chainOf places f) (same-facts n us vs same)

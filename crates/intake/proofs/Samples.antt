@@ -1,0 +1,67 @@
+-- The sample of a parent of a book that is not refused: what the theorem of demand 3 asks of it, and the call's answer.
+-- Assumes nothing.
+use Prim.Native.Nat.{ℕ, _≤_, _<_}
+use mathlib.Core.Path.{_≡_, refl, sym, _∙_, ap, subst}
+use mathlib.Core.Bool.{Bool, true, false, cond}
+use mathlib.Core.List.{List, [], _∷_, List·Memᴰ, List·Memᴰ·not-nil, List·Memᴰ·cases-cons}
+use mathlib.Core.Logic.{_⊎_, inl, inr}
+use lib.Dec.{eqb}
+use lib.ListN.{length}
+use borrow.Author.Tests.{lt-ltb, eqb-true}
+use Rattle.refusal.specs.declared.Outcome.the-variants.{Done}
+use Rattle.refusal.specs.Answer.{given}
+use Rattle.nameset.specs.Places.{places}
+use Rattle.book.specs.Book.{Block, Book, bookOf, blocksIn}
+use Rattle.book.specs.Layout.{layoutOf}
+use Rattle.book.specs.Access.{LaidOut}
+use Rattle.book.proofs.Told.{Within}
+use Rattle.book.proofs.Laws.{few-names, blocks-in, blocks-within}
+use Rattle.model.specs.Accept.{Names}
+use Rattle.follow.specs.Sample.{wordsOf, Over}
+use Rattle.follow.proofs.Laws.{sample-over}
+use Rattle.intake.specs.declared.Inferred.{Inferred}
+use Rattle.intake.specs.Inference.{sampleOf, noWord, badParent, chainIn, modelAnswer, inferred}
+
+over-in : (n : ℕ) (ws : List (List ℕ)) → Over n ws → (w : List ℕ) → List·Memᴰ w ws → Names n w
+over-in n [] o w i = absurd (List·Memᴰ·not-nil i)
+over-in n (v ∷ vs) o w i = go (List·Memᴰ·cases-cons i) (over-in n vs (o .1) w)
+  where
+    go : (w ≡ v) ⊎ List·Memᴰ w vs → (List·Memᴰ w vs → Names n w) → Names n w
+    go (inl e) ih = rw e (o .0)
+    go (inr j) ih = ih j
+
+-- a parent with a block is below n where every block's parent is
+parent-below : (n p : ℕ) (bs : List Block) → Within n bs → ¬ (wordsOf p bs ≡ []) → p < n
+unfolding wordsOf
+parent-below n p [] h d = absurd (d refl)
+parent-below n p (b ∷ bs) h d = go (eqb (b .parent) p) refl (parent-below n p bs (h .2)) d
+  where
+    go : (own : Bool) → eqb (b .parent) p ≡ own → (¬ (wordsOf p bs ≡ []) → p < n) → ¬ (cond own (b .word ∷ wordsOf p bs) (wordsOf p bs) ≡ []) → p < n
+    go true e ih d = subst (λ (x : ℕ). x < n) (eqb-true (b .parent) p e) (h .0)
+    go false e ih d = ih d
+
+word-there : (ws : List (List ℕ)) → ¬ (ws ≡ []) → noWord ws ≡ false
+unfolding noWord
+word-there [] d = absurd (d refl)
+word-there (w ∷ ws) d = refl
+
+module _ (bytes : List ℕ) (book : Book) (read : bookOf bytes ≡ given book) where
+  laid : LaidOut bytes (layoutOf book)
+  laid = record { book = book; read = read; same = refl }
+
+  pub few : length (book .names) ≤ places
+  unfolding layoutOf
+  few = few-names bytes (layoutOf book) laid
+
+  module _ (parent : ℕ) where
+    pub sample-names : (w : List ℕ) → List·Memᴰ w (sampleOf book parent) → Names (length (book .names)) w
+    unfolding layoutOf sampleOf laid
+    sample-names =
+        over-in (length (book .names)) (wordsOf parent (book .blocks))
+        (subst (λ (bs : List Block). Over (length (book .names)) (wordsOf parent bs)) (blocks-in bytes (layoutOf book) laid) (sample-over bytes (layoutOf book) parent laid))
+
+    pub answer-given : ¬ (sampleOf book parent ≡ []) → modelAnswer bytes parent ≡ given (chainIn book parent)
+    unfolding modelAnswer badParent sampleOf layoutOf laid
+    answer-given block =
+        let within : Within (length (book .names)) (book .blocks) = subst (Within (length (book .names))) (blocks-in bytes (layoutOf book) laid) (blocks-within bytes (layoutOf book) laid) in
+        rw (read, lt-ltb parent (length (book .names)) (parent-below (length (book .names)) parent (book .blocks) within block), word-there (wordsOf parent (book .blocks)) block)

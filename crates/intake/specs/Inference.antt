@@ -1,0 +1,50 @@
+-- The call for the model of a parent: its checks, in the order of paper 01's table, and its answer.
+-- Assumes nothing.
+use Prim.Native.Nat.{ℕ}
+use mathlib.Core.Bool.{Bool, true, false, not}
+use mathlib.Core.List.{List, [], _∷_}
+use lib.Dec.{ltb}
+use lib.ListN.{length}
+use Rattle.refusal.specs.declared.Refusal.{Refusal}
+use Rattle.refusal.specs.declared.Refusal.the-variants.{BadParent, NoBlock}
+use Rattle.refusal.specs.Answer.{Answer, given, refused, onward, refuseIf, valueOr, outcomeOf}
+use Rattle.nameset.specs.Places.{places}
+use Rattle.book.specs.Book.{Book, bookOf}
+use Rattle.model.specs.declared.Model.{Model}
+use Rattle.model.specs.Record.{emptyModel}
+use Rattle.follow.specs.Sample.{wordsOf}
+use Rattle.sample.specs.Sample.{chainOfWords}
+use Rattle.intake.specs.declared.Inferred.{Inferred}
+
+-- "A parent's sample is the words of all its blocks."
+unfoldable pub sampleOf : Book → ℕ → List (List ℕ)
+sampleOf b parent = wordsOf parent (b .blocks)
+
+-- No word: the parent has no block.
+unfoldable pub noWord : List (List ℕ) → Bool
+noWord [] = true
+noWord (w ∷ ws) = false
+
+-- 8: "not below N".
+unfoldable pub badParent : Book → ℕ → Bool
+badParent b parent = not (ltb parent (length (b .names)))
+
+-- The chain of the parent's sample over the book's names.
+unfoldable pub chainIn : Book → ℕ → Model
+chainIn b parent = chainOfWords (length (b .names)) (sampleOf b parent)
+
+-- The call's answer for any bytes as the book and any parent: 1 to 7, then 8, then "9: no block has it", else the chain.
+unfoldable pub modelAnswer : List ℕ → ℕ → Answer Model
+modelAnswer bytes parent =
+    onward (bookOf bytes) (λ b.
+    refuseIf (badParent b parent) BadParent
+    (refuseIf (noWord (sampleOf b parent)) NoBlock
+    (given (chainIn b parent))))
+
+-- No model, for this refusal.
+unfoldable pub noModel : Refusal → Answer Model
+noModel r = refused r
+
+-- The answer as the code has it: a refused call answers the empty model.
+unfoldable pub inferred : Answer Model → Inferred
+inferred a = record { outcome = outcomeOf a; model = valueOr (emptyModel places) a }
