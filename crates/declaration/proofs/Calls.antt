@@ -87,7 +87,7 @@ module _ (aside text : List ℕ) (size : ℕ) (filled : List ℕ) (put : Put asi
 -- ---- the checks before
 
 -- a call that stops with this refusal
-stopped : (d : List ℕ) (w : Written) (f : Refusal) (a : Answer (List ℕ)) → w ≡ written (noText f) → a ≡ refused f → (w ≡ written a) × (d ≡ bufferAfter d a)
+pub stopped : (d : List ℕ) (w : Written) (f : Refusal) (a : Answer (List ℕ)) → w ≡ written (noText f) → a ≡ refused f → (w ≡ written a) × (d ≡ bufferAfter d a)
 unfolding noText bufferAfter
 stopped d w f a e q = rw q (e, sym (wrote-none d 0))
 

@@ -27,7 +27,7 @@ pub struct Written {
 }
 
 // The answer of a refused call.
-fn refused(refusal: Refusal) -> Written
+pub fn refused(refusal: Refusal) -> Written
     ensures { λ r. ⌜ r ≡ written (noText refusal) ⌝ }
 {
     Written {

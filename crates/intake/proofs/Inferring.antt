@@ -20,8 +20,9 @@ use Rattle.book.proofs.Laws.{laid-out, book-refused, blocks-in}
 use Rattle.model.specs.declared.Model.{Model}
 use Rattle.follow.specs.Sample.{wordsOf}
 use Rattle.sample.specs.Sample.{chainOfWords}
+use Rattle.intake.specs.declared.Found.{Found}
 use Rattle.intake.specs.declared.Inferred.{Inferred}
-use Rattle.intake.specs.Inference.{sampleOf, noWord, badParent, chainIn, modelAnswer, noModel, inferred}
+use Rattle.intake.specs.Inference.{sampleOf, noWord, badParent, chainIn, modelIn, modelAnswer, noModel, inferred, found}
 
 none-there : (ws : List (List ℕ)) → length ws ≡ 0 → noWord ws ≡ true
 unfolding noWord
@@ -34,9 +35,9 @@ some-there [] d = absurd (d refl)
 some-there (w ∷ ws) d = refl
 
 module _ (s : List ℕ) (p : ℕ) (r : Reading) (read : r ≡ readingOf (bookOf s)) where
-  pub stopped-book : (x : Inferred) (f : Refusal) → r .outcome ≡ Refused f → x ≡ inferred (noModel f) → x ≡ inferred (modelAnswer s p)
-  unfolding modelAnswer noModel
-  stopped-book x f o e = rw (book-refused (bookOf s) r f read o) e
+  pub stopped-book : (x : Found) (f : Refusal) → r .outcome ≡ Refused f → x ≡ found r (noModel f) → x ≡ found (readingOf (bookOf s)) (modelAnswer s p)
+  unfolding modelAnswer modelIn noModel
+  stopped-book x f o e = rw (← read, book-refused (bookOf s) r f read o) e
 
   module _ (done : r .outcome ≡ Done) where
     pub laid : LaidOut s (r .layout)
@@ -50,21 +51,27 @@ module _ (s : List ℕ) (p : ℕ) (r : Reading) (read : r ≡ readingOf (bookOf 
     unfolding sampleOf
     sample-is = ap (wordsOf p) (blocks-in s (r .layout) laid)
 
-    pub stopped-parent : (x : Inferred) → r .layout .names ≤ p → x ≡ inferred (noModel BadParent) → x ≡ inferred (modelAnswer s p)
-    unfolding modelAnswer noModel badParent
-    stopped-parent x h e = rw (laid .read, le-ltb p (length (laid .book .names)) (omega (arith, names-are))) e
+    pub stopped-parent : (x : Found) → r .layout .names ≤ p → x ≡ found r (noModel BadParent) → x ≡ found (readingOf (bookOf s)) (modelAnswer s p)
+    unfolding modelAnswer modelIn noModel badParent
+    stopped-parent x h e = rw (← read, laid .read, le-ltb p (length (laid .book .names)) (omega (arith, names-are))) e
 
     module _ (below : p < r .layout .names) (k : ℕ) (counted : k ≡ length (wordsOf p (blocksIn s))) where
       count-is : k ≡ length (sampleOf (laid .book) p)
       count-is = counted ∙ ap length sample-is
 
-      pub stopped-none : (x : Inferred) → k ≡ 0 → x ≡ inferred (noModel NoBlock) → x ≡ inferred (modelAnswer s p)
-      unfolding modelAnswer noModel badParent
+      pub stopped-none : (x : Found) → k ≡ 0 → x ≡ found r (noModel NoBlock) → x ≡ found (readingOf (bookOf s)) (modelAnswer s p)
+      unfolding modelAnswer modelIn noModel badParent
       stopped-none x z e =
-          rw (laid .read, lt-ltb p (length (laid .book .names)) (omega (arith, names-are)), none-there (sampleOf (laid .book) p) (sym count-is ∙ z)) e
+          rw (← read, laid .read, lt-ltb p (length (laid .book .names)) (omega (arith, names-are)), none-there (sampleOf (laid .book) p) (sym count-is ∙ z)) e
 
-      pub model-made : (m : Model) → (k ≡ 0 → ⊥) → m ≡ chainOfWords (r .layout .names) (wordsOf p (blocksIn s)) → record { outcome = Done; model = m } ≡ inferred (modelAnswer s p)
-      unfolding modelAnswer badParent chainIn inferred
+      pub model-made : (m : Model) → (k ≡ 0 → ⊥) → m ≡ chainOfWords (r .layout .names) (wordsOf p (blocksIn s)) → record { outcome = Done; layout = r .layout; model = m } ≡ found (readingOf (bookOf s)) (modelAnswer s p)
+      unfolding modelAnswer modelIn badParent chainIn found
       model-made m d e =
-          rw (laid .read, lt-ltb p (length (laid .book .names)) (omega (arith, names-are)), some-there (sampleOf (laid .book) p) (λ z. d (count-is ∙ z)))
-          (ap (λ (x : Model). record { outcome = Done; model = x }) (e ∙ ap (λ (n : ℕ). chainOfWords n (wordsOf p (blocksIn s))) names-are ∙ ap (chainOfWords (length (laid .book .names))) sample-is))
+          rw (← read, laid .read, lt-ltb p (length (laid .book .names)) (omega (arith, names-are)), some-there (sampleOf (laid .book) p) (λ z. d (count-is ∙ z)))
+          (ap (λ (x : Model). record { outcome = Done; layout = r .layout; model = x }) (e ∙ ap (λ (n : ℕ). chainOfWords n (wordsOf p (blocksIn s))) names-are ∙ ap (chainOfWords (length (laid .book .names))) sample-is))
+
+-- ---- the layout left out
+
+pub without-layout : (x : Found) (r : Reading) (a : Answer Model) → x ≡ found r a → record { outcome = x .outcome; model = x .model } ≡ inferred a
+unfolding inferred found
+without-layout x r a e = ap (λ (y : Found). record { outcome = y .outcome; model = y .model }) e

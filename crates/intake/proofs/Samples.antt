@@ -20,7 +20,7 @@ use Rattle.model.specs.Accept.{Names}
 use Rattle.follow.specs.Sample.{wordsOf, Over}
 use Rattle.follow.proofs.Laws.{sample-over}
 use Rattle.intake.specs.declared.Inferred.{Inferred}
-use Rattle.intake.specs.Inference.{sampleOf, noWord, badParent, chainIn, modelAnswer, inferred}
+use Rattle.intake.specs.Inference.{sampleOf, noWord, badParent, chainIn, modelIn, modelAnswer, inferred}
 
 over-in : (n : ℕ) (ws : List (List ℕ)) → Over n ws → (w : List ℕ) → List·Memᴰ w ws → Names n w
 over-in n [] o w i = absurd (List·Memᴰ·not-nil i)
@@ -61,7 +61,7 @@ module _ (bytes : List ℕ) (book : Book) (read : bookOf bytes ≡ given book) w
         (subst (λ (bs : List Block). Over (length (book .names)) (wordsOf parent bs)) (blocks-in bytes (layoutOf book) laid) (sample-over bytes (layoutOf book) parent laid))
 
     pub answer-given : ¬ (sampleOf book parent ≡ []) → modelAnswer bytes parent ≡ given (chainIn book parent)
-    unfolding modelAnswer badParent sampleOf layoutOf laid
+    unfolding modelAnswer modelIn badParent sampleOf layoutOf laid
     answer-given block =
         let within : Within (length (book .names)) (book .blocks) = subst (Within (length (book .names))) (blocks-in bytes (layoutOf book) laid) (blocks-within bytes (layoutOf book) laid) in
         rw (read, lt-ltb parent (length (book .names)) (parent-below (length (book .names)) parent (book .blocks) within block), word-there (wordsOf parent (book .blocks)) block)

@@ -9,12 +9,14 @@ use Rattle.refusal.specs.declared.Refusal.{Refusal}
 use Rattle.refusal.specs.declared.Refusal.the-variants.{BadParent, NoBlock}
 use Rattle.refusal.specs.Answer.{Answer, given, refused, onward, refuseIf, valueOr, outcomeOf}
 use Rattle.nameset.specs.Places.{places}
+use Rattle.book.specs.declared.Reading.{Reading}
 use Rattle.book.specs.Book.{Book, bookOf}
 use Rattle.model.specs.declared.Model.{Model}
 use Rattle.model.specs.Record.{emptyModel}
 use Rattle.follow.specs.Sample.{wordsOf}
 use Rattle.sample.specs.Sample.{chainOfWords}
 use Rattle.intake.specs.declared.Inferred.{Inferred}
+use Rattle.intake.specs.declared.Found.{Found}
 
 -- "A parent's sample is the words of all its blocks."
 unfoldable pub sampleOf : Book → ℕ → List (List ℕ)
@@ -33,18 +35,22 @@ badParent b parent = not (ltb parent (length (b .names)))
 unfoldable pub chainIn : Book → ℕ → Model
 chainIn b parent = chainOfWords (length (b .names)) (sampleOf b parent)
 
--- The call's answer for any bytes as the book and any parent: 1 to 7, then 8, then "9: no block has it", else the chain.
-unfoldable pub modelAnswer : List ℕ → ℕ → Answer Model
-modelAnswer bytes parent =
-    onward (bookOf bytes) (λ b.
-    refuseIf (badParent b parent) BadParent
-    (refuseIf (noWord (sampleOf b parent)) NoBlock
-    (given (chainIn b parent))))
+-- 8, then "9: no block has it", else the chain.
+unfoldable pub modelIn : Book → ℕ → Answer Model
+modelIn b parent = refuseIf (badParent b parent) BadParent (refuseIf (noWord (sampleOf b parent)) NoBlock (given (chainIn b parent)))
 
--- No model, for this refusal.
-unfoldable pub noModel : Refusal → Answer Model
-noModel r = refused r
+-- The call's answer for any bytes as the book and any parent: 1 to 7, then those.
+unfoldable pub modelAnswer : List ℕ → ℕ → Answer Model
+modelAnswer bytes parent = onward (bookOf bytes) (λ b. modelIn b parent)
 
 -- The answer as the code has it: a refused call answers the empty model.
 unfoldable pub inferred : Answer Model → Inferred
 inferred a = record { outcome = outcomeOf a; model = valueOr (emptyModel places) a }
+
+-- The same, with the layout of the book for whoever goes back to its names.
+unfoldable pub found : Reading → Answer Model → Found
+found r a = record { outcome = outcomeOf a; layout = r .layout; model = valueOr (emptyModel places) a }
+
+-- No model, for this refusal.
+unfoldable pub noModel : Refusal → Answer Model
+noModel r = refused r

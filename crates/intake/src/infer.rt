@@ -1,41 +1,58 @@
 // The model of a parent, from the words of its blocks.
+use super::Found;
 use super::Inferred;
+use book::Reading;
 use model::Model;
 use refusal::Outcome;
 use refusal::Refusal;
 ghost use mathlib.Core.Path.{_≡_};
-ghost use Rattle.intake.specs.Inference.{modelAnswer, noModel, inferred};
+ghost use Rattle.book.specs.Book.{bookOf};
+ghost use Rattle.book.specs.Layout.{readingOf};
+ghost use Rattle.intake.specs.Inference.{modelAnswer, noModel, inferred, found};
 
-// The answer of a refused call.
-fn refused(refusal: Refusal) -> Inferred
-    ensures { λ r. ⌜ r ≡ inferred (noModel refusal) ⌝ }
+// The answer where there is no model.
+fn stopped(reading: Reading, refusal: Refusal) -> Found
+    ensures { λ r. ⌜ r ≡ found reading (noModel refusal) ⌝ }
 {
-    Inferred {
+    let layout = reading.layout;
+    Found {
         outcome: Outcome::Refused(refusal),
+        layout,
         model: Model::empty(),
     }
 }
 
-// The call: any bytes as the book, any parent. 1 to 7, then 8, then 9, else the model.
-pub fn model_of_parent(bytes: &[u8], parent: usize) -> Inferred
-    ensures { λ r. ⌜ r ≡ inferred (modelAnswer (now (bytes .entry)) parent) ⌝ }
+// 1 to 7, then 8, then 9, else the model.
+pub fn find_model(bytes: &[u8], parent: usize) -> Found
+    ensures { λ r. ⌜ r ≡ found (readingOf (bookOf (now (bytes .entry)))) (modelAnswer (now (bytes .entry)) parent) ⌝ }
 {
     let reading = book::read_book(bytes);
     let outcome = reading.outcome;
     if let Outcome::Refused(refusal) = outcome {
-        return refused(refusal);
+        return stopped(reading, refusal);
     }
     let layout = reading.layout;
     if layout.names <= parent {
-        return refused(Refusal::BadParent);
+        return stopped(reading, Refusal::BadParent);
     }
-    let found = sample::sample_chain(bytes, layout, parent);
-    if found.blocks == 0 {
-        return refused(Refusal::NoBlock);
+    let sample = sample::sample_chain(bytes, layout, parent);
+    if sample.blocks == 0 {
+        return stopped(reading, Refusal::NoBlock);
     }
-    let model = found.model;
-    Inferred {
+    let model = sample.model;
+    Found {
         outcome: Outcome::Done,
+        layout,
         model,
     }
+}
+
+// The call: any bytes as the book, any parent.
+pub fn model_of_parent(bytes: &[u8], parent: usize) -> Inferred
+    ensures { λ r. ⌜ r ≡ inferred (modelAnswer (now (bytes .entry)) parent) ⌝ }
+{
+    let found = find_model(bytes, parent);
+    let outcome = found.outcome;
+    let model = found.model;
+    Inferred { outcome, model }
 }

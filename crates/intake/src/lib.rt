@@ -1,13 +1,16 @@
 // The calls open to the outside. None has a requirement: each says for every input what it answers.
+use book::Layout;
 use model::Model;
 use refusal::Outcome;
 use refusal::Refusal;
 
 mod accept; // accept.rt: whether a model accepts a word
 mod infer; // infer.rt: the model of a parent
+mod write; // write.rt: the declaration of a parent's model
 
 pub use accept::accepts_word;
 pub use infer::model_of_parent;
+pub use write::write_from_sample;
 
 // Whether a word is accepted, or why the call stopped.
 pub enum Acceptance {
@@ -20,4 +23,11 @@ pub enum Acceptance {
 pub struct Inferred {
     pub outcome: Outcome,
     pub model: Model,
+}
+
+// The same, with the layout of the book for whoever goes back to its names.
+struct Found {
+    outcome: Outcome,
+    layout: Layout,
+    model: Model,
 }

@@ -1,57 +1,15 @@
--- `model_of_parent` meets its contract: the book, the parent, its blocks.
+-- `model_of_parent` meets its contract: what `find_model` answers, without the layout.
 -- Assumes nothing.
 use borrow.Author.Needs.{needs}
-use Rattle.intake.proofs.Inferring.{stopped-book, laid, stopped-parent, stopped-none, model-made}
+use Rattle.intake.proofs.Inferring.{without-layout}
 use Rattle.intake.proofs.infer.model_of_parent.Statement.{statement}
 use Rattle.intake.proofs.infer.model_of_parent.Tie as tie
 
-read-book-requires : tie.Need-read-book-requires
-read-book-requires c κs = search needs
-
-enum-known-outcome : tie.Need-enum-known-outcome
-enum-known-outcome c = search needs
-
-refused-requires : tie.Need-refused-requires
-refused-requires c κs = search needs
+find-model-requires : tie.Need-find-model-requires
+find-model-requires c κs = search needs
 
 returns : tie.Need-returns
-returns c = stopped-book _ _ _ (c .before .before .before .before .read-book .ensures) _ _ (c .before .before .outcome .given .1) (c .refused .ensures)
-
-enum-told : tie.Need-enum-told
-enum-told c = search needs
-
-refused-requires-2 : tie.Need-refused-requires-2
-refused-requires-2 c κs = search needs
-
-returns-2 : tie.Need-returns-2
-returns-2 c = stopped-parent _ _ _ (c .before .before .before .before .before .before .read-book .ensures) (c .before .before .before .before .enum-told .given .1) _ (c .before .if1 .taken) (c .refused2 .ensures)
-
-sample-chain-requires : tie.Need-sample-chain-requires
-sample-chain-requires c κs = laid _ (c .before .before .before .before .before .before .before .args .parent) _ (c .before .before .before .before .before .read-book .ensures) (c .before .before .before .enum-told .given .1)
-
-refused-requires-3 : tie.Need-refused-requires-3
-refused-requires-3 c κs = search needs
-
-returns-3 : tie.Need-returns-3
-returns-3 c =
-    stopped-none _ _ _ (c .before .before .before .before .before .before .before .before .before .read-book .ensures) (c .before .before .before .before .before .before .before .enum-told .given .1) (c .before .before .before .before .if1 .left) _ (c .before .before .before .sample-chain .ensures .0) _ (c .before .if2 .taken) (c .refused3 .ensures)
-
-returns-4 : tie.Need-returns-4
-returns-4 c =
-    model-made _ _ _ (c .before .before .before .before .before .before .before .before .before .read-book .ensures) (c .before .before .before .before .before .before .before .enum-told .given .1) (c .before .before .before .before .if1 .left) _ (c .before .before .before .sample-chain .ensures .0) _ (c .before .if2 .left) (c .before .before .before .sample-chain .ensures .1)
+returns c = without-layout _ _ _ (c .before .find-model .ensures)
 
 pub model-of-parent-spec : {M : Type 1} → statement M
-model-of-parent-spec =
-    tie.close
-    (tie.spec
-    read-book-requires
-    enum-known-outcome
-    refused-requires
-    returns
-    enum-told
-    refused-requires-2
-    returns-2
-    sample-chain-requires
-    refused-requires-3
-    returns-3
-    returns-4)
+model-of-parent-spec = tie.close (tie.spec find-model-requires returns)

@@ -1,0 +1,23 @@
+// The declaration of a parent, with the model that its sample gives.
+use declaration::Written;
+use refusal::Outcome;
+use super::infer::find_model;
+ghost use mathlib.Core.Path.{_≡_};
+ghost use lib.ListN.{length};
+ghost use Rattle.declaration.specs.Write.{written, bufferAfter};
+ghost use Rattle.intake.specs.Writing.{sampleText};
+
+// The call: any bytes as the book, any parent, any buffer. 1 to 7, then 8, then 9, then 12, else the declaration.
+pub fn write_from_sample(bytes: &[u8], parent: usize, buffer: &mut [u8]) -> Written
+    ensures { λ r. ⌜ (r ≡ written (sampleText (now (bytes .entry)) parent (length (now (buffer .entry)))))
+        × (now (buffer .exit) ≡ bufferAfter (now (buffer .entry)) (sampleText (now (bytes .entry)) parent (length (now (buffer .entry))))) ⌝ }
+{
+    let found = find_model(bytes, parent);
+    let outcome = found.outcome;
+    if let Outcome::Refused(refusal) = outcome {
+        return declaration::refused(refusal);
+    }
+    let layout = found.layout;
+    let model = found.model;
+    declaration::write_chain(bytes, layout, parent, model, buffer)
+}
