@@ -29,7 +29,7 @@ use Rattle.declaration.specs.declared.Written.{Written}
 use Rattle.declaration.specs.Put.{wrote, Put}
 use Rattle.declaration.specs.Parts.{textOf}
 use Rattle.declaration.specs.Write.{fitted, writeAnswer, noText, written, bufferAfter}
-use Rattle.declaration.proofs.Puts.{wrote-none, wrote-back}
+use Rattle.declaration.proofs.Puts.{wrote-none, wrote-back, put-is}
 use Rattle.declaration.proofs.Text.{text-is}
 
 -- ---- a chain of a book that was read
@@ -39,19 +39,27 @@ module _ (s : List ℕ) (l : Layout) (laid : LaidOut s l) (p : ℕ) (below : p <
   chain = subst (λ (n : ℕ). IsChain places n m) (name-count s l laid) c
 
   -- what is put together is the declaration, and it fits aside
-  pub whole-is : textOf (namesIn s) (l .names) p m ≡ declaration (namesIn s) p m
+  whole-is : textOf (namesIn s) (l .names) p m ≡ declaration (namesIn s) p m
   whole-is = ap (λ (n : ℕ). textOf (namesIn s) n p m) (name-count s l laid) ∙ text-is (namesIn s) p m chain
 
-  pub whole-fits : (z : ℕ) → z ≡ longestDeclaration → length (textOf (namesIn s) (l .names) p m) ≤ z
-  whole-fits z e =
-      let q : p < length (namesIn s) = omega (arith, name-count s l laid) in
-      let h : length (declaration (namesIn s) p m) ≤ longestDeclaration = book-longest s l laid p m q chain in
-      let k : length (textOf (namesIn s) (l .names) p m) ≡ length (declaration (namesIn s) p m) = ap length whole-is in
-      omega arith
+  pub text-room : (at z : ℕ) → at + length (declaration (namesIn s) p m) ≤ z → at + length (textOf (namesIn s) (l .names) p m) ≤ z
+  text-room at z h = rw whole-is h
+
+  pub declaration-put : (d : List ℕ) (at to : ℕ) (e : List ℕ) → Put d at (textOf (namesIn s) (l .names) p m) to e → Put d at (declaration (namesIn s) p m) to e
+  declaration-put d at to e = put-is d at (textOf (namesIn s) (l .names) p m) (declaration (namesIn s) p m) to e whole-is
+
+  pub declaration-short : length (declaration (namesIn s) p m) ≤ longestDeclaration
+  declaration-short = let q : p < length (namesIn s) = omega (arith, name-count s l laid) in book-longest s l laid p m q chain
+
+  pub fits-aside : (z : ℕ) → z ≡ longestDeclaration → 0 + length (declaration (namesIn s) p m) ≤ z
+  fits-aside z e = let h : length (declaration (namesIn s) p m) ≤ longestDeclaration = declaration-short in omega arith
 
 -- ---- 12, else the text
 
-module _ (aside text : List ℕ) (size : ℕ) (filled : List ℕ) (put : Put aside 0 text size filled) (fits : length text ≤ length aside) where
+module _ (aside text : List ℕ) (size : ℕ) (filled : List ℕ) (put : Put aside 0 text size filled) (room : 0 + length text ≤ length aside) where
+  fits : length text ≤ length aside
+  fits = omega arith
+
   pub size-is : size ≡ length text
   size-is = omega (arith, put .place)
 
@@ -66,23 +74,19 @@ module _ (aside text : List ℕ) (size : ℕ) (filled : List ℕ) (put : Put asi
   pub part-fits : (part d : List ℕ) → part ≡ take (size - 0) (drop 0 filled) → size ≤ length d → 0 + length part ≤ length d
   part-fits part d e h = let k : length part ≡ length text = ap length (part-is part e) in omega (arith, size-is)
 
-  module _ (declared d : List ℕ) (is : text ≡ declared) where
-    pub too-short : (r : Written) → length d < size → r ≡ written (noText BufferTooShort) → (r ≡ written (fitted (length d) declared)) × (d ≡ bufferAfter d (fitted (length d) declared))
+  module _ (d : List ℕ) where
+    pub too-short : (r : Written) → length d < size → r ≡ written (noText BufferTooShort) → (r ≡ written (fitted (length d) text)) × (d ≡ bufferAfter d (fitted (length d) text))
     unfolding written bufferAfter fitted noText
     too-short r h e =
-        let k : length text ≡ length declared = ap length is in
-        let t : length d < length declared = omega (arith, size-is) in
-        rw (lt-ltb (length d) (length declared) t) (e, sym (wrote-none d 0))
+        let t : length d < length text = omega (arith, size-is) in
+        rw (lt-ltb (length d) (length text) t) (e, sym (wrote-none d 0))
 
     pub all-put : (part : List ℕ) (n : ℕ) (f : List ℕ) → size ≤ length d → part ≡ take (size - 0) (drop 0 filled) → Put d 0 part n f →
-        (record { outcome = Done; length = size } ≡ written (fitted (length d) declared)) × (f ≡ bufferAfter d (fitted (length d) declared))
+        (record { outcome = Done; length = size } ≡ written (fitted (length d) text)) × (f ≡ bufferAfter d (fitted (length d) text))
     unfolding written bufferAfter fitted
     all-put part n f h e q =
-        let a : part ≡ declared = part-is part e ∙ is in
-        let k : length text ≡ length declared = ap length is in
-        let b : size ≡ length declared = size-is ∙ k in
-        let t : length declared ≤ length d = omega (arith, size-is) in
-        rw (le-ltb (length d) (length declared) t) (ap (λ (x : ℕ). record { outcome = Done; length = x }) b, q .holds ∙ ap (wrote d 0) a)
+        let t : length text ≤ length d = omega (arith, size-is) in
+        rw (le-ltb (length d) (length text) t) (ap (λ (x : ℕ). record { outcome = Done; length = x }) size-is, q .holds ∙ ap (wrote d 0) (part-is part e))
 
 -- ---- the checks before
 

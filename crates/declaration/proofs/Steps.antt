@@ -207,44 +207,41 @@ module _ (names : List (List ℕ)) (n : ℕ) (m : Model) where
 
   -- ---- the whole
 
-  module _ (p : ℕ) (d : List ℕ) (fits : length (textOf names n p m) ≤ length d) where
-    room : 0 + length (textOf names n p m) ≤ length d
-    room = omega arith
-
-    start : Left d 0 (textOf names n p m) d 0 ((60 ∷ 33 ∷ 69 ∷ 76 ∷ 69 ∷ 77 ∷ 69 ∷ 78 ∷ 84 ∷ 32 ∷ []) ++ (nameAt names p ++ (shown 32 ++ (modelText names n m ++ shown 62))))
+  module _ (p : ℕ) (d : List ℕ) (at : ℕ) (room : at + length (textOf names n p m) ≤ length d) where
+    start : Left d at (textOf names n p m) d at ((60 ∷ 33 ∷ 69 ∷ 76 ∷ 69 ∷ 77 ∷ 69 ∷ 78 ∷ 84 ∷ 32 ∷ []) ++ (nameAt names p ++ (shown 32 ++ (modelText names n m ++ shown 62))))
     unfolding textOf opening
-    start = left-start d 0 (textOf names n p m)
+    start = left-start d at (textOf names n p m)
 
-    pub opening-room : 0 + 10 ≤ length d
-    opening-room = left-room d 0 (textOf names n p m) d 0 (60 ∷ 33 ∷ 69 ∷ 76 ∷ 69 ∷ 77 ∷ 69 ∷ 78 ∷ 84 ∷ 32 ∷ []) (nameAt names p ++ (shown 32 ++ (modelText names n m ++ shown 62))) start room
+    pub opening-room : at + 10 ≤ length d
+    opening-room = left-room d at (textOf names n p m) d at (60 ∷ 33 ∷ 69 ∷ 76 ∷ 69 ∷ 77 ∷ 69 ∷ 78 ∷ 84 ∷ 32 ∷ []) (nameAt names p ++ (shown 32 ++ (modelText names n m ++ shown 62))) start room
 
-    module _ (t₁ : ℕ) (d₁ : List ℕ) (p₁ : Put d 0 (60 ∷ 33 ∷ 69 ∷ 76 ∷ 69 ∷ 77 ∷ 69 ∷ 78 ∷ 84 ∷ 32 ∷ []) t₁ d₁) where
-      l₁ : Left d 0 (textOf names n p m) d₁ t₁ (nameAt names p ++ (shown 32 ++ (modelText names n m ++ shown 62)))
-      l₁ = left-put d 0 (textOf names n p m) d 0 (60 ∷ 33 ∷ 69 ∷ 76 ∷ 69 ∷ 77 ∷ 69 ∷ 78 ∷ 84 ∷ 32 ∷ []) (nameAt names p ++ (shown 32 ++ (modelText names n m ++ shown 62))) d₁ t₁ start p₁
+    module _ (t₁ : ℕ) (d₁ : List ℕ) (p₁ : Put d at (60 ∷ 33 ∷ 69 ∷ 76 ∷ 69 ∷ 77 ∷ 69 ∷ 78 ∷ 84 ∷ 32 ∷ []) t₁ d₁) where
+      l₁ : Left d at (textOf names n p m) d₁ t₁ (nameAt names p ++ (shown 32 ++ (modelText names n m ++ shown 62)))
+      l₁ = left-put d at (textOf names n p m) d at (60 ∷ 33 ∷ 69 ∷ 76 ∷ 69 ∷ 77 ∷ 69 ∷ 78 ∷ 84 ∷ 32 ∷ []) (nameAt names p ++ (shown 32 ++ (modelText names n m ++ shown 62))) d₁ t₁ start p₁
 
       pub parent-room : t₁ + length (nameAt names p) ≤ length d₁
-      parent-room = left-room d 0 (textOf names n p m) d₁ t₁ (nameAt names p) (shown 32 ++ (modelText names n m ++ shown 62)) l₁ room
+      parent-room = left-room d at (textOf names n p m) d₁ t₁ (nameAt names p) (shown 32 ++ (modelText names n m ++ shown 62)) l₁ room
 
       module _ (t₂ : ℕ) (d₂ : List ℕ) (p₂ : Put d₁ t₁ (nameAt names p) t₂ d₂) where
-        l₂ : Left d 0 (textOf names n p m) d₂ t₂ (shown 32 ++ (modelText names n m ++ shown 62))
-        l₂ = left-put d 0 (textOf names n p m) d₁ t₁ (nameAt names p) (shown 32 ++ (modelText names n m ++ shown 62)) d₂ t₂ l₁ p₂
+        l₂ : Left d at (textOf names n p m) d₂ t₂ (shown 32 ++ (modelText names n m ++ shown 62))
+        l₂ = left-put d at (textOf names n p m) d₁ t₁ (nameAt names p) (shown 32 ++ (modelText names n m ++ shown 62)) d₂ t₂ l₁ p₂
 
         pub space-room : t₂ + length (shown 32) ≤ length d₂
-        space-room = left-room d 0 (textOf names n p m) d₂ t₂ (shown 32) (modelText names n m ++ shown 62) l₂ room
+        space-room = left-room d at (textOf names n p m) d₂ t₂ (shown 32) (modelText names n m ++ shown 62) l₂ room
 
         module _ (t₃ : ℕ) (d₃ : List ℕ) (p₃ : Put d₂ t₂ (shown 32) t₃ d₃) where
-          l₃ : Left d 0 (textOf names n p m) d₃ t₃ (modelText names n m ++ shown 62)
-          l₃ = left-put d 0 (textOf names n p m) d₂ t₂ (shown 32) (modelText names n m ++ shown 62) d₃ t₃ l₂ p₃
+          l₃ : Left d at (textOf names n p m) d₃ t₃ (modelText names n m ++ shown 62)
+          l₃ = left-put d at (textOf names n p m) d₂ t₂ (shown 32) (modelText names n m ++ shown 62) d₃ t₃ l₂ p₃
 
           pub model-room : t₃ + length (modelText names n m) ≤ length d₃
-          model-room = left-room d 0 (textOf names n p m) d₃ t₃ (modelText names n m) (shown 62) l₃ room
+          model-room = left-room d at (textOf names n p m) d₃ t₃ (modelText names n m) (shown 62) l₃ room
 
           module _ (t₄ : ℕ) (d₄ : List ℕ) (p₄ : Put d₃ t₃ (modelText names n m) t₄ d₄) where
-            l₄ : Left d 0 (textOf names n p m) d₄ t₄ (shown 62)
-            l₄ = left-put d 0 (textOf names n p m) d₃ t₃ (modelText names n m) (shown 62) d₄ t₄ l₃ p₄
+            l₄ : Left d at (textOf names n p m) d₄ t₄ (shown 62)
+            l₄ = left-put d at (textOf names n p m) d₃ t₃ (modelText names n m) (shown 62) d₄ t₄ l₃ p₄
 
             pub end-room : t₄ + length (shown 62) ≤ length d₄
-            end-room = left-fits d 0 (textOf names n p m) d₄ t₄ (shown 62) l₄ room
+            end-room = left-fits d at (textOf names n p m) d₄ t₄ (shown 62) l₄ room
 
-            pub text-put : (t₅ : ℕ) (d₅ : List ℕ) → Put d₄ t₄ (shown 62) t₅ d₅ → Put d 0 (textOf names n p m) t₅ d₅
-            text-put t₅ d₅ p₅ = left-last d 0 (textOf names n p m) d₄ t₄ (shown 62) d₅ t₅ l₄ p₅
+            pub text-put : (t₅ : ℕ) (d₅ : List ℕ) → Put d₄ t₄ (shown 62) t₅ d₅ → Put d at (textOf names n p m) t₅ d₅
+            text-put t₅ d₅ p₅ = left-last d at (textOf names n p m) d₄ t₄ (shown 62) d₅ t₅ l₄ p₅

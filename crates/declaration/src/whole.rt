@@ -47,12 +47,12 @@ fn put_model(buffer: &mut [u8], at: usize, bytes: &[u8], layout: Layout, m: Mode
     put_some(buffer, to, b')')
 }
 
-// The whole, from the buffer's start on.
-pub fn put_declaration(buffer: &mut [u8], bytes: &[u8], layout: Layout, parent: usize, m: Model) -> usize
-    requires { ⌜ LaidOut (now bytes) layout × (parent < layout .names) × (length (textOf (namesIn (now bytes)) (layout .names) parent m) ≤ length (now buffer)) ⌝ }
-    ensures { λ r. ⌜ Put (now (buffer .entry)) 0 (textOf (namesIn (now (bytes .entry))) (layout .names) parent m) r (now (buffer .exit)) ⌝ }
+// The whole.
+pub fn put_text(buffer: &mut [u8], at: usize, bytes: &[u8], layout: Layout, parent: usize, m: Model) -> usize
+    requires { ⌜ LaidOut (now bytes) layout × (parent < layout .names) × (at + length (textOf (namesIn (now bytes)) (layout .names) parent m) ≤ length (now buffer)) ⌝ }
+    ensures { λ r. ⌜ Put (now (buffer .entry)) at (textOf (namesIn (now (bytes .entry))) (layout .names) parent m) r (now (buffer .exit)) ⌝ }
 {
-    let opened = put_all(buffer, 0, b"<!ELEMENT ");
+    let opened = put_all(buffer, at, b"<!ELEMENT ");
     let named = put_name(buffer, opened, bytes, layout, parent);
     let spaced = put_some(buffer, named, b' ');
     let modelled = put_model(buffer, spaced, bytes, layout, m);
