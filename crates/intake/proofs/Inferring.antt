@@ -24,12 +24,12 @@ use Rattle.intake.specs.declared.Found.{Found}
 use Rattle.intake.specs.declared.Inferred.{Inferred}
 use Rattle.intake.specs.Inference.{sampleOf, noWord, badParent, chainIn, modelIn, modelAnswer, noModel, inferred, found}
 
-none-there : (ws : List (List ℕ)) → length ws ≡ 0 → noWord ws ≡ true
+pub none-there : (ws : List (List ℕ)) → length ws ≡ 0 → noWord ws ≡ true
 unfolding noWord
 none-there [] e = refl
 none-there (w ∷ ws) e = absurd (let z : _≡_ {A = ℕ} (suc (length ws)) 0 = e in omega arith)
 
-some-there : (ws : List (List ℕ)) → (length ws ≡ 0 → ⊥) → noWord ws ≡ false
+pub some-there : (ws : List (List ℕ)) → (length ws ≡ 0 → ⊥) → noWord ws ≡ false
 unfolding noWord
 some-there [] d = absurd (d refl)
 some-there (w ∷ ws) d = refl

@@ -42,7 +42,7 @@ record Given (s : List ℕ) (p : ℕ) (m : Model) : Type 0 where
   due : modelIn book p ≡ given m
   is : chainIn book p ≡ m
 
-has-word : (ws : List (List ℕ)) → noWord ws ≡ false → ¬ (ws ≡ [])
+pub has-word : (ws : List (List ℕ)) → noWord ws ≡ false → ¬ (ws ≡ [])
 unfolding noWord
 has-word [] e z = absurd (let z : _≡_ {A = ℕ} 0 1 = cc in omega arith)
 has-word (w ∷ ws) e z = absurd (let q : _≡_ {A = ℕ} (length (w ∷ ws)) 0 = ap length z in omega arith)
