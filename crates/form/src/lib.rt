@@ -22,21 +22,20 @@ const NOWHERE: usize = 11;
 // The signal of each kind of token: 0 any other byte, 1 a word, 3 `(`, 4 `)`, 5 `,`, 6 `|`, 7 `>`, 8 a mark; 2 is the word `EMPTY`.
 const SIGNALS: [u8; 11] = [0, 1, 3, 4, 5, 6, 7, 8, 8, 8, 0];
 
-// The next state for each signal, a row for each state: 0 before the parent; 1 before the model; 2 before a factor; 3 behind a group's bracket;
-// 4 behind its first name; 5 behind a bar; 6 behind a later name; 7 behind a factor's names; 8 behind its mark; 9 before `>`; 10 behind `>`; 11 nowhere.
+// The next state for each signal, a row for each state.
 const STATES: [u8; 108] = [
-    11, 1, 1, 11, 11, 11, 11, 11, 11,
-    11, 11, 9, 2, 11, 11, 11, 11, 11,
-    11, 7, 7, 3, 11, 11, 11, 11, 11,
-    11, 4, 4, 11, 11, 11, 11, 11, 11,
-    11, 11, 11, 11, 11, 11, 5, 11, 11,
-    11, 6, 6, 11, 11, 11, 11, 11, 11,
-    11, 11, 11, 11, 7, 11, 5, 11, 11,
-    11, 11, 11, 11, 9, 2, 11, 11, 8,
-    11, 11, 11, 11, 9, 2, 11, 11, 11,
-    11, 11, 11, 11, 11, 11, 11, 10, 11,
-    11, 11, 11, 11, 11, 11, 11, 11, 11,
-    11, 11, 11, 11, 11, 11, 11, 11, 11,
+    11, 1, 1, 11, 11, 11, 11, 11, 11, // 0 before the parent
+    11, 11, 9, 2, 11, 11, 11, 11, 11, // 1 before the model
+    11, 7, 7, 3, 11, 11, 11, 11, 11, // 2 before a factor
+    11, 4, 4, 11, 11, 11, 11, 11, 11, // 3 behind a group's bracket
+    11, 11, 11, 11, 11, 11, 5, 11, 11, // 4 behind its first name
+    11, 6, 6, 11, 11, 11, 11, 11, 11, // 5 behind a bar
+    11, 11, 11, 11, 7, 11, 5, 11, 11, // 6 behind a later name
+    11, 11, 11, 11, 9, 2, 11, 11, 8, // 7 behind a factor's names
+    11, 11, 11, 11, 9, 2, 11, 11, 11, // 8 behind its mark
+    11, 11, 11, 11, 11, 11, 11, 10, 11, // 9 before `>`
+    11, 11, 11, 11, 11, 11, 11, 11, 11, // 10 behind `>`
+    11, 11, 11, 11, 11, 11, 11, 11, 11, // 11 nowhere
 ];
 
 // Whether these bytes stand in the text from a place on.
