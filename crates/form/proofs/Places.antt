@@ -20,7 +20,7 @@ use Rattle.scan.specs.Unread.{nextOf, kindOf}
 use Rattle.scan.specs.Piece.{tokenLength, wordEnd, spaceEnd, pieceAt, tokenOf}
 use Rattle.scan.proofs.Pieces.{piece-over, piece-first}
 use Rattle.form.specs.Step.{begins, tokenAt, advance, acceptsFrom}
-use Rattle.form.proofs.Begins.{strip-begins, begins-fits}
+use Rattle.form.proofs.Begins.{strip-begins}
 use Rattle.form.proofs.Tokens.{here-word, here-on}
 
 -- ---- one piece
@@ -115,10 +115,6 @@ form-is s = rw (strip-begins opening s) (go (begins opening s))
 
 pub form-begun : (s : List ℕ) (b : Bool) → begins opening s ≡ true → b ≡ acceptsFrom s 0 true 9 → b ≡ hasForm s
 form-begun s b e q = rw (form-is s, e) q
-
-pub form-room : (s : List ℕ) → begins opening s ≡ true → 9 ≤ length s
-unfolding opening
-form-room s e = begins-fits opening s e
 
 pub form-not : (s : List ℕ) → begins opening s ≡ false → false ≡ hasForm s
 form-not s e = rw (form-is s, e)

@@ -16,8 +16,8 @@ const WORD: u8 = 1;
 const START: u8 = 2;
 
 // Behind `>`, and nowhere.
-const CLOSED: usize = 10;
-const NOWHERE: usize = 11;
+const CLOSED: u8 = 10;
+const NOWHERE: u8 = 11;
 
 // The signal of each kind of token: 0 any other byte, 1 a word, 3 `(`, 4 `)`, 5 `,`, 6 `|`, 7 `>`, 8 a mark; 2 is the word `EMPTY`.
 const SIGNALS: [u8; 11] = [0, 1, 3, 4, 5, 6, 7, 8, 8, 8, 0];
@@ -57,7 +57,7 @@ fn begins_at(text: &[u8], at: usize, bytes: &[u8]) -> bool
 }
 
 // The signal of a word.
-fn word_signal(text: &[u8], from: usize, to: usize) -> usize
+fn word_signal(text: &[u8], from: usize, to: usize) -> u8
     requires { ⌜ (from ≤ to) × (to ≤ length (now text)) ⌝ }
     ensures { λ r. ⌜ (r ≡ cond (same (take (to - from) (drop from (now (text .entry)))) emptyWord) 2 1) × (r ≤ 8) ⌝ }
 {
@@ -68,11 +68,11 @@ fn word_signal(text: &[u8], from: usize, to: usize) -> usize
 }
 
 // The signal of a token that is no word, by its kind.
-fn sign_signal(kind: u8) -> usize
+fn sign_signal(kind: u8) -> u8
     requires { ⌜ kind ≤ 10 ⌝ }
     ensures { λ r. ⌜ (r ≡ getD signals kind 0) × (r ≤ 8) ⌝ }
 {
-    SIGNALS[kind as usize] as usize
+    SIGNALS[kind as usize]
 }
 
 // Whether a word of this length that begins with this byte keeps the rule for names; its other bytes may all stand in one.
@@ -103,15 +103,15 @@ fn fits(behind: bool, gap: bool, kind: u8) -> bool
 }
 
 // The next state.
-fn next_state(state: usize, signal: usize) -> usize
+fn next_state(state: u8, signal: u8) -> u8
     requires { ⌜ (state ≤ 11) × (signal ≤ 8) ⌝ }
     ensures { λ r. ⌜ (r ≡ stepOf state signal) × (r ≤ 11) ⌝ }
 {
-    STATES[9 * state + signal] as usize
+    STATES[9 * state as usize + signal as usize]
 }
 
 // The state behind a token.
-fn step(text: &[u8], state: usize, behind: bool, piece: Piece) -> usize
+fn step(text: &[u8], state: u8, behind: bool, piece: Piece) -> u8
     requires { ⌜ Stands (now text) piece × (state ≤ 11) ⌝ }
     ensures { λ r. ⌜ (r ≡ advance state behind (piece .gap) (tokenAt (now (text .entry)) (piece .from))) × (r ≤ 11) ⌝ }
 {

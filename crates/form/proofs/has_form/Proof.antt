@@ -1,8 +1,10 @@
 -- `has_form` meets its contract.
 -- Assumes nothing.
 use mathlib.Core.Path.{sym, _∙_}
+use native.Mathlib.Omega.{arith}
 use Rattle.spelling.specs.House.{opening}
-use Rattle.form.proofs.Places.{form-begun, form-room, form-not}
+use Rattle.form.proofs.Begins.{begins-fits}
+use Rattle.form.proofs.Places.{form-begun, form-not}
 use borrow.Author.Needs.{needs}
 use Rattle.form.proofs.has_form.Statement.{statement}
 use Rattle.form.proofs.has_form.Tie as tie
@@ -14,8 +16,7 @@ begins-at-requires : tie.Need-begins-at-requires
 begins-at-requires c κs = search needs
 
 walks-requires : tie.Need-walks-requires
-unfolding opening
-walks-requires c κs = form-room _ (sym (c .before .begins-at .ensures) ∙ c .if1 .taken)
+walks-requires c κs = let h = begins-fits _ _ (sym (c .before .begins-at .ensures) ∙ c .if1 .taken) in omega arith
 
 returns : tie.Need-returns
 unfolding opening

@@ -1,6 +1,5 @@
 -- `next_state` meets its contract.
 -- Assumes nothing.
-use native.Mathlib.Omega.{arith}
 use Prim.Native.Nat.{_+_, _*_}
 use Rattle.walk.specs.Walk.{table}
 use Rattle.form.proofs.Steps.{state-entry, state-is}
@@ -17,13 +16,9 @@ add-result c = search needs
 array-read-result : tie.Need-array-read-result
 array-read-result c = search needs
 
-cast-result : tie.Need-cast-result
-unfolding table
-cast-result c = let z = state-entry (9 * c .args .state + c .args .signal) in omega arith
-
 returns : tie.Need-returns
 unfolding table
 returns c = (state-is _ _ (c .pre .0) (c .pre .1), state-entry (9 * c .args .state + c .args .signal))
 
 pub next-state-spec : {M : Type 1} → statement M
-next-state-spec = tie.close (tie.spec mul-result add-result array-read-result cast-result returns)
+next-state-spec = tie.close (tie.spec mul-result add-result array-read-result returns)

@@ -5,8 +5,6 @@ use native.Mathlib.Omega.{arith}
 use lib.ListN.{length}
 use Rattle.form_cases.proofs.line_end.Statement.{statement}
 use Rattle.form_cases.proofs.line_end.Tie as tie
-use Rattle.form_cases.proofs.line_end.Reads as reads
-use Rattle.form_cases.proofs.line_end.Lts as lts
 
 abbrev Inv-loop : tie.InvT-loop
 Inv-loop text at i₀ i = (at ≤ i) × (i ≤ length text)

@@ -6,11 +6,6 @@ use lib.ListN.{length}
 use borrow.Author.Needs.{needs}
 use Rattle.form_cases.proofs.tell_lines.Statement.{statement}
 use Rattle.form_cases.proofs.tell_lines.Tie as tie
-use Rattle.form_cases.proofs.tell_lines.Reads as reads
-use Rattle.form_cases.proofs.tell_lines.Lts as lts
-use Rattle.form_cases.proofs.line_end.Reads as line-end-reads
-use Rattle.form_cases.proofs.part.Reads as part-reads
-use Rattle.form_cases.proofs.tell.Reads as tell-reads
 
 abbrev Inv-loop : tie.InvT-loop
 Inv-loop text i₀ i = i ≤ length text + 1
