@@ -11,7 +11,7 @@ use Rattle.spelling.specs.House.{opening}
 use Rattle.spelling.specs.Form.{strip, Piece, Cut, cut, fits, spaced, tokens, Form, parse, allForm, keptIf, formCut, formRest, formOf}
 use Rattle.spelling.proofs.Form.{parse-sound}
 use Rattle.walk.specs.Walk.{signalOf, stepOf, walk, isWord, fitsAfter, goodToken, accepts, acceptsRest, hasForm}
-use Rattle.walk.proofs.Runs.{found, found-cond, parse-walk}
+use Rattle.walk.proofs.Runs.{found, found-cond, lost, parse-walk}
 use Rattle.walk.proofs.Goods.{allGood, form-good}
 
 behind-fits : (t : Token) (gap : Bool) → fits (behind t) gap ≡ cond (isWord t) gap true
@@ -49,13 +49,22 @@ accepts-is s t gap (p ∷ ps) =
     ap₂ (λ (a b : Bool). a && (goodToken (p .token) && b)) (sym (fits-after t (p .token) gap)) (accepts-is (stepOf s (signalOf (p .token))) (p .token) (p .gap) ps)
     ∙ shuffle (fits (room t (p .token)) gap) (goodToken (p .token)) (spaced (p .token) (p .gap) ps) (allGood (tokens ps)) (walk (stepOf s (signalOf (p .token))) (tokens ps))
 
-and-true : (a : Bool) → (a && true) ≡ a
+pub and-true : (a : Bool) → (a && true) ≡ a
 and-true true = refl
 and-true false = refl
 
 and-false : (a : Bool) → (a && false) ≡ false
 and-false true = refl
 and-false false = refl
+
+lost-behind : (t : Token) (gap : Bool) (ps : List Piece) → accepts 11 (isWord t) gap ps ≡ false
+lost-behind t gap ps = accepts-is 11 t gap ps ∙ rw (← lost (tokens ps), and-false (allGood (tokens ps))) (and-false (spaced t gap ps))
+
+-- from nowhere nothing is accepted
+pub accepts-lost : (behindWord gap : Bool) (ps : List Piece) → accepts 11 behindWord gap ps ≡ false
+unfolding isWord
+accepts-lost true gap ps = lost-behind (word []) gap ps
+accepts-lost false gap ps = lost-behind lpar gap ps
 
 kept-found : (ts : List Token) (o : Option Form) → parse ts ≡ o → found (keptIf (allForm isName) o) ≡ (allGood ts && found o)
 unfolding found keptIf

@@ -35,7 +35,7 @@ found-cond true a = refl
 found-cond false a = refl
 
 -- from nowhere no token leads on
-lost : (ts : List Token) → false ≡ walk 11 ts
+pub lost : (ts : List Token) → false ≡ walk 11 ts
 unfolding walk stepOf table signalOf
 lost [] = refl
 lost (t ∷ ts) = lost ts ∙ sym (ap (λ (s : ℕ). walk s ts) (nowhere t))

@@ -1,0 +1,4 @@
+pub mod Begins
+pub mod Tokens
+pub mod Steps
+pub mod Places
