@@ -86,7 +86,7 @@ module _ (aside text : List ℕ) (size : ℕ) (filled : List ℕ) (put : Put asi
 
 -- ---- the checks before
 
-book-refused : (a : Answer Book) (r : Reading) (f : Refusal) → r ≡ readingOf a → r .outcome ≡ Refused f → a ≡ refused f
+pub book-refused : (a : Answer Book) (r : Reading) (f : Refusal) → r ≡ readingOf a → r .outcome ≡ Refused f → a ≡ refused f
 unfolding readingOf noReading
 book-refused (given b) r f e o =
     let q : Done ≡ Refused f = sym (ap (λ (x : Reading). x .outcome) e) ∙ o in

@@ -1,3 +1,4 @@
 pub mod ByKind
 pub mod Places
 pub mod Steps
+pub mod Calls

@@ -14,13 +14,16 @@ ghost use Rattle.book.specs.Book.{namesIn};
 ghost use Rattle.book.specs.Access.{LaidOut};
 ghost use Rattle.gather.specs.Gather.{modelAnswer, tokensAnswer};
 ghost use Rattle.reading.specs.Place.{tokensAt};
-ghost use Rattle.reading.specs.Read.{gathered, declarationOf, noDeclaration};
+ghost use Rattle.reading.specs.Read.{gathered, declarationOf, noDeclaration, ReadsDeclaration};
 
 mod lookup; // lookup.rt: names of a text by the book
 mod rows; // rows.rt: the rows of the record under way
 
 // The kind of a word.
 const WORD: u8 = 1;
+
+// How many bytes `<!ELEMENT` has.
+const OPENING: usize = 9;
 
 // How a call that reads ended, the parent's number and the record: 0 and the empty model where it was refused.
 pub struct Declaration {
@@ -90,7 +93,7 @@ fn read_model(bytes: &[u8], layout: Layout, text: &[u8], at: usize, parent: usiz
 }
 
 // The parent and the model from a place on, of a text that has the form of a declaration.
-pub fn read_tokens(bytes: &[u8], layout: Layout, text: &[u8], at: usize) -> Declaration
+fn read_tokens(bytes: &[u8], layout: Layout, text: &[u8], at: usize) -> Declaration
     requires { ⌜ LaidOut (now bytes) layout × (at ≤ length (now text)) ⌝ }
     ensures { λ r. ⌜ r ≡ declarationOf (tokensAnswer places (namesIn (now (bytes .entry))) (tokensAt (now (text .entry)) at)) ⌝ }
 {
@@ -102,4 +105,20 @@ pub fn read_tokens(bytes: &[u8], layout: Layout, text: &[u8], at: usize) -> Decl
         Found::At(parent) => read_model(bytes, layout, text, piece.to, parent),
         Found::Nothing => refused(Refusal::UnknownName),
     }
+}
+
+// The call: any bytes as the book, any text.
+pub fn read_declaration(bytes: &[u8], text: &[u8]) -> Declaration
+    ensures { λ r. ⌜ ReadsDeclaration (now (bytes .entry)) (now (text .entry)) r ⌝ }
+{
+    let reading = book::read_book(bytes);
+    let outcome = reading.outcome;
+    if let Outcome::Refused(refusal) = outcome {
+        return refused(refusal);
+    }
+    let layout = reading.layout;
+    if !form::has_form(text) {
+        return refused(Refusal::NotADeclaration);
+    }
+    read_tokens(bytes, layout, text, OPENING)
 }
