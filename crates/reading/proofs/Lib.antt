@@ -2,3 +2,4 @@ pub mod ByKind
 pub mod Places
 pub mod Steps
 pub mod Calls
+pub mod Theorem
