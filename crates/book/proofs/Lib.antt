@@ -6,3 +6,4 @@ pub mod Sections
 pub mod Laws
 pub mod Find
 pub mod Example
+pub mod Stops

@@ -21,7 +21,7 @@ use Rattle.spelling.proofs.Tests.{and-is}
 use Rattle.spelling.proofs.Names.{Below, AllBelow}
 
 -- how often
-times-more : (x y : ℕ) (ys : List ℕ) → times x ys ≤ times x (y ∷ ys)
+pub times-more : (x y : ℕ) (ys : List ℕ) → times x ys ≤ times x (y ∷ ys)
 unfolding times
 times-more x y ys = go (eqb x y)
   where
@@ -29,7 +29,7 @@ times-more x y ys = go (eqb x y)
     go true = omega arith
     go false = omega arith
 
-times-first : (y : ℕ) (ys : List ℕ) → 0 < times y (y ∷ ys)
+pub times-first : (y : ℕ) (ys : List ℕ) → 0 < times y (y ∷ ys)
 unfolding times
 times-first y ys = rw (eq-eqb y y refl) (omega arith)
 
@@ -58,7 +58,7 @@ here a i e = ap (λ (b : Bool). cond {A = ℕ} b 1 0) (eq-eqb a i e)
 elsewhere : (a i : ℕ) → (a ≡ i → ⊥) → cond {A = ℕ} (eqb a i) 1 0 ≡ 0
 elsewhere a i d = ap (λ (b : Bool). cond {A = ℕ} b 1 0) (ne-eqb a i d)
 
-once-all : (n : ℕ) (fs : List (Factor ℕ)) → ((x : ℕ) → total x fs ≤ 1) → noneTwice n fs ≡ true
+pub once-all : (n : ℕ) (fs : List (Factor ℕ)) → ((x : ℕ) → total x fs ≤ 1) → noneTwice n fs ≡ true
 unfolding noneTwice
 once-all zero fs h = refl
 once-all (suc n) fs h = and-is (leb (total n fs) 1) (noneTwice n fs) .1 (le-leb (total n fs) 1 (h n), once-all n fs h)
@@ -73,7 +73,7 @@ all-once (suc n) fs e x h = go (and-is (leb (total n fs) 1) (noneTwice n fs) .0 
     go (p, q) (no d) ih = ih q (omega arith)
 
 -- lists by their entries
-values-length : (i n : ℕ) (f : ℕ → ℕ) → length (valuesFrom i n f) ≡ n
+pub values-length : (i n : ℕ) (f : ℕ → ℕ) → length (valuesFrom i n f) ≡ n
 unfolding valuesFrom
 values-length i zero f = refl
 values-length i (suc n) f = ap suc (values-length (suc i) n f)
@@ -91,7 +91,7 @@ values-at n k f d h = go (decLt k n)
     go (yes l) = values-from 0 n k f d l ∙ rw zero-add
     go (no l) = List·getD-eq-default (valuesFrom 0 n f) d (omega (arith, values-length 0 n f)) ∙ sym (h (omega arith))
 
-values-is : (i n : ℕ) (f : ℕ → ℕ) (d : ℕ) (l : List ℕ) → length l ≡ n → ((k : ℕ) → k < n → f (i + k) ≡ getD l k d) → valuesFrom i n f ≡ l
+pub values-is : (i n : ℕ) (f : ℕ → ℕ) (d : ℕ) (l : List ℕ) → length l ≡ n → ((k : ℕ) → k < n → f (i + k) ≡ getD l k d) → valuesFrom i n f ≡ l
 unfolding valuesFrom
 values-is i zero f d [] e h = refl
 values-is i zero f d (x ∷ l) e h = absurd (omega arith)
@@ -100,7 +100,7 @@ values-is i (suc n) f d (x ∷ l) e h =
     ap₂ (λ (a : ℕ) (b : List ℕ). a ∷ b) (ap f (sym (add-zero i)) ∙ h 0 (omega arith))
     (values-is (suc i) n f d l (omega arith) (λ k q. let p : suc i + k ≡ i + suc k = omega arith in ap f p ∙ h (suc k) (omega arith)))
 
-mode-beyond : (fs : List (Factor ℕ)) (k : ℕ) → length fs ≤ k → modeAt fs k ≡ 0
+pub mode-beyond : (fs : List (Factor ℕ)) (k : ℕ) → length fs ≤ k → modeAt fs k ≡ 0
 unfolding modeAt
 mode-beyond [] k h = refl
 mode-beyond (f ∷ fs) zero h = absurd (omega arith)
@@ -196,7 +196,7 @@ unfolding total
 total-none n x [] b h = refl
 total-none n x (f ∷ fs) b h = omega (arith, times-none n x (f .names) (b .0) h, total-none n x fs (b .1) h)
 
-place-none : (i x : ℕ) (fs : List (Factor ℕ)) → total x fs ≡ 0 → placeFrom i fs x ≡ 255
+pub place-none : (i x : ℕ) (fs : List (Factor ℕ)) → total x fs ≡ 0 → placeFrom i fs x ≡ 255
 unfolding total placeFrom
 place-none i x [] h = refl
 place-none i x (f ∷ fs) h =
@@ -310,14 +310,14 @@ order-used n m i (g ∷ gs) (c, e, t, r) ((y, ys, q), f) (b, bs) (s, ss) j h l =
     go (no d) ih = ih (omega arith)
 
 module _ (size n : ℕ) (fits : size ≤ 255) (names : n ≤ size) (fs : List (Factor ℕ)) (full : Full fs) (low : AllBelow n fs) (small : Small fs) (single : noneTwice n fs ≡ true) where
-  total-le : (x : ℕ) → total x fs ≤ 1
+  pub total-le : (x : ℕ) → total x fs ≤ 1
   total-le x = go (decLt x n)
     where
       go : Dec (x < n) → total x fs ≤ 1
       go (yes h) = all-once n fs single x h
       go (no h) = omega (arith, total-none n x fs low (omega arith))
 
-  few-factors : length fs ≤ n
+  pub few-factors : length fs ≤ n
   few-factors = omega (arith, many n fs full low, sum-le n (λ x. total x fs) (λ x. 1) total-le, sum-ones n)
 
   factor-is : (x : ℕ) → factorOf (recordOf size fs) x ≡ placeFrom 0 fs x

@@ -1,0 +1,5 @@
+pub mod Samples
+pub mod Rows
+pub mod Factors
+pub mod Tokens
+pub mod Gathered

@@ -1,0 +1,1 @@
+// The record of a declaration, gathered by a walk along its tokens: definitions and theorems only.

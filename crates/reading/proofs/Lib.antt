@@ -1,0 +1,5 @@
+pub mod ByKind
+pub mod Places
+pub mod Steps
+pub mod Calls
+pub mod Theorem

@@ -1,0 +1,55 @@
+-- `all_known` meets its contract: what was passed is known, so the words from i on decide.
+-- Assumes nothing.
+use Prim.Native.Nat.{_-_, _≤_}
+use mathlib.Core.Path.{_≡_, refl, sym, _∙_}
+use native.Mathlib.Omega.{arith}
+use lib.ListN.{length}
+use borrow.Author.Tests.{not-true, not-false}
+use Rattle.book.specs.Book.{namesIn}
+use Rattle.gather.specs.Gather.{knownTokens}
+use Rattle.reading.specs.Place.{tokensAt}
+use Rattle.reading.proofs.Steps.{in-order, onward-to, known-stop, known-on, known-over}
+use borrow.Author.Needs.{needs}
+use Rattle.reading.proofs.lookup.all_known.Statement.{statement}
+use Rattle.reading.proofs.lookup.all_known.Tie as tie
+
+abbrev Inv-loop : tie.InvT-loop
+Inv-loop bytes layout text at i₀ i = (i ≤ length text) × (knownTokens (namesIn bytes) (tokensAt text at) ≡ knownTokens (namesIn bytes) (tokensAt text i))
+
+abbrev μ-loop : tie.MeasureT-loop
+μ-loop bytes layout text at i₀ i = length text - i
+
+loop-holds : tie.Need-loop-holds Inv-loop μ-loop
+loop-holds c = (omega arith, refl)
+
+piece-at-requires : tie.Need-piece-at-requires Inv-loop μ-loop
+piece-at-requires c κs = omega arith
+
+known-piece-requires : tie.Need-known-piece-requires Inv-loop μ-loop
+known-piece-requires c κs = (c .before .before .before .before .before .pre .0, in-order _ _ _ (c .piece-at .ensures .0), c .piece-at .ensures .1)
+
+returns : tie.Need-returns Inv-loop μ-loop
+returns c = known-stop _ _ _ (c .before .before .piece-at .ensures .0) _ _ (c .before .known-piece .ensures) (not-true _ (c .if1 .taken)) ∙ sym (c .before .before .before .before .loop .inv .1)
+
+loop-less : tie.Need-loop-less Inv-loop μ-loop
+loop-less c = let h = onward-to _ _ _ (c .before .before .piece-at .ensures .0) (c .before .before .before .loop-test .taken) in omega arith
+
+loop-again : tie.Need-loop-again Inv-loop μ-loop
+loop-again c = (c .before .before .piece-at .ensures .1, c .before .before .before .before .loop .inv .1 ∙ known-on _ _ _ (c .before .before .piece-at .ensures .0) _ _ (c .before .known-piece .ensures) (not-false _ (c .if1 .left)))
+
+returns-2 : tie.Need-returns-2 Inv-loop μ-loop
+returns-2 c = known-over _ _ _ (c .loop-test .left) ∙ sym (c .before .loop .inv .1)
+
+pub all-known-spec : {M : Type 1} → statement M
+all-known-spec =
+    tie.close
+    (tie.spec
+    Inv-loop
+    μ-loop
+    loop-holds
+    piece-at-requires
+    known-piece-requires
+    returns
+    loop-less
+    loop-again
+    returns-2)
