@@ -15,8 +15,8 @@ use Rattle.nameset.specs.Promise.{Emptiness}
 use Rattle.model.specs.declared.Model.{Model}
 use Rattle.model.specs.Build.{withFactor}
 use Rattle.levels.specs.Below.{someBelow, countBelow}
-use Rattle.peel.proofs.Tests.{and-is}
-use Rattle.peel.proofs.Below.{count-more}
+use Rattle.levels.proofs.Tests.{and-is}
+use Rattle.levels.proofs.Below.{count-more}
 use Rattle.peel.proofs.Counting.{appended}
 use Rattle.rows.specs.Rows.{groupIn}
 use Rattle.chain.specs.Chain.{holdsIn, factors, withAny, withEach, withBoth}

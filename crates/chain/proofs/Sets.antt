@@ -16,6 +16,7 @@ use Rattle.nameset.specs.declared.NameSet.{NameSet}
 use Rattle.nameset.specs.Set.{member, Sized, first, ofWord}
 use Rattle.nameset.specs.Promise.{Emptiness, Shrunk}
 use Rattle.nameset.proofs.Laws.{first-in}
+use Rattle.model.proofs.Tests.{same-test}
 use Rattle.follow.specs.Follow.{Follow}
 use Rattle.follow.specs.View.{viewOf}
 use Rattle.follow.specs.declared.Facts.{Facts}
@@ -23,8 +24,8 @@ use Rattle.levels.specs.Below.{someBelow, countBelow}
 use Rattle.levels.specs.Reach.{reachBy, reaches, occurs}
 use Rattle.peel.specs.Shown.{Shown}
 use Rattle.peel.specs.Sets.{meets, inRows, stepsOver}
-use Rattle.peel.proofs.Tests.{and-is, or-is, ltb-is, some-is, same-test, not-true, both-ways}
-use Rattle.peel.proofs.Below.{some-count}
+use Rattle.levels.proofs.Tests.{and-is, or-is, ltb-is, some-is, refuted, both-ways}
+use Rattle.levels.proofs.Below.{some-count}
 use Rattle.peel.proofs.Reaching.{edge-follows}
 use Rattle.rows.specs.Rows.{inWord, inRow, Round, amongRows}
 use Rattle.chain.specs.Chain.{Reached, factors}
@@ -78,13 +79,13 @@ occurs-law facts n s x =
 -- ---- a set that is empty or not
 
 pub some-set : (s : NameSet) (r : Bool) → Emptiness s r → not r ≡ someBelow places (member s)
-some-set s true e = sym (not-true (someBelow places (member s)) (λ t. let p = some-is places (member s) .0 t in both-ways (member s (p .0)) (p .2) (e .none refl (p .0))))
+some-set s true e = sym (refuted (someBelow places (member s)) (λ t. let p = some-is places (member s) .0 t in both-ways (member s (p .0)) (p .2) (e .none refl (p .0))))
 some-set s false e = go (someBelow places (member s)) refl
   where
     go : (b : Bool) → someBelow places (member s) ≡ b → true ≡ b
     go true q = refl
     go false q =
-        absurd (false≢true (e .all (λ j l. not-true (member s j) (λ m. both-ways (someBelow places (member s)) (some-is places (member s) .1 (j, l, m)) q))))
+        absurd (false≢true (e .all (λ j l. refuted (member s j) (λ m. both-ways (someBelow places (member s)) (some-is places (member s) .1 (j, l, m)) q))))
 
 pub some-empty : (s : NameSet) (r : Bool) → Emptiness s r → r ≡ true → someBelow places (member s) ≡ false
 some-empty s r e q = sym (some-set s r e) ∙ rw q

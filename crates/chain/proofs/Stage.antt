@@ -13,6 +13,7 @@ use Rattle.nameset.specs.Set.{member}
 use Rattle.model.specs.declared.Model.{Model}
 use Rattle.model.specs.Record.{emptyModel}
 use Rattle.model.specs.Build.{withFactor}
+use Rattle.model.proofs.Tests.{same-test}
 use Rattle.follow.specs.Follow.{Follow}
 use Rattle.follow.specs.View.{viewOf}
 use Rattle.follow.specs.declared.Facts.{Facts}
@@ -22,9 +23,10 @@ use Rattle.levels.specs.Level.{isBefore, levelOf, lastLevel, skipped}
 use Rattle.levels.specs.Chain.{singleAt, leadsAt, factorsAt, fixed, singlesMode, groupMode, withSingles, withGroups, withLevel, chainTo, chainOf}
 use Rattle.peel.specs.Shown.{Shown}
 use Rattle.peel.specs.Sets.{isLower, isAt, isHigher, inRows, stepsOver}
-use Rattle.peel.proofs.Tests.{and-is, not-is, eqb-is, some-is, some-within, same-test, not-true, both-ways}
-use Rattle.peel.proofs.Below.{first-le, first-is, count-past, count-lt}
-use Rattle.peel.proofs.Reaching.{reach-small, occurs-small, group-is}
+use Rattle.levels.proofs.Tests.{and-is, not-is, eqb-is, some-is, some-within, refuted, both-ways}
+use Rattle.levels.proofs.Below.{first-le, first-is, count-past, count-lt}
+use Rattle.levels.proofs.Reach.{reaches-below, group-is}
+use Rattle.peel.proofs.Reaching.{occurs-small}
 use Rattle.peel.proofs.Peel.{at-is, higher-is, higher-first, lower-first, higher-next, lower-next, single-at, leads-at, peel, level-left, level-none, level-found}
 use Rattle.peel.proofs.Skips.{skipped-law}
 use Rattle.peel.proofs.Counting.{level-room}
@@ -55,7 +57,7 @@ leads-smallest f x =
     to e =
         let p = and-is (sameGroup f x x) (not (someBelow x (sameGroup f x))) .0 e in
         let r = group-is f x x .0 (p .0) .0 in
-        let h = reach-small f x x r .0 in
+        let h = reaches-below f x x r in
         let none = not-is (someBelow x (sameGroup f x)) .0 (p .1) in
         let le = first-le (f .names) (sameGroup f x) x h (p .0) in
         let is = first-is (f .names) (sameGroup f x) x h (p .0) in
@@ -71,10 +73,10 @@ leads-smallest f x =
     from e =
         let p = and-is (reaches f x x) (eqb (firstBelow (f .names) (sameGroup f x)) x) .0 e in
         let q = eqb-is (firstBelow (f .names) (sameGroup f x)) x .0 (p .1) in
-        let h = reach-small f x x (p .0) .0 in
+        let h = reaches-below f x x (p .0) in
         and-is (sameGroup f x x) (not (someBelow x (sameGroup f x))) .1 (
           group-is f x x .1 (p .0, p .0),
-          not-is (someBelow x (sameGroup f x)) .1 (not-true (someBelow x (sameGroup f x)) (λ t. let r = some-is x (sameGroup f x) .0 t in omega (arith, q, r .1, h, first-le (f .names) (sameGroup f x) (r .0) (omega (arith, r .1, h)) (r .2)))),
+          not-is (someBelow x (sameGroup f x)) .1 (refuted (someBelow x (sameGroup f x)) (λ t. let r = some-is x (sameGroup f x) .0 t in omega (arith, q, r .1, h, first-le (f .names) (sameGroup f x) (r .0) (omega (arith, r .1, h)) (r .2)))),
         )
 
 pub tables-made : (f : Follow) (reach behind : List ℕ) (looping lead : NameSet) → Reached f reach → OneWay reach behind → ((a : ℕ) → member looping a ≡ inRow reach a a) →
@@ -117,7 +119,7 @@ module _ (f : Follow) (n : f .names ≤ places) where
   leads-small l x e = small-at l x (and-is (isAt f l x) (leads f x) .0 (sym (leads-at f l x) ∙ e) .0)
 
   leads-past : (l x : ℕ) → f .names ≤ x → leadsAt f l x ≡ false
-  leads-past l x h = not-true (leadsAt f l x) (λ e. absurd (omega (arith, leads-small l x e)))
+  leads-past l x h = refuted (leadsAt f l x) (λ e. absurd (omega (arith, leads-small l x e)))
 
   some-singles : (l : ℕ) → someBelow places (singleAt f l) ≡ someBelow (f .names) (singleAt f l)
   some-singles l =
@@ -170,7 +172,7 @@ module _ {f : Follow} {m : Model} {lower higher : NameSet} (s : Shown f) (n : f 
     where
       none : (x : ℕ) → isHigher f (st .level) x ≡ false
       none x =
-          not-true (isHigher f (st .level) x)
+          refuted (isHigher f (st .level) x)
           (λ t. both-ways (someBelow places (member higher)) (some-is places (member higher) .1 (x, omega (arith, occurs-small f x (higher-is f (st .level) x .0 t .0)), st .higher-law x ∙ t)) e)
 
       last : lastLevel f - 1 ≤ st .level → st .level ≤ lastLevel f - 1 → st .level ≡ lastLevel f - 1
@@ -204,7 +206,7 @@ module _ {f : Follow} {m : Model} {lower higher : NameSet} (s : Shown f) (n : f 
         let i = at-is f (suc (st .level)) (y .0) .0 (y .1) in
         count-lt places (member above) (member higher) (λ x h e. and-is (member higher x) (not (member on x)) .0 (sym (above-law x) ∙ e) .0) (y .0)
         (omega (arith, occurs-small f (y .0) (i .0)))
-        (above-is (y .0) ∙ not-true (isHigher f (suc (st .level)) (y .0)) (λ e. omega (arith, higher-is f (suc (st .level)) (y .0) .0 e .1, i .1)))
+        (above-is (y .0) ∙ refuted (isHigher f (suc (st .level)) (y .0)) (λ e. omega (arith, higher-is f (suc (st .level)) (y .0) .0 e .1, i .1)))
         (st .higher-law (y .0) ∙ higher-is f (st .level) (y .0) .1 (i .0, omega (arith, i .1)))
 
     module _ (skips : Bool) (skips-law : skips ≡ stepsOver places (f .empty) (f .starts) (f .ends) (f .follows) (member lower) (member above))

@@ -7,7 +7,7 @@ use mathlib.Core.Logic.{_⊎_, inl, inr, ⊎-elim, _↔_}
 use borrow.Author.Tests.{eqb-true, eq-eqb, ltb-true, lt-ltb}
 use lib.Dec.{ltb, eqb}
 use Rattle.model.specs.Check.{anyBelow}
-use Rattle.model.proofs.Tests.{both, and-left, and-right, any-law}
+use Rattle.model.proofs.Tests.{both, and-left, and-right, any-law, same-test}
 use Rattle.levels.specs.Below.{someBelow}
 
 pub and-is : (a b : Bool) → ((a && b) ≡ true) ↔ ((a ≡ true) × (b ≡ true))
@@ -41,3 +41,9 @@ some-any (suc n) test = ap (λ (b : Bool). b || test n) (some-any n test)
 
 pub some-is : (n : ℕ) (test : ℕ → Bool) → (someBelow n test ≡ true) ↔ ((k : ℕ) × (k < n) × (test k ≡ true))
 some-is n test = (λ e. any-law n test .0 (sym (some-any n test) ∙ e), λ p. some-any n test ∙ any-law n test .1 p)
+
+-- A search finds the same below two bounds past which nothing passes.
+pub some-within : (m n : ℕ) (f g : ℕ → Bool) → ((x : ℕ) → f x ≡ true → (x < n) × (g x ≡ true)) → ((x : ℕ) → g x ≡ true → (x < m) × (f x ≡ true)) → someBelow m f ≡ someBelow n g
+some-within m n f g p q =
+    same-test (someBelow m f) (someBelow n g) (λ e. let r = some-is m f .0 e in some-is n g .1 (r .0, p (r .0) (r .2) .0, p (r .0) (r .2) .1))
+    (λ e. let r = some-is n g .0 e in some-is m f .1 (r .0, q (r .0) (r .2) .0, q (r .0) (r .2) .1))

@@ -14,8 +14,8 @@ use Rattle.levels.specs.Below.{someBelow, countBelow}
 use Rattle.levels.specs.Reach.{loops, occurs, leads, isSingle, sameGroup}
 use Rattle.levels.specs.Level.{levelOf}
 use Rattle.levels.specs.Chain.{singleAt, leadsAt, factorsAt, withSingles, withGroups, withLevel, chainTo, singlesMode, groupMode}
-use Rattle.peel.proofs.Tests.{and-is, not-is, eqb-is, both-ways}
-use Rattle.peel.proofs.Below.{count-all, count-join, some-count}
+use Rattle.levels.proofs.Tests.{and-is, not-is, eqb-is, both-ways}
+use Rattle.levels.proofs.Below.{count-all, count-join, some-count}
 use Rattle.peel.proofs.Peel.{leads-loops}
 
 -- the number of factors after one more, or none

@@ -6,12 +6,13 @@ use mathlib.Core.Bool.{Bool, true, false, _&&_, _||_}
 use mathlib.Core.Logic.{_⊎_, inl, inr, ⊎-elim, _↔_}
 use native.Mathlib.Omega.{arith}
 use lib.Dec.{ltb}
+use Rattle.model.proofs.Tests.{same-test}
 use Rattle.follow.specs.Follow.{Follow}
 use Rattle.levels.specs.Below.{someBelow}
 use Rattle.levels.specs.Level.{levelOf, lastLevel, skipped}
 use Rattle.peel.specs.Shown.{Shown}
 use Rattle.peel.specs.Sets.{isLower, isHigher, meets, inRows, stepsOver}
-use Rattle.peel.proofs.Tests.{and-is, or-is, ltb-is, same-test, some-is}
+use Rattle.levels.proofs.Tests.{and-is, or-is, ltb-is, some-is}
 use Rattle.peel.proofs.Reaching.{occurs-small, occurs-starts, occurs-after, edge-follows}
 use Rattle.peel.proofs.Peel.{lower-is, higher-is, rows-is}
 

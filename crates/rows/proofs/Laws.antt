@@ -18,7 +18,7 @@ use Rattle.nameset.specs.Promise.{Smallest}
 use Rattle.nameset.proofs.Laws.{member-empty, member-minus, member-some, of-word-of, of-zero}
 use Rattle.levels.specs.Below.{someBelow}
 use Rattle.peel.specs.Sets.{inRows}
-use Rattle.peel.proofs.Tests.{some-is, both-ways, not-true}
+use Rattle.levels.proofs.Tests.{some-is, both-ways, refuted}
 use Rattle.rows.specs.Rows.{inWord, inRow, Round, OneWay, groupIn, smallestIn, leadsIn, amongRows}
 
 -- ---- words
@@ -258,7 +258,7 @@ leads-yes s a r q e = go (decLt r a) (decLt a r)
     go (no l) (yes d) = absurd (both-ways (member s a) e (q .least a d))
     go (no l) (no d) =
         let u : r ≡ a = omega arith in
-        let z : someBelow a (member s) ≡ false = not-true (someBelow a (member s)) (λ t. let p = some-is a (member s) .0 t in both-ways (member s (p .0)) (p .2) (q .least (p .0) (omega (arith, p .1)))) in
+        let z : someBelow a (member s) ≡ false = refuted (someBelow a (member s)) (λ t. let p = some-is a (member s) .0 t in both-ways (member s (p .0)) (p .2) (q .least (p .0) (omega (arith, p .1)))) in
         rw (e, z) (eq-eqb r a u)
 
 pub leads-no : (s : NameSet) (a : ℕ) → member s a ≡ false → false ≡ smallestIn s a
