@@ -17,7 +17,7 @@ use Rattle.model.proofs.Tests.{same-test}
 use Rattle.follow.specs.Follow.{Follow}
 use Rattle.follow.specs.View.{viewOf}
 use Rattle.follow.specs.declared.Facts.{Facts}
-use Rattle.levels.specs.Below.{someBelow, countBelow, firstBelow}
+use Rattle.levels.specs.Below.{anyBelow, countBelow, firstBelow}
 use Rattle.levels.specs.Reach.{reaches, sameGroup, loops, leads, occurs}
 use Rattle.levels.specs.Level.{isBefore, levelOf, lastLevel, skipped}
 use Rattle.levels.specs.Chain.{singleAt, leadsAt, factorsAt, fixed, singlesMode, groupMode, withSingles, withGroups, withLevel, chainTo, chainOf}
@@ -48,35 +48,35 @@ both-reach true true = refl
 both-reach true false = refl
 both-reach false b = refl
 
-leads-smallest : (f : Follow) (x : ℕ) → (sameGroup f x x && not (someBelow x (sameGroup f x))) ≡ leads f x
+leads-smallest : (f : Follow) (x : ℕ) → (sameGroup f x x && not (anyBelow x (sameGroup f x))) ≡ leads f x
 unfolding leads loops
 leads-smallest f x =
-    same-test (sameGroup f x x && not (someBelow x (sameGroup f x))) (reaches f x x && eqb (firstBelow (f .names) (sameGroup f x)) x) to from
+    same-test (sameGroup f x x && not (anyBelow x (sameGroup f x))) (reaches f x x && eqb (firstBelow (f .names) (sameGroup f x)) x) to from
   where
-    to : (sameGroup f x x && not (someBelow x (sameGroup f x))) ≡ true → (reaches f x x && eqb (firstBelow (f .names) (sameGroup f x)) x) ≡ true
+    to : (sameGroup f x x && not (anyBelow x (sameGroup f x))) ≡ true → (reaches f x x && eqb (firstBelow (f .names) (sameGroup f x)) x) ≡ true
     to e =
-        let p = and-is (sameGroup f x x) (not (someBelow x (sameGroup f x))) .0 e in
+        let p = and-is (sameGroup f x x) (not (anyBelow x (sameGroup f x))) .0 e in
         let r = group-is f x x .0 (p .0) .0 in
         let h = reaches-below f x x r in
-        let none = not-is (someBelow x (sameGroup f x)) .0 (p .1) in
+        let none = not-is (anyBelow x (sameGroup f x)) .0 (p .1) in
         let le = first-le (f .names) (sameGroup f x) x h (p .0) in
         let is = first-is (f .names) (sameGroup f x) x h (p .0) in
         and-is (reaches f x x) (eqb (firstBelow (f .names) (sameGroup f x)) x) .1
         (r, eqb-is (firstBelow (f .names) (sameGroup f x)) x .1 (equal none le is (decLt (firstBelow (f .names) (sameGroup f x)) x)))
       where
-        equal : someBelow x (sameGroup f x) ≡ false → firstBelow (f .names) (sameGroup f x) ≤ x → sameGroup f x (firstBelow (f .names) (sameGroup f x)) ≡ true →
+        equal : anyBelow x (sameGroup f x) ≡ false → firstBelow (f .names) (sameGroup f x) ≤ x → sameGroup f x (firstBelow (f .names) (sameGroup f x)) ≡ true →
             Dec (firstBelow (f .names) (sameGroup f x) < x) → firstBelow (f .names) (sameGroup f x) ≡ x
-        equal none le is (yes l) = absurd (both-ways (someBelow x (sameGroup f x)) (some-is x (sameGroup f x) .1 (firstBelow (f .names) (sameGroup f x), l, is)) none)
+        equal none le is (yes l) = absurd (both-ways (anyBelow x (sameGroup f x)) (some-is x (sameGroup f x) .1 (firstBelow (f .names) (sameGroup f x), l, is)) none)
         equal none le is (no l) = omega arith
 
-    from : (reaches f x x && eqb (firstBelow (f .names) (sameGroup f x)) x) ≡ true → (sameGroup f x x && not (someBelow x (sameGroup f x))) ≡ true
+    from : (reaches f x x && eqb (firstBelow (f .names) (sameGroup f x)) x) ≡ true → (sameGroup f x x && not (anyBelow x (sameGroup f x))) ≡ true
     from e =
         let p = and-is (reaches f x x) (eqb (firstBelow (f .names) (sameGroup f x)) x) .0 e in
         let q = eqb-is (firstBelow (f .names) (sameGroup f x)) x .0 (p .1) in
         let h = reaches-below f x x (p .0) in
-        and-is (sameGroup f x x) (not (someBelow x (sameGroup f x))) .1 (
+        and-is (sameGroup f x x) (not (anyBelow x (sameGroup f x))) .1 (
           group-is f x x .1 (p .0, p .0),
-          not-is (someBelow x (sameGroup f x)) .1 (refuted (someBelow x (sameGroup f x)) (λ t. let r = some-is x (sameGroup f x) .0 t in omega (arith, q, r .1, h, first-le (f .names) (sameGroup f x) (r .0) (omega (arith, r .1, h)) (r .2)))),
+          not-is (anyBelow x (sameGroup f x)) .1 (refuted (anyBelow x (sameGroup f x)) (λ t. let r = some-is x (sameGroup f x) .0 t in omega (arith, q, r .1, h, first-le (f .names) (sameGroup f x) (r .0) (omega (arith, r .1, h)) (r .2)))),
         )
 
 pub tables-made : (f : Follow) (reach behind : List ℕ) (looping lead : NameSet) → Reached f reach → OneWay reach behind → ((a : ℕ) → member looping a ≡ inRow reach a a) →
@@ -97,7 +97,7 @@ tables-made f reach behind looping lead r o own small =
     leading : (x : ℕ) → member lead x ≡ leads f x
     leading x =
         small x
-        ∙ ap (λ (p : ℕ → Bool). p x && not (someBelow x p)) (fun-ext (λ b. group x b))
+        ∙ ap (λ (p : ℕ → Bool). p x && not (anyBelow x p)) (fun-ext (λ b. group x b))
         ∙ leads-smallest f x
 
 -- ---- one level
@@ -121,7 +121,7 @@ module _ (f : Follow) (n : f .names ≤ places) where
   leads-past : (l x : ℕ) → f .names ≤ x → leadsAt f l x ≡ false
   leads-past l x h = refuted (leadsAt f l x) (λ e. absurd (omega (arith, leads-small l x e)))
 
-  some-singles : (l : ℕ) → someBelow places (singleAt f l) ≡ someBelow (f .names) (singleAt f l)
+  some-singles : (l : ℕ) → anyBelow places (singleAt f l) ≡ anyBelow (f .names) (singleAt f l)
   some-singles l =
       some-within places (f .names) (singleAt f l) (singleAt f l) (λ x e. (single-small l x e, e)) (λ x e. (omega (arith, single-small l x e), e))
 
@@ -138,7 +138,7 @@ module _ (f : Follow) (n : f .names ≤ places) where
   level-made l m =
       ap (λ (b : Bool). withEach (leadsAt f l) (sameGroup f) (cond (fixed f l) 2 3) places (cond b (withFactor m (singleAt f l) (cond (fixed f l) 0 1)) m)) (some-singles l)
       ∙ each-upto (leadsAt f l) (sameGroup f) (cond (fixed f l) 2 3) (f .names) places _ n (λ x a b. leads-past l x a)
-      ∙ each-groups f l (f .names) (cond (someBelow (f .names) (singleAt f l)) (withFactor m (singleAt f l) (cond (fixed f l) 0 1)) m)
+      ∙ each-groups f l (f .names) (cond (anyBelow (f .names) (singleAt f l)) (withFactor m (singleAt f l) (cond (fixed f l) 0 1)) m)
 
 -- ---- the follow rows as facts
 
@@ -166,20 +166,20 @@ stage-none f m lower higher e p q =
     record { level = 0; few = omega arith; same = e; lower-law = λ x. p x ∙ sym (lower-first f x); higher-law = λ x. q x ∙ sym (higher-first f x) }
 
 module _ {f : Follow} {m : Model} {lower higher : NameSet} (s : Shown f) (n : f .names ≤ places) (st : Stage f m lower higher) where
-  pub stage-last : someBelow places (member higher) ≡ false → m ≡ chainOf places f
+  pub stage-last : anyBelow places (member higher) ≡ false → m ≡ chainOf places f
   unfolding chainOf
   stage-last e = st .same ∙ ap (chainTo places f) (let h = level-none f s (st .level) none in let k = st .few in last h k)
     where
       none : (x : ℕ) → isHigher f (st .level) x ≡ false
       none x =
           refuted (isHigher f (st .level) x)
-          (λ t. both-ways (someBelow places (member higher)) (some-is places (member higher) .1 (x, omega (arith, occurs-small f x (higher-is f (st .level) x .0 t .0)), st .higher-law x ∙ t)) e)
+          (λ t. both-ways (anyBelow places (member higher)) (some-is places (member higher) .1 (x, omega (arith, occurs-small f x (higher-is f (st .level) x .0 t .0)), st .higher-law x ∙ t)) e)
 
       last : lastLevel f - 1 ≤ st .level → st .level ≤ lastLevel f - 1 → st .level ≡ lastLevel f - 1
       last h k = omega arith
 
   -- one turn: a name is left
-  module _ {reach behind : List ℕ} {looping lead : NameSet} (t : Tables f reach behind looping lead) (some : someBelow places (member higher) ≡ true)
+  module _ {reach behind : List ℕ} {looping lead : NameSet} (t : Tables f reach behind looping lead) (some : anyBelow places (member higher) ≡ true)
       (on above : NameSet) (on-law : (x : ℕ) → member on x ≡ (member higher x && not (inRows places (inRow behind) (member higher) x)))
       (above-law : (x : ℕ) → member above x ≡ (member higher x && not (member on x))) where
     left : (x : ℕ) × (isHigher f (st .level) x ≡ true)

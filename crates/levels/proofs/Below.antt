@@ -7,7 +7,7 @@ use native.Mathlib.Omega.{arith}
 use native.Mathlib.Decide.{decLe, ℕ-discrete}
 use lib.Dec.{ltb}
 use borrow.Author.Tests.{lt-ltb, le-ltb, ltb-true}
-use Rattle.levels.specs.Below.{someBelow, countBelow, firstBelow, largestBelow}
+use Rattle.levels.specs.Below.{anyBelow, countBelow, firstBelow, largestBelow}
 
 -- ---- the largest
 
@@ -162,10 +162,10 @@ bit-or true b k h = omega arith
 bit-or false b k h = omega arith
 
 -- one, if there is any
-pub some-count : (n : ℕ) (p : ℕ → Bool) → cond {A = ℕ} (someBelow n p) 1 0 ≤ countBelow n p
-unfolding someBelow countBelow
+pub some-count : (n : ℕ) (p : ℕ → Bool) → cond {A = ℕ} (anyBelow n p) 1 0 ≤ countBelow n p
+unfolding anyBelow countBelow
 some-count zero p = omega arith
-some-count (suc n) p = bit-or (someBelow n p) (p n) (countBelow n p) (some-count n p)
+some-count (suc n) p = bit-or (anyBelow n p) (p n) (countBelow n p) (some-count n p)
 
 pub count-more : (m n : ℕ) (p : ℕ → Bool) → m < n → p m ≡ true → suc (countBelow m p) ≤ countBelow n p
 unfolding countBelow

@@ -9,7 +9,7 @@ use lib.Dec.{ltb}
 use Rattle.model.specs.Accept.{Names}
 use Rattle.language.specs.Word.{Point, start, name, end, Beside, Shows}
 use Rattle.follow.specs.Follow.{Follow, followOf, steps}
-use Rattle.levels.specs.Below.{someBelow}
+use Rattle.levels.specs.Below.{anyBelow}
 use Rattle.levels.specs.Reach.{occurs}
 use Rattle.levels.proofs.Tests.{and-is, or-is, ltb-is, some-is}
 use Rattle.levels.proofs.Facts.{start-name, steps-shown}
@@ -25,7 +25,7 @@ Occurs f x = (u : Point) × steps f u (name x)
 
 module _ (f : Follow) (x : ℕ) where
   follower : Bool
-  follower = someBelow (f .names) (λ b. f .follows b x)
+  follower = anyBelow (f .names) (λ b. f .follows b x)
 
   pub occurs-is : (occurs f x ≡ true) ↔ Occurs f x
   unfolding occurs follower
