@@ -14,9 +14,9 @@ use Rattle.nameset.specs.Set.{member, first}
 use Rattle.nameset.specs.Promise.{Emptiness}
 use Rattle.model.specs.declared.Model.{Model}
 use Rattle.model.specs.Build.{withFactor}
-use Rattle.levels.specs.Below.{someBelow, countBelow}
-use Rattle.peel.proofs.Tests.{and-is}
-use Rattle.peel.proofs.Below.{count-more}
+use Rattle.levels.specs.Below.{anyBelow, countBelow}
+use Rattle.levels.proofs.Tests.{and-is}
+use Rattle.levels.proofs.Below.{count-more}
 use Rattle.peel.proofs.Counting.{appended}
 use Rattle.rows.specs.Rows.{groupIn}
 use Rattle.chain.specs.Chain.{holdsIn, factors, withAny, withEach, withBoth}
@@ -32,12 +32,12 @@ pub any-some : (m n : Model) (names : NameSet) (mode : ℕ) (r : Bool) → Empti
 unfolding withAny
 any-some m n names mode r e q h = rw (some-full names r e q) h
 
-pub any-room : (names : NameSet) (count : ℕ) (r : Bool) → Emptiness names r → r ≡ false → count + cond (someBelow places (member names)) 1 0 ≤ places → count < places
+pub any-room : (names : NameSet) (count : ℕ) (r : Bool) → Emptiness names r → r ≡ false → count + cond (anyBelow places (member names)) 1 0 ≤ places → count < places
 any-room names count r e q h = let k : count + 1 ≤ places = (rw (some-full names r e q) at h) in omega arith
 
-pub any-count : (size : ℕ) (names : ℕ → Bool) (mode : ℕ) (m : Model) → withAny size names mode m .count ≡ m .count + cond (someBelow size names) 1 0
+pub any-count : (size : ℕ) (names : ℕ → Bool) (mode : ℕ) (m : Model) → withAny size names mode m .count ≡ m .count + cond (anyBelow size names) 1 0
 unfolding withAny
-any-count size names mode m = appended (someBelow size names) m names mode
+any-count size names mode m = appended (anyBelow size names) m names mode
 
 -- ---- each group
 
@@ -136,7 +136,7 @@ holds-group reach behind k g m n mode e h =
 
 -- ---- one level
 
-pub level-any : (count : ℕ) (singles leaders : NameSet) → count + factors places (member singles) (member leaders) ≤ places → count + cond (someBelow places (member singles)) 1 0 ≤ places
+pub level-any : (count : ℕ) (singles leaders : NameSet) → count + factors places (member singles) (member leaders) ≤ places → count + cond (anyBelow places (member singles)) 1 0 ≤ places
 unfolding factors
 level-any count singles leaders h = omega arith
 

@@ -16,15 +16,16 @@ use Rattle.nameset.specs.declared.NameSet.{NameSet}
 use Rattle.nameset.specs.Set.{member, Sized, first, ofWord}
 use Rattle.nameset.specs.Promise.{Emptiness, Shrunk}
 use Rattle.nameset.proofs.Laws.{first-in}
+use Rattle.model.proofs.Tests.{same-test}
 use Rattle.follow.specs.Follow.{Follow}
 use Rattle.follow.specs.View.{viewOf}
 use Rattle.follow.specs.declared.Facts.{Facts}
-use Rattle.levels.specs.Below.{someBelow, countBelow}
+use Rattle.levels.specs.Below.{anyBelow, countBelow}
 use Rattle.levels.specs.Reach.{reachBy, reaches, occurs}
 use Rattle.peel.specs.Shown.{Shown}
 use Rattle.peel.specs.Sets.{meets, inRows, stepsOver}
-use Rattle.peel.proofs.Tests.{and-is, or-is, ltb-is, some-is, same-test, not-true, both-ways}
-use Rattle.peel.proofs.Below.{some-count}
+use Rattle.levels.proofs.Tests.{and-is, or-is, ltb-is, some-is, refuted, both-ways}
+use Rattle.levels.proofs.Below.{some-count}
 use Rattle.peel.proofs.Reaching.{edge-follows}
 use Rattle.rows.specs.Rows.{inWord, inRow, Round, amongRows}
 use Rattle.chain.specs.Chain.{Reached, factors}
@@ -69,7 +70,7 @@ occurs-law facts n s x =
     starts = member (facts .starts) x
 
     follows : Bool
-    follows = someBelow n (λ b. member (ofWord (getD (facts .follows) b 0)) x)
+    follows = anyBelow n (λ b. member (ofWord (getD (facts .follows) b 0)) x)
 
     small : (starts ≡ true) ⊎ (follows ≡ true) → x < n
     small (inl e) = s .starts x e
@@ -77,26 +78,26 @@ occurs-law facts n s x =
 
 -- ---- a set that is empty or not
 
-pub some-set : (s : NameSet) (r : Bool) → Emptiness s r → not r ≡ someBelow places (member s)
-some-set s true e = sym (not-true (someBelow places (member s)) (λ t. let p = some-is places (member s) .0 t in both-ways (member s (p .0)) (p .2) (e .none refl (p .0))))
-some-set s false e = go (someBelow places (member s)) refl
+pub some-set : (s : NameSet) (r : Bool) → Emptiness s r → not r ≡ anyBelow places (member s)
+some-set s true e = sym (refuted (anyBelow places (member s)) (λ t. let p = some-is places (member s) .0 t in both-ways (member s (p .0)) (p .2) (e .none refl (p .0))))
+some-set s false e = go (anyBelow places (member s)) refl
   where
-    go : (b : Bool) → someBelow places (member s) ≡ b → true ≡ b
+    go : (b : Bool) → anyBelow places (member s) ≡ b → true ≡ b
     go true q = refl
     go false q =
-        absurd (false≢true (e .all (λ j l. not-true (member s j) (λ m. both-ways (someBelow places (member s)) (some-is places (member s) .1 (j, l, m)) q))))
+        absurd (false≢true (e .all (λ j l. refuted (member s j) (λ m. both-ways (anyBelow places (member s)) (some-is places (member s) .1 (j, l, m)) q))))
 
-pub some-empty : (s : NameSet) (r : Bool) → Emptiness s r → r ≡ true → someBelow places (member s) ≡ false
+pub some-empty : (s : NameSet) (r : Bool) → Emptiness s r → r ≡ true → anyBelow places (member s) ≡ false
 some-empty s r e q = sym (some-set s r e) ∙ rw q
 
-pub some-full : (s : NameSet) (r : Bool) → Emptiness s r → r ≡ false → someBelow places (member s) ≡ true
+pub some-full : (s : NameSet) (r : Bool) → Emptiness s r → r ≡ false → anyBelow places (member s) ≡ true
 some-full s r e q = sym (some-set s r e) ∙ rw q
 
 -- ---- sets that meet
 
 pub meet-law : (a b s : NameSet) (r : Bool) → ((j : ℕ) → member s j ≡ (member a j && member b j)) → Emptiness s r → not r ≡ meets places (member a) (member b)
 unfolding meets
-meet-law a b s r law e = some-set s r e ∙ ap (someBelow places) (fun-ext law)
+meet-law a b s r law e = some-set s r e ∙ ap (anyBelow places) (fun-ext law)
 
 pub over-empty : (starts ends : ℕ → Bool) (follows : ℕ → ℕ → Bool) (lower higher : ℕ → Bool) (empty : Bool) → empty ≡ true → true ≡ stepsOver places empty starts ends follows lower higher
 unfolding stepsOver
@@ -119,12 +120,12 @@ module _ (empty : Bool) (starts ends : NameSet) (follows : List ℕ) (lower high
 
 -- ---- how many names a set has
 
-pub count-none : (n : ℕ) (p : ℕ → Bool) → someBelow n p ≡ false → countBelow n p ≡ 0
-unfolding someBelow countBelow
+pub count-none : (n : ℕ) (p : ℕ → Bool) → anyBelow n p ≡ false → countBelow n p ≡ 0
+unfolding anyBelow countBelow
 count-none zero p e = refl
-count-none (suc n) p e = go (someBelow n p) (p n) refl refl e (count-none n p)
+count-none (suc n) p e = go (anyBelow n p) (p n) refl refl e (count-none n p)
   where
-    go : (a b : Bool) → someBelow n p ≡ a → p n ≡ b → (a || b) ≡ false → (someBelow n p ≡ false → countBelow n p ≡ 0) → countBelow n p + cond (p n) 1 0 ≡ 0
+    go : (a b : Bool) → anyBelow n p ≡ a → p n ≡ b → (a || b) ≡ false → (anyBelow n p ≡ false → countBelow n p ≡ 0) → countBelow n p + cond (p n) 1 0 ≡ 0
     go true b u v h ih = absurd (false≢true (sym h))
     go false true u v h ih = absurd (false≢true (sym h))
     go false false u v h ih = rw v (omega (arith, ih u))

@@ -13,18 +13,20 @@ use Rattle.nameset.specs.Set.{member}
 use Rattle.model.specs.declared.Model.{Model}
 use Rattle.model.specs.Record.{emptyModel}
 use Rattle.model.specs.Build.{withFactor}
+use Rattle.model.proofs.Tests.{same-test}
 use Rattle.follow.specs.Follow.{Follow}
 use Rattle.follow.specs.View.{viewOf}
 use Rattle.follow.specs.declared.Facts.{Facts}
-use Rattle.levels.specs.Below.{someBelow, countBelow, firstBelow}
+use Rattle.levels.specs.Below.{anyBelow, countBelow, firstBelow}
 use Rattle.levels.specs.Reach.{reaches, sameGroup, loops, leads, occurs}
 use Rattle.levels.specs.Level.{isBefore, levelOf, lastLevel, skipped}
 use Rattle.levels.specs.Chain.{singleAt, leadsAt, factorsAt, fixed, singlesMode, groupMode, withSingles, withGroups, withLevel, chainTo, chainOf}
 use Rattle.peel.specs.Shown.{Shown}
 use Rattle.peel.specs.Sets.{isLower, isAt, isHigher, inRows, stepsOver}
-use Rattle.peel.proofs.Tests.{and-is, not-is, eqb-is, some-is, some-within, same-test, not-true, both-ways}
-use Rattle.peel.proofs.Below.{first-le, first-is, count-past, count-lt}
-use Rattle.peel.proofs.Reaching.{reach-small, occurs-small, group-is}
+use Rattle.levels.proofs.Tests.{and-is, not-is, eqb-is, some-is, some-within, refuted, both-ways}
+use Rattle.levels.proofs.Below.{first-le, first-is, count-past, count-lt}
+use Rattle.levels.proofs.Reach.{reaches-below, group-is}
+use Rattle.peel.proofs.Reaching.{occurs-small}
 use Rattle.peel.proofs.Peel.{at-is, higher-is, higher-first, lower-first, higher-next, lower-next, single-at, leads-at, peel, level-left, level-none, level-found}
 use Rattle.peel.proofs.Skips.{skipped-law}
 use Rattle.peel.proofs.Counting.{level-room}
@@ -46,35 +48,35 @@ both-reach true true = refl
 both-reach true false = refl
 both-reach false b = refl
 
-leads-smallest : (f : Follow) (x : ℕ) → (sameGroup f x x && not (someBelow x (sameGroup f x))) ≡ leads f x
+leads-smallest : (f : Follow) (x : ℕ) → (sameGroup f x x && not (anyBelow x (sameGroup f x))) ≡ leads f x
 unfolding leads loops
 leads-smallest f x =
-    same-test (sameGroup f x x && not (someBelow x (sameGroup f x))) (reaches f x x && eqb (firstBelow (f .names) (sameGroup f x)) x) to from
+    same-test (sameGroup f x x && not (anyBelow x (sameGroup f x))) (reaches f x x && eqb (firstBelow (f .names) (sameGroup f x)) x) to from
   where
-    to : (sameGroup f x x && not (someBelow x (sameGroup f x))) ≡ true → (reaches f x x && eqb (firstBelow (f .names) (sameGroup f x)) x) ≡ true
+    to : (sameGroup f x x && not (anyBelow x (sameGroup f x))) ≡ true → (reaches f x x && eqb (firstBelow (f .names) (sameGroup f x)) x) ≡ true
     to e =
-        let p = and-is (sameGroup f x x) (not (someBelow x (sameGroup f x))) .0 e in
+        let p = and-is (sameGroup f x x) (not (anyBelow x (sameGroup f x))) .0 e in
         let r = group-is f x x .0 (p .0) .0 in
-        let h = reach-small f x x r .0 in
-        let none = not-is (someBelow x (sameGroup f x)) .0 (p .1) in
+        let h = reaches-below f x x r in
+        let none = not-is (anyBelow x (sameGroup f x)) .0 (p .1) in
         let le = first-le (f .names) (sameGroup f x) x h (p .0) in
         let is = first-is (f .names) (sameGroup f x) x h (p .0) in
         and-is (reaches f x x) (eqb (firstBelow (f .names) (sameGroup f x)) x) .1
         (r, eqb-is (firstBelow (f .names) (sameGroup f x)) x .1 (equal none le is (decLt (firstBelow (f .names) (sameGroup f x)) x)))
       where
-        equal : someBelow x (sameGroup f x) ≡ false → firstBelow (f .names) (sameGroup f x) ≤ x → sameGroup f x (firstBelow (f .names) (sameGroup f x)) ≡ true →
+        equal : anyBelow x (sameGroup f x) ≡ false → firstBelow (f .names) (sameGroup f x) ≤ x → sameGroup f x (firstBelow (f .names) (sameGroup f x)) ≡ true →
             Dec (firstBelow (f .names) (sameGroup f x) < x) → firstBelow (f .names) (sameGroup f x) ≡ x
-        equal none le is (yes l) = absurd (both-ways (someBelow x (sameGroup f x)) (some-is x (sameGroup f x) .1 (firstBelow (f .names) (sameGroup f x), l, is)) none)
+        equal none le is (yes l) = absurd (both-ways (anyBelow x (sameGroup f x)) (some-is x (sameGroup f x) .1 (firstBelow (f .names) (sameGroup f x), l, is)) none)
         equal none le is (no l) = omega arith
 
-    from : (reaches f x x && eqb (firstBelow (f .names) (sameGroup f x)) x) ≡ true → (sameGroup f x x && not (someBelow x (sameGroup f x))) ≡ true
+    from : (reaches f x x && eqb (firstBelow (f .names) (sameGroup f x)) x) ≡ true → (sameGroup f x x && not (anyBelow x (sameGroup f x))) ≡ true
     from e =
         let p = and-is (reaches f x x) (eqb (firstBelow (f .names) (sameGroup f x)) x) .0 e in
         let q = eqb-is (firstBelow (f .names) (sameGroup f x)) x .0 (p .1) in
-        let h = reach-small f x x (p .0) .0 in
-        and-is (sameGroup f x x) (not (someBelow x (sameGroup f x))) .1 (
+        let h = reaches-below f x x (p .0) in
+        and-is (sameGroup f x x) (not (anyBelow x (sameGroup f x))) .1 (
           group-is f x x .1 (p .0, p .0),
-          not-is (someBelow x (sameGroup f x)) .1 (not-true (someBelow x (sameGroup f x)) (λ t. let r = some-is x (sameGroup f x) .0 t in omega (arith, q, r .1, h, first-le (f .names) (sameGroup f x) (r .0) (omega (arith, r .1, h)) (r .2)))),
+          not-is (anyBelow x (sameGroup f x)) .1 (refuted (anyBelow x (sameGroup f x)) (λ t. let r = some-is x (sameGroup f x) .0 t in omega (arith, q, r .1, h, first-le (f .names) (sameGroup f x) (r .0) (omega (arith, r .1, h)) (r .2)))),
         )
 
 pub tables-made : (f : Follow) (reach behind : List ℕ) (looping lead : NameSet) → Reached f reach → OneWay reach behind → ((a : ℕ) → member looping a ≡ inRow reach a a) →
@@ -95,7 +97,7 @@ tables-made f reach behind looping lead r o own small =
     leading : (x : ℕ) → member lead x ≡ leads f x
     leading x =
         small x
-        ∙ ap (λ (p : ℕ → Bool). p x && not (someBelow x p)) (fun-ext (λ b. group x b))
+        ∙ ap (λ (p : ℕ → Bool). p x && not (anyBelow x p)) (fun-ext (λ b. group x b))
         ∙ leads-smallest f x
 
 -- ---- one level
@@ -117,9 +119,9 @@ module _ (f : Follow) (n : f .names ≤ places) where
   leads-small l x e = small-at l x (and-is (isAt f l x) (leads f x) .0 (sym (leads-at f l x) ∙ e) .0)
 
   leads-past : (l x : ℕ) → f .names ≤ x → leadsAt f l x ≡ false
-  leads-past l x h = not-true (leadsAt f l x) (λ e. absurd (omega (arith, leads-small l x e)))
+  leads-past l x h = refuted (leadsAt f l x) (λ e. absurd (omega (arith, leads-small l x e)))
 
-  some-singles : (l : ℕ) → someBelow places (singleAt f l) ≡ someBelow (f .names) (singleAt f l)
+  some-singles : (l : ℕ) → anyBelow places (singleAt f l) ≡ anyBelow (f .names) (singleAt f l)
   some-singles l =
       some-within places (f .names) (singleAt f l) (singleAt f l) (λ x e. (single-small l x e, e)) (λ x e. (omega (arith, single-small l x e), e))
 
@@ -136,7 +138,7 @@ module _ (f : Follow) (n : f .names ≤ places) where
   level-made l m =
       ap (λ (b : Bool). withEach (leadsAt f l) (sameGroup f) (cond (fixed f l) 2 3) places (cond b (withFactor m (singleAt f l) (cond (fixed f l) 0 1)) m)) (some-singles l)
       ∙ each-upto (leadsAt f l) (sameGroup f) (cond (fixed f l) 2 3) (f .names) places _ n (λ x a b. leads-past l x a)
-      ∙ each-groups f l (f .names) (cond (someBelow (f .names) (singleAt f l)) (withFactor m (singleAt f l) (cond (fixed f l) 0 1)) m)
+      ∙ each-groups f l (f .names) (cond (anyBelow (f .names) (singleAt f l)) (withFactor m (singleAt f l) (cond (fixed f l) 0 1)) m)
 
 -- ---- the follow rows as facts
 
@@ -164,20 +166,20 @@ stage-none f m lower higher e p q =
     record { level = 0; few = omega arith; same = e; lower-law = λ x. p x ∙ sym (lower-first f x); higher-law = λ x. q x ∙ sym (higher-first f x) }
 
 module _ {f : Follow} {m : Model} {lower higher : NameSet} (s : Shown f) (n : f .names ≤ places) (st : Stage f m lower higher) where
-  pub stage-last : someBelow places (member higher) ≡ false → m ≡ chainOf places f
+  pub stage-last : anyBelow places (member higher) ≡ false → m ≡ chainOf places f
   unfolding chainOf
   stage-last e = st .same ∙ ap (chainTo places f) (let h = level-none f s (st .level) none in let k = st .few in last h k)
     where
       none : (x : ℕ) → isHigher f (st .level) x ≡ false
       none x =
-          not-true (isHigher f (st .level) x)
-          (λ t. both-ways (someBelow places (member higher)) (some-is places (member higher) .1 (x, omega (arith, occurs-small f x (higher-is f (st .level) x .0 t .0)), st .higher-law x ∙ t)) e)
+          refuted (isHigher f (st .level) x)
+          (λ t. both-ways (anyBelow places (member higher)) (some-is places (member higher) .1 (x, omega (arith, occurs-small f x (higher-is f (st .level) x .0 t .0)), st .higher-law x ∙ t)) e)
 
       last : lastLevel f - 1 ≤ st .level → st .level ≤ lastLevel f - 1 → st .level ≡ lastLevel f - 1
       last h k = omega arith
 
   -- one turn: a name is left
-  module _ {reach behind : List ℕ} {looping lead : NameSet} (t : Tables f reach behind looping lead) (some : someBelow places (member higher) ≡ true)
+  module _ {reach behind : List ℕ} {looping lead : NameSet} (t : Tables f reach behind looping lead) (some : anyBelow places (member higher) ≡ true)
       (on above : NameSet) (on-law : (x : ℕ) → member on x ≡ (member higher x && not (inRows places (inRow behind) (member higher) x)))
       (above-law : (x : ℕ) → member above x ≡ (member higher x && not (member on x))) where
     left : (x : ℕ) × (isHigher f (st .level) x ≡ true)
@@ -204,7 +206,7 @@ module _ {f : Follow} {m : Model} {lower higher : NameSet} (s : Shown f) (n : f 
         let i = at-is f (suc (st .level)) (y .0) .0 (y .1) in
         count-lt places (member above) (member higher) (λ x h e. and-is (member higher x) (not (member on x)) .0 (sym (above-law x) ∙ e) .0) (y .0)
         (omega (arith, occurs-small f (y .0) (i .0)))
-        (above-is (y .0) ∙ not-true (isHigher f (suc (st .level)) (y .0)) (λ e. omega (arith, higher-is f (suc (st .level)) (y .0) .0 e .1, i .1)))
+        (above-is (y .0) ∙ refuted (isHigher f (suc (st .level)) (y .0)) (λ e. omega (arith, higher-is f (suc (st .level)) (y .0) .0 e .1, i .1)))
         (st .higher-law (y .0) ∙ higher-is f (st .level) (y .0) .1 (i .0, omega (arith, i .1)))
 
     module _ (skips : Bool) (skips-law : skips ≡ stepsOver places (f .empty) (f .starts) (f .ends) (f .follows) (member lower) (member above))

@@ -10,7 +10,7 @@ use Rattle.nameset.specs.Set.{member}
 use Rattle.model.specs.declared.Model.{Model}
 use Rattle.model.specs.Build.{withFactor}
 use Rattle.follow.specs.Follow.{Follow}
-use Rattle.levels.specs.Below.{someBelow, countBelow}
+use Rattle.levels.specs.Below.{anyBelow, countBelow}
 use Rattle.levels.specs.Reach.{reaches}
 use Rattle.rows.specs.Rows.{inRow, groupIn}
 
@@ -25,11 +25,11 @@ holdsIn reach behind a b = member (groupIn reach behind a) b
 
 -- How many factors the singles and the groups with these smallest numbers have.
 unfoldable pub factors : ℕ → (ℕ → Bool) → (ℕ → Bool) → ℕ
-factors size singles leaders = cond (someBelow size singles) 1 0 + countBelow size leaders
+factors size singles leaders = cond (anyBelow size singles) 1 0 + countBelow size leaders
 
 -- The record m with the names of the set as one factor, if there are any.
 unfoldable pub withAny : ℕ → (ℕ → Bool) → ℕ → Model → Model
-withAny size names mode m = cond (someBelow size names) (withFactor m names mode) m
+withAny size names mode m = cond (anyBelow size names) (withFactor m names mode) m
 
 -- The record m with a factor for each number below k that passes the test, in rising order.
 unfoldable pub withEach : (ℕ → Bool) → (ℕ → ℕ → Bool) → ℕ → ℕ → Model → Model

@@ -6,7 +6,7 @@ ghost use lib.Dec.{eqb};
 ghost use lib.ListN.{length};
 ghost use Rattle.nameset.specs.Places.{places};
 ghost use Rattle.nameset.specs.Set.{member};
-ghost use Rattle.levels.specs.Below.{someBelow, countBelow};
+ghost use Rattle.levels.specs.Below.{anyBelow, countBelow};
 ghost use Rattle.levels.specs.Reach.{occurs};
 ghost use Rattle.levels.specs.Chain.{chainOf};
 ghost use Rattle.follow.specs.View.{viewOf};
@@ -104,7 +104,7 @@ fn mode(fixed: bool, plain: u8, optional: u8) -> u8
 
 // The record with the names of the set as one factor, if there are any.
 fn with_any(m: Model, names: NameSet, mode: u8) -> Model
-    requires { ⌜ m .count + cond (someBelow places (member names)) 1 0 ≤ places ⌝ }
+    requires { ⌜ m .count + cond (anyBelow places (member names)) 1 0 ≤ places ⌝ }
     ensures { λ r. ⌜ r ≡ withAny places (member names) mode m ⌝ }
 {
     if names.is_empty() {

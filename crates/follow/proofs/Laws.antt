@@ -4,7 +4,7 @@ use Prim.Native.Nat.{ℕ, zero, suc, _≤_, _<_}
 use mathlib.Core.Path.{_≡_, refl, sym, _∙_, ap}
 use mathlib.Core.Bool.{Bool, true, false, _&&_, _||_, cond, or-false, or-assoc, false≢true}
 use mathlib.Core.List.{List, [], _∷_, List·Memᴰ, List·Memᴰ·head, List·Memᴰ·tail, List·Memᴰ·not-nil, List·Memᴰ·cases-cons}
-use mathlib.Core.Logic.{_⊎_, inl, inr}
+use mathlib.Core.Logic.{_⊎_, inl, inr, _↔_}
 use native.Mathlib.Nat.{lt-of-lt-of-le}
 use native.Mathlib.Decide.{ℕ-discrete}
 use lib.Dec.{eqb, ltb}
@@ -37,6 +37,14 @@ fewer-names n m (x ∷ w) l h = (lt-of-lt-of-le (h .0) l, fewer-names n m w l (h
 pub fewer-over : (n m : ℕ) (ws : List (List ℕ)) → n ≤ m → Over n ws → Over m ws
 fewer-over n m [] l h = tt
 fewer-over n m (w ∷ ws) l h = (fewer-names n m w l (h .0), fewer-over n m ws l (h .1))
+
+pub over-in : (n : ℕ) (ws : List (List ℕ)) → Over n ws → (w : List ℕ) → List·Memᴰ w ws → Names n w
+over-in n [] o w i = absurd (List·Memᴰ·not-nil i)
+over-in n (v ∷ vs) o w i = go (List·Memᴰ·cases-cons i) (over-in n vs (o .1) w)
+  where
+    go : (w ≡ v) ⊎ List·Memᴰ w vs → (List·Memᴰ w vs → Names n w) → Names n w
+    go (inl e) ih = rw e (o .0)
+    go (inr j) ih = ih j
 
 pub names-below : (n : ℕ) (w : List ℕ) → allBelow n w ≡ true → Names n w
 unfolding allBelow
@@ -176,31 +184,31 @@ sample-shown s l parent laid = facts-shown (l .names) (wordsOf parent (blocksIn 
 
 -- ---- order and repeats
 
-some-word : (test : List ℕ → Bool) (ws : List (List ℕ)) → someWord test ws ≡ true → (w : List ℕ) × List·Memᴰ w ws × (test w ≡ true)
+-- Some word passes the test exactly when a word of the list does.
+pub some-word : (test : List ℕ → Bool) (words : List (List ℕ)) → (someWord test words ≡ true) ↔ ((w : List ℕ) × List·Memᴰ w words × (test w ≡ true))
 unfolding someWord
-some-word test [] e = absurd (false≢true e)
-some-word test (w ∷ ws) e = go (some-word test ws) (or-split (test w) (someWord test ws) e)
+some-word test [] = (λ e. absurd (false≢true e), λ p. absurd (List·Memᴰ·not-nil (p .1)))
+some-word test (v ∷ ws) = (λ e. to (or-split (test v) (someWord test ws) e) (some-word test ws .0), λ p. from p (some-word test ws .1))
   where
-    go : (someWord test ws ≡ true → (v : List ℕ) × List·Memᴰ v ws × (test v ≡ true)) → (test w ≡ true) ⊎ (someWord test ws ≡ true) →
-        (v : List ℕ) × List·Memᴰ v (w ∷ ws) × (test v ≡ true)
-    go f (inl p) = (w, List·Memᴰ·head refl, p)
-    go f (inr p) = let r = f p in (r .0, List·Memᴰ·tail (r .1), r .2)
+    to : (test v ≡ true) ⊎ (someWord test ws ≡ true) → (someWord test ws ≡ true → (w : List ℕ) × List·Memᴰ w ws × (test w ≡ true)) →
+        (w : List ℕ) × List·Memᴰ w (v ∷ ws) × (test w ≡ true)
+    to (inl e) ih = (v, List·Memᴰ·head refl, e)
+    to (inr e) ih = let p = ih e in (p .0, List·Memᴰ·tail (p .1), p .2)
 
-word-some : (test : List ℕ → Bool) (ws : List (List ℕ)) (w : List ℕ) → List·Memᴰ w ws → test w ≡ true → someWord test ws ≡ true
-unfolding someWord
-word-some test [] w m e = absurd (List·Memᴰ·not-nil m)
-word-some test (x ∷ ws) w m e = go (word-some test ws w) (List·Memᴰ·cases-cons m)
-  where
-    go : (List·Memᴰ w ws → test w ≡ true → someWord test ws ≡ true) → (w ≡ x) ⊎ List·Memᴰ w ws → (test x || someWord test ws) ≡ true
-    go f (inl p) = rw (ap test (sym p) ∙ e)
-    go f (inr q) = or-right (test x) (someWord test ws) (f q e)
+    from : ((w : List ℕ) × List·Memᴰ w (v ∷ ws) × (test w ≡ true)) → (((w : List ℕ) × List·Memᴰ w ws × (test w ≡ true)) → someWord test ws ≡ true) →
+        (test v || someWord test ws) ≡ true
+    from (w, m, e) ih = go (List·Memᴰ·cases-cons m)
+      where
+        go : (w ≡ v) ⊎ List·Memᴰ w ws → (test v || someWord test ws) ≡ true
+        go (inl q) = rw (ap test (sym q) ∙ e)
+        go (inr q) = or-right (test v) (someWord test ws) (ih (w, q, e))
 
 some-same : (test : List ℕ → Bool) (us vs : List (List ℕ)) → SameWords us vs → someWord test us ≡ someWord test vs
 some-same test us vs same =
-    same-test (someWord test us) (someWord test vs) (λ e. to us vs (λ w. same w .0) (some-word test us e)) (λ e. to vs us (λ w. same w .1) (some-word test vs e))
+    same-test (someWord test us) (someWord test vs) (λ e. to us vs (λ w. same w .0) (some-word test us .0 e)) (λ e. to vs us (λ w. same w .1) (some-word test vs .0 e))
   where
     to : (xs ys : List (List ℕ)) → ((w : List ℕ) → List·Memᴰ w xs → List·Memᴰ w ys) → ((w : List ℕ) × List·Memᴰ w xs × (test w ≡ true)) → someWord test ys ≡ true
-    to xs ys f (w, m, e) = word-some test ys w (f w m) e
+    to xs ys f (w, m, e) = some-word test ys .1 (w, f w m, e)
 
 -- The facts depend only on which words there are.
 pub same-facts : (n : ℕ) (us vs : List (List ℕ)) → SameWords us vs → followOf n us ≡ followOf n vs

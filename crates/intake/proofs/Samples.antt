@@ -3,8 +3,7 @@
 use Prim.Native.Nat.{ℕ, _≤_, _<_}
 use mathlib.Core.Path.{_≡_, refl, sym, _∙_, ap, subst}
 use mathlib.Core.Bool.{Bool, true, false, cond}
-use mathlib.Core.List.{List, [], _∷_, List·Memᴰ, List·Memᴰ·not-nil, List·Memᴰ·cases-cons}
-use mathlib.Core.Logic.{_⊎_, inl, inr}
+use mathlib.Core.List.{List, [], _∷_, List·Memᴰ}
 use lib.Dec.{eqb}
 use lib.ListN.{length}
 use borrow.Author.Tests.{lt-ltb, eqb-true}
@@ -18,17 +17,9 @@ use Rattle.book.proofs.Told.{Within}
 use Rattle.book.proofs.Laws.{few-names, blocks-in, blocks-within}
 use Rattle.model.specs.Accept.{Names}
 use Rattle.follow.specs.Sample.{wordsOf, Over}
-use Rattle.follow.proofs.Laws.{sample-over}
+use Rattle.follow.proofs.Laws.{over-in, sample-over}
 use Rattle.intake.specs.declared.Inferred.{Inferred}
 use Rattle.intake.specs.Inference.{sampleOf, noWord, badParent, chainIn, modelIn, modelAnswer, inferred}
-
-over-in : (n : ℕ) (ws : List (List ℕ)) → Over n ws → (w : List ℕ) → List·Memᴰ w ws → Names n w
-over-in n [] o w i = absurd (List·Memᴰ·not-nil i)
-over-in n (v ∷ vs) o w i = go (List·Memᴰ·cases-cons i) (over-in n vs (o .1) w)
-  where
-    go : (w ≡ v) ⊎ List·Memᴰ w vs → (List·Memᴰ w vs → Names n w) → Names n w
-    go (inl e) ih = rw e (o .0)
-    go (inr j) ih = ih j
 
 -- a parent with a block is below n where every block's parent is
 parent-below : (n p : ℕ) (bs : List Block) → Within n bs → ¬ (wordsOf p bs ≡ []) → p < n

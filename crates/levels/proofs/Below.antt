@@ -2,12 +2,12 @@
 -- Assumes nothing.
 use Prim.Native.Nat.{ℕ, zero, suc, _+_, _≤_, _<_, max}
 use mathlib.Core.Path.{_≡_, refl, sym, _∙_, ap}
-use mathlib.Core.Bool.{Bool, true, false, cond, false≢true}
+use mathlib.Core.Bool.{Bool, true, false, cond, _||_, false≢true}
 use native.Mathlib.Omega.{arith}
 use native.Mathlib.Decide.{decLe, ℕ-discrete}
 use lib.Dec.{ltb}
 use borrow.Author.Tests.{lt-ltb, le-ltb, ltb-true}
-use Rattle.levels.specs.Below.{countBelow, firstBelow, largestBelow}
+use Rattle.levels.specs.Below.{anyBelow, countBelow, firstBelow, largestBelow}
 
 -- ---- the largest
 
@@ -48,6 +48,15 @@ pub largest-same : (n : ℕ) (test : ℕ → Bool) (v w : ℕ → ℕ) → ((k :
 unfolding largestBelow
 largest-same zero test v w h = refl
 largest-same (suc n) test v w h = rw (kept-same (test n) (v n) (w n) (h n (omega arith)), largest-same n test v w (λ k l. h k (omega arith)))
+
+pub largest-most : (n : ℕ) (t : ℕ → Bool) (v : ℕ → ℕ) (m : ℕ) → ((k : ℕ) → k < n → t k ≡ true → v k ≤ m) → largestBelow n t v ≤ m
+unfolding largestBelow
+largest-most zero t v m h = omega arith
+largest-most (suc n) t v m h = go (t n) refl (largest-most n t v m (λ k l. h k (omega arith)))
+  where
+    go : (b : Bool) → t n ≡ b → largestBelow n t v ≤ m → max (largestBelow n t v) (cond b (v n) 0) ≤ m
+    go true p ih = omega (arith, h n (omega arith) p)
+    go false p ih = omega arith
 
 -- ---- how many
 
@@ -130,7 +139,63 @@ few n c place named = omega (arith, go c (omega arith), count-all n (λ x. ltb (
               (lt-ltb (place (z .0)) (suc k) (omega (arith, z .2))),
         )
 
--- ---- the smallest passes, if any does
+bit-join : (p q r : Bool) → (p ≡ true → q ≡ true → ⊥) → (p ≡ true → r ≡ true) → (q ≡ true → r ≡ true) → cond {A = ℕ} p 1 0 + cond q 1 0 ≤ cond r 1 0
+bit-join true true r d f g = absurd (d refl refl)
+bit-join true false r d f g = rw (f refl) (omega arith)
+bit-join false true r d f g = rw (g refl) (omega arith)
+bit-join false false r d f g = omega arith
+
+-- two tests that never pass together
+pub count-join : (n : ℕ) (p q r : ℕ → Bool) → ((x : ℕ) → x < n → p x ≡ true → q x ≡ true → ⊥) → ((x : ℕ) → x < n → p x ≡ true → r x ≡ true) →
+    ((x : ℕ) → x < n → q x ≡ true → r x ≡ true) → countBelow n p + countBelow n q ≤ countBelow n r
+unfolding countBelow
+count-join zero p q r d f g = omega arith
+count-join (suc n) p q r d f g =
+    omega (
+      arith,
+      bit-join (p n) (q n) (r n) (d n (omega arith)) (f n (omega arith)) (g n (omega arith)),
+      count-join n p q r (λ x l. d x (omega arith)) (λ x l. f x (omega arith)) (λ x l. g x (omega arith)),
+    )
+
+bit-or : (a b : Bool) (k : ℕ) → cond {A = ℕ} a 1 0 ≤ k → cond {A = ℕ} (a || b) 1 0 ≤ k + cond b 1 0
+bit-or true b k h = omega arith
+bit-or false b k h = omega arith
+
+-- one, if there is any
+pub some-count : (n : ℕ) (p : ℕ → Bool) → cond {A = ℕ} (anyBelow n p) 1 0 ≤ countBelow n p
+unfolding anyBelow countBelow
+some-count zero p = omega arith
+some-count (suc n) p = bit-or (anyBelow n p) (p n) (countBelow n p) (some-count n p)
+
+pub count-more : (m n : ℕ) (p : ℕ → Bool) → m < n → p m ≡ true → suc (countBelow m p) ≤ countBelow n p
+unfolding countBelow
+count-more m zero p l e = absurd (omega arith)
+count-more m (suc n) p l e = go (ℕ-discrete m n) (λ k. count-more m n p k e)
+  where
+    go : Dec (m ≡ n) → (m < n → suc (countBelow m p) ≤ countBelow n p) → suc (countBelow m p) ≤ countBelow n p + cond (p n) 1 0
+    go (yes q) ih = rw (← q, e) (omega arith)
+    go (no q) ih = omega (arith, ih (omega arith))
+
+pub count-past : (n j : ℕ) (p : ℕ → Bool) → ((x : ℕ) → n ≤ x → p x ≡ false) → countBelow (n + j) p ≡ countBelow n p
+unfolding countBelow
+count-past n zero p h = let e : n + 0 ≡ n = omega arith in rw e
+count-past n (suc j) p h =
+    let e : n + suc j ≡ suc (n + j) = omega arith in
+    let q : p (n + j) ≡ false = h (n + j) (omega arith) in
+    rw (e, q) (omega (arith, count-past n j p h))
+
+-- ---- the smallest: it passes, if any number does
+
+pub first-le : (n : ℕ) (f : ℕ → Bool) (k : ℕ) → k < n → f k ≡ true → firstBelow n f ≤ k
+unfolding firstBelow
+first-le zero f k h e = absurd (omega arith)
+first-le (suc n) f k h e = go (f 0) refl k h e (λ j. first-le n (λ i. f (suc i)) j)
+  where
+    go : (b : Bool) → f 0 ≡ b → (k : ℕ) → k < suc n → f k ≡ true → ((j : ℕ) → j < n → f (suc j) ≡ true → firstBelow n (λ i. f (suc i)) ≤ j) →
+        cond b 0 (suc (firstBelow n (λ i. f (suc i)))) ≤ k
+    go true p k h e ih = omega arith
+    go false p zero h e ih = absurd (false≢true (sym p ∙ e))
+    go false p (suc k) h e ih = omega (arith, ih k (omega arith) e)
 
 pub first-is : (n : ℕ) (f : ℕ → Bool) (k : ℕ) → k < n → f k ≡ true → f (firstBelow n f) ≡ true
 unfolding firstBelow

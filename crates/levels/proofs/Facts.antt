@@ -10,6 +10,7 @@ use lib.Dec.{eqb}
 use Rattle.model.specs.Accept.{Names}
 use Rattle.language.specs.Word.{Point, start, name, end, Beside, Shows, Fact}
 use Rattle.follow.specs.Follow.{someWord, beginsWith, endsWith, hasPair, isEmpty, followOf, steps}
+use Rattle.follow.proofs.Laws.{some-word}
 use Rattle.levels.proofs.Tests.{and-is, or-is, eqb-is}
 
 -- ---- points are told apart
@@ -111,24 +112,6 @@ empty-is (a ∷ w) = (λ e. absurd (false≢true e), from)
 
 -- ---- a list of words
 
-pub some-word : (test : List ℕ → Bool) (words : List (List ℕ)) → (someWord test words ≡ true) ↔ ((w : List ℕ) × List·Memᴰ w words × (test w ≡ true))
-unfolding someWord
-some-word test [] = (λ e. absurd (false≢true e), λ p. absurd (List·Memᴰ·not-nil (p .1)))
-some-word test (v ∷ ws) = (λ e. to (or-is (test v) (someWord test ws) .0 e) (some-word test ws .0), λ p. or-is (test v) (someWord test ws) .1 (from p (some-word test ws .1)))
-  where
-    to : (test v ≡ true) ⊎ (someWord test ws ≡ true) → (someWord test ws ≡ true → (w : List ℕ) × List·Memᴰ w ws × (test w ≡ true)) →
-        (w : List ℕ) × List·Memᴰ w (v ∷ ws) × (test w ≡ true)
-    to (inl e) ih = (v, List·Memᴰ·head refl, e)
-    to (inr e) ih = let p = ih e in (p .0, List·Memᴰ·tail (p .1), p .2)
-
-    from : ((w : List ℕ) × List·Memᴰ w (v ∷ ws) × (test w ≡ true)) → (((w : List ℕ) × List·Memᴰ w ws × (test w ≡ true)) → someWord test ws ≡ true) →
-        (test v ≡ true) ⊎ (someWord test ws ≡ true)
-    from (w, m, e) ih = go (List·Memᴰ·cases-cons m)
-      where
-        go : (w ≡ v) ⊎ List·Memᴰ w ws → (test v ≡ true) ⊎ (someWord test ws ≡ true)
-        go (inl q) = inl (ap test (sym q) ∙ e)
-        go (inr q) = inr (ih (w, q, e))
-
 pub fact-word : (words : List (List ℕ)) (u v : Point) → Fact words u v ↔ ((w : List ℕ) × List·Memᴰ w words × Shows w u v)
 fact-word [] u v = (λ f. absurd f, λ p. absurd (List·Memᴰ·not-nil (p .1)))
 fact-word (x ∷ ws) u v = (λ f. to f (fact-word ws u v .0), λ p. from p (fact-word ws u v .1))
@@ -193,3 +176,13 @@ module _ (n : ℕ) (words : List (List ℕ)) where
 
     pub steps-facts : (u v : Point) → steps (followOf n words) u v ↔ Fact words u v
     steps-facts u v = (λ g. fact-word words u v .1 (shown u v g), λ f. steps-shown u v .1 (fact-word words u v .0 f))
+
+    -- So each fact is a step between names below n.
+    pub starts-step : (a : ℕ) → followOf n words .starts a ≡ true → steps (followOf n words) start (name a)
+    starts-step a e = let k = some-word (beginsWith a) words .0 e in step start (name a) (k .0) (k .1) (begins-is a (k .0) .0 (k .2))
+
+    pub ends-step : (a : ℕ) → followOf n words .ends a ≡ true → steps (followOf n words) (name a) end
+    ends-step a e = let k = some-word (endsWith a) words .0 e in step (name a) end (k .0) (k .1) (ends-is a (k .0) .0 (k .2))
+
+    pub follows-step : (a b : ℕ) → followOf n words .follows a b ≡ true → steps (followOf n words) (name a) (name b)
+    follows-step a b e = let k = some-word (hasPair a b) words .0 e in step (name a) (name b) (k .0) (k .1) (pair-is a b (k .0) .0 (k .2))

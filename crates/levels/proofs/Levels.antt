@@ -13,8 +13,8 @@ use Rattle.levels.specs.Below.{countBelow, largestBelow}
 use Rattle.levels.specs.Reach.{reaches, sameGroup}
 use Rattle.levels.specs.Level.{OneGroup, isBefore, levelBy, levelOf, lastLevel}
 use Rattle.levels.proofs.Tests.{and-is, not-is, both-ways, refuted}
-use Rattle.levels.proofs.Below.{largest-bounds, largest-has, largest-same, count-lt, count-all}
-use Rattle.levels.proofs.Reach.{reaches-is, reaches-trans, reaches-below, group-is, group-reach, group-sym, group-below}
+use Rattle.levels.proofs.Below.{largest-bounds, largest-has, largest-same, largest-most, count-lt, count-all}
+use Rattle.levels.proofs.Reach.{reaches-is, reaches-trans, reaches-below, reached-below, group-is, group-reach, group-sym, group-below}
 use Rattle.levels.proofs.Paths.{Way, here, by, Occurs, occurs-below, Sampled}
 
 -- The level of a point.
@@ -28,7 +28,7 @@ abbrev pub Alike : Follow → ℕ → ℕ → Type 0
 Alike f x y = (x ≡ y) ⊎ (sameGroup f x y ≡ true)
 
 module _ (f : Follow) where
-  before-is : (b a : ℕ) → (isBefore f b a ≡ true) ↔ ((reaches f b a ≡ true) × (reaches f a b ≡ false))
+  pub before-is : (b a : ℕ) → (isBefore f b a ≡ true) ↔ ((reaches f b a ≡ true) × (reaches f a b ≡ false))
   unfolding isBefore
   before-is b a = (
     λ e. let p = and-is (reaches f b a) (not (reaches f a b)) .0 e in (p .0, not-is (reaches f a b) .0 (p .1)),
@@ -83,11 +83,21 @@ module _ (f : Follow) where
   pub level-low : (a : ℕ) → a < f .names → 0 < levelOf f a
   level-low a h = omega (arith, level-is a h)
 
-  before-rises : (b a : ℕ) → a < f .names → isBefore f b a ≡ true → levelOf f b < levelOf f a
-  before-rises b a h e =
-      omega (arith, level-is a h, largest-bounds (f .names) (λ x. isBefore f x a) (levelOf f) b (before-below b a e) e)
+  -- No level is above the number of names.
+  by-most : (k a : ℕ) → levelBy f k a ≤ k
+  unfolding levelBy
+  by-most zero a = omega arith
+  by-most (suc k) a = omega (arith, largest-most (f .names) (λ b. isBefore f b a) (λ b. levelBy f k b) k (λ b l e. by-most k b))
 
-  level-has : (a l : ℕ) → a < f .names → levelOf f a ≡ suc (suc l) → (b : ℕ) × (b < f .names) × (isBefore f b a ≡ true) × (levelOf f b ≡ suc l)
+  pub level-most : (a : ℕ) → levelOf f a ≤ f .names
+  unfolding levelOf
+  level-most a = by-most (f .names) a
+
+  pub before-rises : (b a : ℕ) → isBefore f b a ≡ true → levelOf f b < levelOf f a
+  before-rises b a e =
+      omega (arith, level-is a (reached-below f b a (before-is b a .0 e .0)), largest-bounds (f .names) (λ x. isBefore f x a) (levelOf f) b (before-below b a e) e)
+
+  pub level-has : (a l : ℕ) → a < f .names → levelOf f a ≡ suc (suc l) → (b : ℕ) × (b < f .names) × (isBefore f b a ≡ true) × (levelOf f b ≡ suc l)
   level-has a l h e = largest-has (f .names) (λ b. isBefore f b a) (levelOf f) l (omega (arith, level-is a h))
 
   -- The names of a loop group have one level.
@@ -99,12 +109,12 @@ module _ (f : Follow) where
       (fun-ext (λ b. same-test (isBefore f b x) (isBefore f b y) (λ e. before-reaches b x y e (q .0)) (λ e. before-reaches b y x e (q .1))))
       ∙ sym (level-is y (group-below f y x (group-sym f x y m)))
 
-  reach-level : (b c : ℕ) → c < f .names → reaches f b c ≡ true → levelOf f b ≤ levelOf f c
-  reach-level b c h e = go (reaches f c b) refl
+  pub reach-level : (b c : ℕ) → reaches f b c ≡ true → levelOf f b ≤ levelOf f c
+  reach-level b c e = go (reaches f c b) refl
     where
       go : (q : Bool) → reaches f c b ≡ q → levelOf f b ≤ levelOf f c
       go true d = omega (arith, group-level b c (group-is f b c .1 (e, d)))
-      go false d = omega (arith, before-rises b c h (before-is b c .1 (e, d)))
+      go false d = omega (arith, before-rises b c (before-is b c .1 (e, d)))
 
   -- ---- (l1) a step between different points goes to a higher level
 
@@ -135,7 +145,7 @@ module _ (f : Follow) where
 
       go : (q : Bool) → reaches f y x ≡ q → (levelOf f x < levelOf f y) ⊎ OneGroup f (name x) (name y)
       go true e = inr (one g, reaches-is f y x .0 e)
-      go false e = inl (before-rises x y (g .1) (before-is x y .1 (there, e)))
+      go false e = inl (before-rises x y (before-is x y .1 (there, e)))
   rises (name x) end g = inl (last-above x (g .0) (g .1))
   rises end v g = absurd g
 
@@ -216,7 +226,7 @@ module _ (f : Follow) where
   source-one : (x : ℕ) → x < f .names → levelOf f x ≡ 1 → In start x ⊎ Entry start x → Source x 0
   source-one x h e (inl i) = absurd i
   source-one x h e (inr (y, start, a, g, o, r)) = (y, start, a, g, refl)
-  source-one x h e (inr (y, name c, a, g, o, r)) = absurd (omega (arith, level-low c (g .0), before-rises c x h o))
+  source-one x h e (inr (y, name c, a, g, o, r)) = absurd (omega (arith, level-low c (g .0), before-rises c x o))
   source-one x h e (inr (y, end, a, g, o, r)) = absurd o
 
   outside : (b x : ℕ) → isBefore f b x ≡ true → Alike f x b → ⊥
@@ -231,7 +241,7 @@ module _ (f : Follow) where
     where
       go : (b ≡ c) ⊎ (reaches f b c ≡ true) → levelOf f c ≡ suc l
       go (inl d) = ap (levelOf f) (sym d) ∙ q
-      go (inr d) = omega (arith, reach-level b c (g .0) d, before-rises c x h o)
+      go (inr d) = omega (arith, reach-level b c d, before-rises c x o)
   source-more x b l h e p q (inr (y, end, a, g, o, r)) = absurd o
 
   module _ (s : Sampled f) where

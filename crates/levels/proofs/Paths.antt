@@ -9,7 +9,7 @@ use lib.Dec.{ltb}
 use Rattle.model.specs.Accept.{Names}
 use Rattle.language.specs.Word.{Point, start, name, end, Beside, Shows}
 use Rattle.follow.specs.Follow.{Follow, followOf, steps}
-use Rattle.levels.specs.Below.{someBelow}
+use Rattle.levels.specs.Below.{anyBelow}
 use Rattle.levels.specs.Reach.{occurs}
 use Rattle.levels.proofs.Tests.{and-is, or-is, ltb-is, some-is}
 use Rattle.levels.proofs.Facts.{start-name, steps-shown}
@@ -25,7 +25,7 @@ Occurs f x = (u : Point) × steps f u (name x)
 
 module _ (f : Follow) (x : ℕ) where
   follower : Bool
-  follower = someBelow (f .names) (λ b. f .follows b x)
+  follower = anyBelow (f .names) (λ b. f .follows b x)
 
   pub occurs-is : (occurs f x ≡ true) ↔ Occurs f x
   unfolding occurs follower
@@ -119,11 +119,17 @@ module _ (n : ℕ) (words : List (List ℕ)) (names : (w : List ℕ) → List·M
       let k = steps-shown n words names u v .0 g in
       way-behind (followOf n words) start (k .0) u v (word-steps (k .0) (k .1)) (k .2)
 
+  pub entered-occurs : (x : ℕ) (v : Point) → steps (followOf n words) (name x) v → Occurs (followOf n words) x
+  entered-occurs x v g = entry (followOf n words) x (before (name x) v g)
+
+  pub way-to-end : (x : ℕ) → Occurs (followOf n words) x → Way (followOf n words) (name x) end
+  way-to-end x o = behind (o .0) (name x) (o .1)
+
   pub sampled : ¬ (words ≡ []) → Sampled (followOf n words)
   sampled some = record {
-    entered = λ x v g. entry (followOf n words) x (before (name x) v g);
+    entered = entered-occurs;
     to-name = λ x o. way-on (before (o .0) (name x) (o .1)) (o .1);
-    to-end = λ x o. behind (o .0) (name x) (o .1);
+    to-end = way-to-end;
     some-end = go words some word-steps;
   }
     where

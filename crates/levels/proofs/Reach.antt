@@ -64,7 +64,7 @@ module _ (f : Follow) where
             from-middle k b (subst (λ (x : ℕ). reachBy f (suc k) x b ≡ true) e q),
           ))
 
-  edge-is : (a b : ℕ) → (edge f a b ≡ true) ↔ steps f (name a) (name b)
+  pub edge-is : (a b : ℕ) → (edge f a b ≡ true) ↔ steps f (name a) (name b)
   unfolding edge
   edge-is a b = (
     λ e.
@@ -95,13 +95,30 @@ module _ (f : Follow) where
   pub reaches-trans : (a b c : ℕ) → reaches f a b ≡ true → reaches f b c ≡ true → reaches f a c ≡ true
   reaches-trans a b c p q = reaches-is a c .1 (reach-join (reaches-is a b .0 p) (reaches-is b c .0 q))
 
-  -- Only names below n reach a name.
-  reach-below : {a b : ℕ} → Reach (steps f) a b → a < f .names
-  reach-below (one g) = g .0
-  reach-below (more g r) = g .0
+  pub reaches-step : (a b : ℕ) → edge f a b ≡ true → reaches f a b ≡ true
+  reaches-step a b e = reaches-is a b .1 (one (edge-is a b .0 e))
 
+  -- The first step of reach, and the last.
+  first-step : {a b : ℕ} → Reach (steps f) a b → (c : ℕ) × steps f (name a) (name c)
+  first-step (one {y = b} g) = (b, g)
+  first-step (more {y = b} g r) = (b, g)
+
+  last-step : {a b : ℕ} → Reach (steps f) a b → (c : ℕ) × steps f (name c) (name b)
+  last-step (one {x = a} g) = (a, g)
+  last-step (more g r) = last-step r
+
+  pub reaches-first : (a b : ℕ) → reaches f a b ≡ true → (c : ℕ) × steps f (name a) (name c)
+  reaches-first a b e = first-step (reaches-is a b .0 e)
+
+  pub reaches-last : (a b : ℕ) → reaches f a b ≡ true → (c : ℕ) × steps f (name c) (name b)
+  reaches-last a b e = last-step (reaches-is a b .0 e)
+
+  -- Only names below n reach a name or are reached.
   pub reaches-below : (a b : ℕ) → reaches f a b ≡ true → a < f .names
-  reaches-below a b e = reach-below (reaches-is a b .0 e)
+  reaches-below a b e = reaches-first a b e .1 .0
+
+  pub reached-below : (a b : ℕ) → reaches f a b ≡ true → b < f .names
+  reached-below a b e = reaches-last a b e .1 .1
 
   pub group-is : (a b : ℕ) → (sameGroup f a b ≡ true) ↔ ((reaches f a b ≡ true) × (reaches f b a ≡ true))
   unfolding sameGroup

@@ -5,12 +5,12 @@ use mathlib.Core.List.{List, [], _∷_}
 use Rattle.model.specs.Record.{emptyModel}
 use Rattle.model.specs.Build.{entriesWith, withFactor}
 use Rattle.follow.specs.Follow.{someWord, beginsWith, endsWith, hasPair, isEmpty}
-use Rattle.levels.specs.Below.{someBelow, countBelow, firstBelow, largestBelow}
+use Rattle.levels.specs.Below.{anyBelow, countBelow, firstBelow, largestBelow}
 use Rattle.levels.specs.Reach.{edge, reachBy, reaches, sameGroup, loops, leads, occurs, isSingle}
 use Rattle.levels.specs.Level.{isBefore, levelBy, levelOf, lastLevel, skipped}
 use Rattle.levels.specs.Chain.{singleAt, leadsAt, factorsAt, fixed, singlesMode, groupMode, withSingles, withGroups, withLevel, chainTo, chainOf}
 use Rattle.levels.specs.Samples.{lines, AllGiven}
 
 pub marked : AllGiven lines
-unfolding lines emptyModel entriesWith withFactor someWord beginsWith endsWith hasPair isEmpty someBelow countBelow firstBelow largestBelow edge reachBy reaches sameGroup loops leads occurs isSingle isBefore levelBy levelOf lastLevel skipped singleAt leadsAt factorsAt fixed singlesMode groupMode withSingles withGroups withLevel chainTo chainOf
+unfolding lines emptyModel entriesWith withFactor someWord beginsWith endsWith hasPair isEmpty anyBelow countBelow firstBelow largestBelow edge reachBy reaches sameGroup loops leads occurs isSingle isBefore levelBy levelOf lastLevel skipped singleAt leadsAt factorsAt fixed singlesMode groupMode withSingles withGroups withLevel chainTo chainOf
 marked = (refl, (refl, (refl, (refl, (refl, (refl, (refl, (refl, (refl, (refl, (refl, (refl, tt))))))))))))

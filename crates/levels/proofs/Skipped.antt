@@ -7,7 +7,7 @@ use mathlib.Core.Logic.{_⊎_, inl, inr, _↔_}
 use lib.Dec.{ltb}
 use Rattle.language.specs.Word.{Point, start, name, end}
 use Rattle.follow.specs.Follow.{Follow, steps}
-use Rattle.levels.specs.Below.{someBelow}
+use Rattle.levels.specs.Below.{anyBelow}
 use Rattle.levels.specs.Level.{levelOf, lastLevel, skipped}
 use Rattle.levels.proofs.Tests.{and-is, or-is, ltb-is, some-is}
 use Rattle.levels.proofs.Levels.{level}
@@ -59,7 +59,7 @@ module _ (f : Follow) (l : ℕ) where
   inner x y = f .follows x y && (ltb (levelOf f x) l && ltb l (levelOf f y))
 
   abbrev Found : Type 0
-  Found = (whole ≡ true) ⊎ ((someBelow (f .names) from-start ≡ true) ⊎ ((someBelow (f .names) to-end ≡ true) ⊎ (someBelow (f .names) (λ x. someBelow (f .names) (inner x)) ≡ true)))
+  Found = (whole ≡ true) ⊎ ((anyBelow (f .names) from-start ≡ true) ⊎ ((anyBelow (f .names) to-end ≡ true) ⊎ (anyBelow (f .names) (λ x. anyBelow (f .names) (inner x)) ≡ true)))
 
   found : Found → Skipped f l
   unfolding whole from-start to-end inner
@@ -73,7 +73,7 @@ module _ (f : Follow) (l : ℕ) where
       let p = over (f .ends (k .0)) (levelOf f (k .0)) l (lastLevel f) .0 (k .2) in
       (name (k .0), end, (k .1, p .0), p .1, p .2)
   found (inr (inr (inr e))) =
-      let k = some-is (f .names) (λ x. someBelow (f .names) (inner x)) .0 e in
+      let k = some-is (f .names) (λ x. anyBelow (f .names) (inner x)) .0 e in
       let j = some-is (f .names) (inner (k .0)) .0 (k .2) in
       let p = over (f .follows (k .0) (j .0)) (levelOf f (k .0)) l (levelOf f (j .0)) .0 (j .2) in
       (name (k .0), name (j .0), (k .1, j .1, p .0), p .1, p .2)
@@ -88,7 +88,7 @@ module _ (f : Follow) (l : ℕ) where
       inr
       (inr
       (inr
-      (some-is (f .names) (λ x. someBelow (f .names) (inner x)) .1 (
+      (some-is (f .names) (λ x. anyBelow (f .names) (inner x)) .1 (
         x,
         g .0,
         some-is (f .names) (inner x) .1 (y, g .1, over (f .follows x y) (levelOf f x) l (levelOf f y) .1 (g .2, a, b)),
@@ -99,5 +99,5 @@ module _ (f : Follow) (l : ℕ) where
   pub skipped-is : (skipped f l ≡ true) ↔ Skipped f l
   unfolding skipped whole from-start to-end inner
   skipped-is =
-      let q = one-of-four whole (someBelow (f .names) from-start) (someBelow (f .names) to-end) (someBelow (f .names) (λ x. someBelow (f .names) (inner x))) in
+      let q = one-of-four whole (anyBelow (f .names) from-start) (anyBelow (f .names) to-end) (anyBelow (f .names) (λ x. anyBelow (f .names) (inner x))) in
       (λ e. found (q .0 e), λ s. q .1 (find (s .0) (s .1) (s .2) (s .3) (s .4)))

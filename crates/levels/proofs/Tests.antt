@@ -1,14 +1,15 @@
 -- What the tests mean.
 -- Assumes nothing.
-use Prim.Native.Nat.{ℕ, zero, suc, _<_}
-use mathlib.Core.Path.{_≡_, refl, sym, _∙_, ap}
+use Prim.Native.Nat.{ℕ, _<_}
+use mathlib.Core.Path.{_≡_, refl, sym, _∙_}
 use mathlib.Core.Bool.{Bool, true, false, _&&_, _||_, not, true≢false, false≢true}
 use mathlib.Core.Logic.{_⊎_, inl, inr, ⊎-elim, _↔_}
 use borrow.Author.Tests.{eqb-true, eq-eqb, ltb-true, lt-ltb}
 use lib.Dec.{ltb, eqb}
 use Rattle.model.specs.Check.{anyBelow}
-use Rattle.model.proofs.Tests.{both, and-left, and-right, any-law}
-use Rattle.levels.specs.Below.{someBelow}
+use Rattle.model.proofs.Tests.{both, and-left, and-right, same-test}
+-- a search finds a number exactly when there is one
+pub use Rattle.model.proofs.Tests.{any-law as some-is}
 
 pub and-is : (a b : Bool) → ((a && b) ≡ true) ↔ ((a ≡ true) × (b ≡ true))
 and-is a b = (λ e. (and-left a b e, and-right a b e), λ p. both a b (p .0) (p .1))
@@ -34,10 +35,8 @@ ltb-is m n = (ltb-true m n, lt-ltb m n)
 pub eqb-is : (m n : ℕ) → (eqb m n ≡ true) ↔ (m ≡ n)
 eqb-is m n = (eqb-true m n, eq-eqb m n)
 
-some-any : (n : ℕ) (test : ℕ → Bool) → someBelow n test ≡ anyBelow n test
-unfolding someBelow anyBelow
-some-any zero test = refl
-some-any (suc n) test = ap (λ (b : Bool). b || test n) (some-any n test)
-
-pub some-is : (n : ℕ) (test : ℕ → Bool) → (someBelow n test ≡ true) ↔ ((k : ℕ) × (k < n) × (test k ≡ true))
-some-is n test = (λ e. any-law n test .0 (sym (some-any n test) ∙ e), λ p. some-any n test ∙ any-law n test .1 p)
+-- A search finds the same below two bounds past which nothing passes.
+pub some-within : (m n : ℕ) (f g : ℕ → Bool) → ((x : ℕ) → f x ≡ true → (x < n) × (g x ≡ true)) → ((x : ℕ) → g x ≡ true → (x < m) × (f x ≡ true)) → anyBelow m f ≡ anyBelow n g
+some-within m n f g p q =
+    same-test (anyBelow m f) (anyBelow n g) (λ e. let r = some-is m f .0 e in some-is n g .1 (r .0, p (r .0) (r .2) .0, p (r .0) (r .2) .1))
+    (λ e. let r = some-is n g .0 e in some-is m f .1 (r .0, q (r .0) (r .2) .0, q (r .0) (r .2) .1))

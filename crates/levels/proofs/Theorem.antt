@@ -13,7 +13,8 @@ use Rattle.follow.specs.Follow.{Follow, someWord, beginsWith, endsWith, hasPair
 use Rattle.levels.specs.Reach.{reaches, sameGroup, occurs}
 use Rattle.levels.specs.Level.{OneGroup, IsLevel, levelOf, lastLevel, skipped}
 use Rattle.levels.specs.Chain.{chainOf}
-use Rattle.levels.proofs.Facts.{some-word, steps-facts}
+use Rattle.follow.proofs.Laws.{some-word}
+use Rattle.levels.proofs.Facts.{steps-facts}
 use Rattle.levels.proofs.Reach.{reaches-is, group-reach}
 use Rattle.levels.proofs.Paths.{occurs-is, sampled}
 use Rattle.levels.proofs.Longest.{start-level, name-level, end-level, skipped-said, filled}

@@ -1,12 +1,9 @@
 -- Searching and counting among the numbers below n.
 -- Assumes nothing.
 use Prim.Native.Nat.{ℕ, zero, suc, _+_, max}
-use mathlib.Core.Bool.{Bool, false, cond, _||_}
-
--- Some number below n passes the test.
-unfoldable pub someBelow : ℕ → (ℕ → Bool) → Bool
-someBelow zero test = false
-someBelow (suc n) test = someBelow n test || test n
+use mathlib.Core.Bool.{Bool, cond}
+-- `anyBelow n test`: some number below n passes the test.
+unfoldable pub use Rattle.model.specs.Check.{anyBelow}
 
 -- How many numbers below n pass the test.
 unfoldable pub countBelow : ℕ → (ℕ → Bool) → ℕ

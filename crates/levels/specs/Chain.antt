@@ -7,7 +7,7 @@ use Rattle.model.specs.declared.Model.{Model}
 use Rattle.model.specs.Record.{emptyModel}
 use Rattle.model.specs.Build.{withFactor}
 use Rattle.follow.specs.Follow.{Follow}
-use Rattle.levels.specs.Below.{someBelow, countBelow}
+use Rattle.levels.specs.Below.{anyBelow, countBelow}
 use Rattle.levels.specs.Reach.{sameGroup, leads, isSingle}
 use Rattle.levels.specs.Level.{levelOf, lastLevel, skipped}
 
@@ -21,7 +21,7 @@ leadsAt f l x = leads f x && eqb (levelOf f x) l
 
 -- How many factors level l has: one for its singles, if any, and one for each loop group.
 unfoldable pub factorsAt : Follow → ℕ → ℕ
-factorsAt f l = cond (someBelow (f .names) (singleAt f l)) 1 0 + countBelow (f .names) (leadsAt f l)
+factorsAt f l = cond (anyBelow (f .names) (singleAt f l)) 1 0 + countBelow (f .names) (leadsAt f l)
 
 -- "the level is not skipped and has just one factor"
 unfoldable pub fixed : Follow → ℕ → Bool
@@ -36,7 +36,7 @@ groupMode f l = cond (fixed f l) 2 3
 
 -- "At each level the singles, if any, form one factor"
 unfoldable pub withSingles : Follow → ℕ → Model → Model
-withSingles f l m = cond (someBelow (f .names) (singleAt f l)) (withFactor m (singleAt f l) (singlesMode f l)) m
+withSingles f l m = cond (anyBelow (f .names) (singleAt f l)) (withFactor m (singleAt f l) (singlesMode f l)) m
 
 -- "Then each loop group is a factor of its own, in order of its smallest number": those whose smallest number is below k.
 unfoldable pub withGroups : Follow → ℕ → ℕ → Model → Model

@@ -7,7 +7,7 @@ use lib.Dec.{ltb}
 use Rattle.language.specs.Word.{Point, start, name, end}
 use Rattle.language.specs.Step.{Reach}
 use Rattle.follow.specs.Follow.{Follow, steps}
-use Rattle.levels.specs.Below.{someBelow, largestBelow}
+use Rattle.levels.specs.Below.{anyBelow, largestBelow}
 use Rattle.levels.specs.Reach.{reaches, sameGroup}
 
 -- ---- said
@@ -55,6 +55,6 @@ lastLevel f = suc (largestBelow (f .names) (f .ends) (levelOf f))
 unfoldable pub skipped : Follow → ℕ → Bool
 skipped f l =
     (f .empty && (ltb 0 l && ltb l (lastLevel f)))
-    || (someBelow (f .names) (λ y. f .starts y && (ltb 0 l && ltb l (levelOf f y)))
-    || (someBelow (f .names) (λ x. f .ends x && (ltb (levelOf f x) l && ltb l (lastLevel f)))
-    || someBelow (f .names) (λ x. someBelow (f .names) (λ y. f .follows x y && (ltb (levelOf f x) l && ltb l (levelOf f y))))))
+    || (anyBelow (f .names) (λ y. f .starts y && (ltb 0 l && ltb l (levelOf f y)))
+    || (anyBelow (f .names) (λ x. f .ends x && (ltb (levelOf f x) l && ltb l (lastLevel f)))
+    || anyBelow (f .names) (λ x. anyBelow (f .names) (λ y. f .follows x y && (ltb (levelOf f x) l && ltb l (levelOf f y))))))

@@ -4,7 +4,7 @@ use Prim.Native.Nat.{ℕ, zero, suc}
 use mathlib.Core.Bool.{Bool, true, false, _&&_, _||_, not}
 use lib.Dec.{ltb, eqb}
 use Rattle.follow.specs.Follow.{Follow}
-use Rattle.levels.specs.Below.{someBelow, firstBelow}
+use Rattle.levels.specs.Below.{anyBelow, firstBelow}
 
 -- One follow step between names.
 unfoldable pub edge : Follow → ℕ → ℕ → Bool
@@ -33,7 +33,7 @@ leads f a = loops f a && eqb (firstBelow (f .names) (sameGroup f a)) a
 
 -- a occurs in a word: it begins one, or follows a name.
 unfoldable pub occurs : Follow → ℕ → Bool
-occurs f a = ltb a (f .names) && (f .starts a || someBelow (f .names) (λ b. f .follows b a))
+occurs f a = ltb a (f .names) && (f .starts a || anyBelow (f .names) (λ b. f .follows b a))
 
 -- a is a single: it occurs and does not reach itself.
 unfoldable pub isSingle : Follow → ℕ → Bool

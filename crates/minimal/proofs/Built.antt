@@ -11,7 +11,7 @@ use Rattle.model.specs.declared.Model.{Model}
 use Rattle.model.specs.Record.{none, factorOf, modeOf, IsChain, emptyModel}
 use Rattle.model.specs.Build.{withFactor}
 use Rattle.follow.specs.Follow.{Follow}
-use Rattle.levels.specs.Below.{someBelow}
+use Rattle.levels.specs.Below.{anyBelow}
 use Rattle.levels.specs.Reach.{sameGroup, occurs}
 use Rattle.levels.specs.Level.{levelOf, lastLevel}
 use Rattle.levels.specs.Chain.{singleAt, leadsAt, singlesMode, groupMode, withSingles, withGroups, withLevel, chainTo, chainOf}
@@ -199,16 +199,16 @@ module _ (f : Follow) (size l g : ℕ) (m : Model) (holds : ℕ → Bool) (mode 
 module _ (f : Follow) (size : ℕ) (room : f .names ≤ size) where
   singles-built : (l : ℕ) (m : Model) → Built f size l 0 m → Built f size l 1 (withSingles f l m)
   unfolding withSingles
-  singles-built l m b = go (someBelow (f .names) (singleAt f l)) refl
+  singles-built l m b = go (anyBelow (f .names) (singleAt f l)) refl
     where
-      go : (q : Bool) → someBelow (f .names) (singleAt f l) ≡ q → Built f size l 1 (cond q (withFactor m (singleAt f l) (singlesMode f l)) m)
+      go : (q : Bool) → anyBelow (f .names) (singleAt f l) ≡ q → Built f size l 1 (cond q (withFactor m (singleAt f l) (singlesMode f l)) m)
       go true e =
           let z = some-is (f .names) (singleAt f l) .0 e in
           append f size l 0 m (singleAt f l) (singlesMode f l) room b (single-at f l) (z .0) (single-at f l (z .0) .0 (z .2)) (single-mode f l)
       go false e =
           skip f size l 0 m
           (λ x a.
-          both-ways (someBelow (f .names) (singleAt f l))
+          both-ways (anyBelow (f .names) (singleAt f l))
           (some-is (f .names) (singleAt f l) .1 (x, occurs-below f x (occurs-is f x .0 (a .0)), single-at f l x .1 a))
           e)
           b

@@ -9,7 +9,7 @@ use native.Mathlib.Decide.{decLt}
 use lib.Dec.{eqb}
 use Rattle.language.specs.Step.{optional, repeats}
 use Rattle.follow.specs.Follow.{Follow}
-use Rattle.levels.specs.Below.{someBelow, countBelow}
+use Rattle.levels.specs.Below.{anyBelow, countBelow}
 use Rattle.levels.specs.Reach.{loops, occurs}
 use Rattle.levels.specs.Level.{levelOf, skipped}
 use Rattle.levels.specs.Chain.{singleAt, leadsAt, factorsAt, fixed, singlesMode, groupMode}
@@ -51,7 +51,7 @@ module _ (f : Follow) where
     groups : ℕ
     groups = countBelow (f .names) (leadsAt f l)
 
-    factors-are : (b : Bool) → someBelow (f .names) (singleAt f l) ≡ b → factorsAt f l ≡ cond b 1 0 + groups
+    factors-are : (b : Bool) → anyBelow (f .names) (singleAt f l) ≡ b → factorsAt f l ≡ cond b 1 0 + groups
     unfolding factorsAt groups
     factors-are b e = rw e
 
@@ -73,9 +73,9 @@ module _ (f : Follow) where
     groups-two j k x y a b h = count-two (f .names) (leadsAt f l) j k h (group-there k y b .0) (group-there j x a .1) (group-there k y b .1)
 
     factors-low : groups ≤ factorsAt f l
-    factors-low = go (someBelow (f .names) (singleAt f l)) refl
+    factors-low = go (anyBelow (f .names) (singleAt f l)) refl
       where
-        go : (b : Bool) → someBelow (f .names) (singleAt f l) ≡ b → groups ≤ factorsAt f l
+        go : (b : Bool) → anyBelow (f .names) (singleAt f l) ≡ b → groups ≤ factorsAt f l
         go true e = omega (arith, factors-are true e)
         go false e = omega (arith, factors-are false e)
 
@@ -102,9 +102,9 @@ module _ (f : Follow) where
     other-factor zero x a d =
         let k = count-some (f .names) (leadsAt f l) (omega (arith, singles-there x a, d)) in
         a-leader (k .0) (k .2) 0 (omega arith)
-    other-factor (suc j) x a d = go (someBelow (f .names) (singleAt f l)) refl
+    other-factor (suc j) x a d = go (anyBelow (f .names) (singleAt f l)) refl
       where
-        go : (b : Bool) → someBelow (f .names) (singleAt f l) ≡ b → Other (suc j)
+        go : (b : Bool) → anyBelow (f .names) (singleAt f l) ≡ b → Other (suc j)
         go true e = let z = some-is (f .names) (singleAt f l) .0 e in (z .0, 0, single-at f l (z .0) .0 (z .2), omega arith)
         go false e =
             let k = count-other (f .names) (leadsAt f l) j (omega (arith, factors-are false e, groups-one j x a, d)) in

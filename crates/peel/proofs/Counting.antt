@@ -10,12 +10,12 @@ use Rattle.model.specs.declared.Model.{Model}
 use Rattle.model.specs.Record.{emptyModel}
 use Rattle.model.specs.Build.{withFactor}
 use Rattle.follow.specs.Follow.{Follow}
-use Rattle.levels.specs.Below.{someBelow, countBelow}
+use Rattle.levels.specs.Below.{anyBelow, countBelow}
 use Rattle.levels.specs.Reach.{loops, occurs, leads, isSingle, sameGroup}
 use Rattle.levels.specs.Level.{levelOf}
 use Rattle.levels.specs.Chain.{singleAt, leadsAt, factorsAt, withSingles, withGroups, withLevel, chainTo, singlesMode, groupMode}
-use Rattle.peel.proofs.Tests.{and-is, not-is, eqb-is, both-ways}
-use Rattle.peel.proofs.Below.{count-all, count-join, some-count}
+use Rattle.levels.proofs.Tests.{and-is, not-is, eqb-is, both-ways}
+use Rattle.levels.proofs.Below.{count-all, count-join, some-count}
 use Rattle.peel.proofs.Peel.{leads-loops}
 
 -- the number of factors after one more, or none
@@ -37,9 +37,9 @@ module _ (f : Follow) where
       let p = and-is (leads f x) (eqb (levelOf f x) l) .0 e in
       (leads-loops f x (p .0), eqb-is (levelOf f x) l .0 (p .1))
 
-  singles-count : (l : ℕ) (m : Model) → withSingles f l m .count ≡ m .count + cond (someBelow (f .names) (singleAt f l)) 1 0
+  singles-count : (l : ℕ) (m : Model) → withSingles f l m .count ≡ m .count + cond (anyBelow (f .names) (singleAt f l)) 1 0
   unfolding withSingles
-  singles-count l m = appended (someBelow (f .names) (singleAt f l)) m (singleAt f l) (singlesMode f l)
+  singles-count l m = appended (anyBelow (f .names) (singleAt f l)) m (singleAt f l) (singlesMode f l)
 
   groups-count : (l k : ℕ) (m : Model) → withGroups f l k m .count ≡ m .count + countBelow k (leadsAt f l)
   unfolding withGroups countBelow

@@ -1,7 +1,4 @@
-pub mod Tests
-pub mod Below
 pub mod Reaching
-pub mod Leveling
 pub mod Peel
 pub mod Skips
 pub mod Counting

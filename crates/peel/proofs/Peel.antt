@@ -7,16 +7,17 @@ use mathlib.Core.Logic.{_⊎_, inl, inr, ⊎-elim, _↔_}
 use native.Mathlib.Omega.{arith}
 use native.Mathlib.Decide.{ℕ-discrete, decLt}
 use lib.Dec.{ltb, eqb}
+use Rattle.model.proofs.Tests.{same-test}
 use Rattle.follow.specs.Follow.{Follow}
 use Rattle.levels.specs.Reach.{reaches, loops, occurs, leads, isSingle}
 use Rattle.levels.specs.Level.{isBefore, levelOf, lastLevel}
 use Rattle.levels.specs.Chain.{singleAt, leadsAt}
 use Rattle.peel.specs.Shown.{Shown}
 use Rattle.peel.specs.Sets.{isLower, isAt, isHigher, inRows}
-use Rattle.peel.proofs.Tests.{and-is, or-is, not-is, ltb-is, eqb-is, not-true, both-ways, same-test, some-is}
-use Rattle.peel.proofs.Below.{largest-bounds, largest-most}
-use Rattle.peel.proofs.Reaching.{reach-small, occurs-small, occurs-reached, occurs-reaching, before-is}
-use Rattle.peel.proofs.Leveling.{level-low, level-most, level-rises, level-has, reach-level}
+use Rattle.levels.proofs.Tests.{and-is, or-is, not-is, ltb-is, eqb-is, refuted, both-ways, some-is}
+use Rattle.levels.proofs.Below.{largest-bounds, largest-most}
+use Rattle.levels.proofs.Levels.{before-is, level-low, level-most, before-rises, level-has, reach-level}
+use Rattle.peel.proofs.Reaching.{occurs-small, occurs-reached, occurs-reaching}
 
 module _ (f : Follow) where
   pub lower-is : (l x : ℕ) → (isLower f l x ≡ true) ↔ ((occurs f x ≡ true) × (levelOf f x < l))
@@ -55,7 +56,7 @@ module _ (f : Follow) where
 
   pub lower-first : (x : ℕ) → isLower f 1 x ≡ false
   lower-first x =
-      not-true (isLower f 1 x) (λ e. let p = lower-is 1 x .0 e in absurd (omega (arith, level-low f x (occurs-small f x (p .0)), p .1)))
+      refuted (isLower f 1 x) (λ e. let p = lower-is 1 x .0 e in absurd (omega (arith, level-low f x (occurs-small f x (p .0)), p .1)))
 
   pub higher-next : (l x : ℕ) → isHigher f (suc l) x ≡ (isHigher f l x && not (isAt f (suc l) x))
   higher-next l x =
@@ -64,7 +65,7 @@ module _ (f : Follow) where
       let p = higher-is (suc l) x .0 e in
       and-is (isHigher f l x) (not (isAt f (suc l) x)) .1 (
         higher-is l x .1 (p .0, omega (arith, p .1)),
-        not-is (isAt f (suc l) x) .1 (not-true (isAt f (suc l) x) (λ q. omega (arith, p .1, at-is (suc l) x .0 q .1))),
+        not-is (isAt f (suc l) x) .1 (refuted (isAt f (suc l) x) (λ q. omega (arith, p .1, at-is (suc l) x .0 q .1))),
       ))
       (λ e.
       let p = and-is (isHigher f l x) (not (isAt f (suc l) x)) .0 e in
@@ -129,7 +130,7 @@ module _ (f : Follow) where
         let p = at-is (suc l) x .0 e in
         and-is (isHigher f l x) (not (inRows size (isBefore f) (isHigher f l) x)) .1 (
           higher-is l x .1 (p .0, omega (arith, p .1)),
-          not-is (inRows size (isBefore f) (isHigher f l) x) .1 (not-true (inRows size (isBefore f) (isHigher f l) x) (λ q. behind (p .1) (rows-is size (isBefore f) (isHigher f l) x .0 q))),
+          not-is (inRows size (isBefore f) (isHigher f l) x) .1 (refuted (inRows size (isBefore f) (isHigher f l) x) (λ q. behind (p .1) (rows-is size (isBefore f) (isHigher f l) x .0 q))),
         ))
         (λ e.
         let p = and-is (isHigher f l x) (not (inRows size (isBefore f) (isHigher f l) x)) .0 e in
@@ -137,17 +138,17 @@ module _ (f : Follow) where
         at-is (suc l) x .1 (h .0, lowest (h .0) (h .1) (not-is (inRows size (isBefore f) (isHigher f l) x) .0 (p .1)) (levelOf f x) refl))
       where
         behind : levelOf f x ≡ suc l → ((y : ℕ) × (y < size) × (isHigher f l y ≡ true) × (isBefore f y x ≡ true)) → ⊥
-        behind e (y, h, p, q) = omega (arith, level-rises f y x q, higher-is l y .0 p .1)
+        behind e (y, h, p, q) = omega (arith, before-rises f y x q, higher-is l y .0 p .1)
 
         found : (m : ℕ) → l ≤ m → levelOf f x ≡ suc (suc m) → occurs f x ≡ true → inRows size (isBefore f) (isHigher f l) x ≡ true
         found m h e o =
             let r = level-has f x m (occurs-small f x o) e in
-            let t = before-is f (r .0) x .0 (r .1) in
+            let t = before-is f (r .0) x .0 (r .2) in
             rows-is size (isBefore f) (isHigher f l) x .1 (
               r .0,
-              omega (arith, reach-small f (r .0) x (t .0) .0),
-              higher-is l (r .0) .1 (occurs-reaching f s (r .0) x (t .0), omega (arith, r .2)),
-              r .1,
+              omega (arith, r .1),
+              higher-is l (r .0) .1 (occurs-reaching f s (r .0) x (t .0), omega (arith, r .3)),
+              r .2,
             )
 
         lowest : occurs f x ≡ true → l < levelOf f x → inRows size (isBefore f) (isHigher f l) x ≡ false → (v : ℕ) → levelOf f x ≡ v → levelOf f x ≡ suc l
@@ -189,4 +190,4 @@ module _ (f : Follow) where
     level-found l zero x o e = (x, at-is (suc l) x .1 (o, omega arith))
     level-found l (suc d) x o e =
         let r = level-has f x (l + d) (occurs-small f x o) (omega arith) in
-        level-found l d (r .0) (occurs-reaching f s (r .0) x (before-is f (r .0) x .0 (r .1) .0)) (r .2)
+        level-found l d (r .0) (occurs-reaching f s (r .0) x (before-is f (r .0) x .0 (r .2) .0)) (r .3)

@@ -6,12 +6,13 @@ use mathlib.Core.Bool.{Bool, true, false, _&&_, _||_}
 use mathlib.Core.Logic.{_⊎_, inl, inr, ⊎-elim, _↔_}
 use native.Mathlib.Omega.{arith}
 use lib.Dec.{ltb}
+use Rattle.model.proofs.Tests.{same-test}
 use Rattle.follow.specs.Follow.{Follow}
-use Rattle.levels.specs.Below.{someBelow}
+use Rattle.levels.specs.Below.{anyBelow}
 use Rattle.levels.specs.Level.{levelOf, lastLevel, skipped}
 use Rattle.peel.specs.Shown.{Shown}
 use Rattle.peel.specs.Sets.{isLower, isHigher, meets, inRows, stepsOver}
-use Rattle.peel.proofs.Tests.{and-is, or-is, ltb-is, same-test, some-is}
+use Rattle.levels.proofs.Tests.{and-is, or-is, ltb-is, some-is}
 use Rattle.peel.proofs.Reaching.{occurs-small, occurs-starts, occurs-after, edge-follows}
 use Rattle.peel.proofs.Peel.{lower-is, higher-is, rows-is}
 
@@ -46,13 +47,13 @@ module _ (f : Follow) (l : ℕ) where
   empty-over = f .empty && (ltb 0 l && ltb l (lastLevel f))
 
   start-over : Bool
-  start-over = someBelow (f .names) (λ y. f .starts y && (ltb 0 l && ltb l (levelOf f y)))
+  start-over = anyBelow (f .names) (λ y. f .starts y && (ltb 0 l && ltb l (levelOf f y)))
 
   end-over : Bool
-  end-over = someBelow (f .names) (λ x. f .ends x && (ltb (levelOf f x) l && ltb l (lastLevel f)))
+  end-over = anyBelow (f .names) (λ x. f .ends x && (ltb (levelOf f x) l && ltb l (lastLevel f)))
 
   inner-over : Bool
-  inner-over = someBelow (f .names) (λ x. someBelow (f .names) (λ y. f .follows x y && (ltb (levelOf f x) l && ltb l (levelOf f y))))
+  inner-over = anyBelow (f .names) (λ x. anyBelow (f .names) (λ y. f .follows x y && (ltb (levelOf f x) l && ltb l (levelOf f y))))
 
   skipped-four : skipped f l ≡ (empty-over || (start-over || (end-over || inner-over)))
   unfolding skipped empty-over start-over end-over inner-over
@@ -85,7 +86,7 @@ module _ (f : Follow) (l : ℕ) where
         (p .0, p .1, (q .0, q .1, three (f .follows (p .0) (q .0)) (levelOf f (p .0)) l l (levelOf f (q .0)) .0 (q .2))),
     λ p.
         let q = p .2 in
-        some-is (f .names) (λ x. someBelow (f .names) (λ y. f .follows x y && (ltb (levelOf f x) l && ltb l (levelOf f y)))) .1 (
+        some-is (f .names) (λ x. anyBelow (f .names) (λ y. f .follows x y && (ltb (levelOf f x) l && ltb l (levelOf f y)))) .1 (
           p .0,
           p .1,
           some-is (f .names) (λ y. f .follows (p .0) y && (ltb (levelOf f (p .0)) l && ltb l (levelOf f y))) .1

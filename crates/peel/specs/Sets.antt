@@ -4,7 +4,7 @@ use Prim.Native.Nat.{ℕ}
 use mathlib.Core.Bool.{Bool, _&&_, _||_}
 use lib.Dec.{eqb, ltb}
 use Rattle.follow.specs.Follow.{Follow}
-use Rattle.levels.specs.Below.{someBelow}
+use Rattle.levels.specs.Below.{anyBelow}
 use Rattle.levels.specs.Reach.{occurs}
 use Rattle.levels.specs.Level.{levelOf}
 
@@ -22,11 +22,11 @@ isHigher f l x = occurs f x && ltb l (levelOf f x)
 
 -- A number below `size` is in both sets.
 unfoldable pub meets : ℕ → (ℕ → Bool) → (ℕ → Bool) → Bool
-meets size a b = someBelow size (λ x. a x && b x)
+meets size a b = anyBelow size (λ x. a x && b x)
 
 -- y is in a row of a name of the set.
 unfoldable pub inRows : ℕ → (ℕ → ℕ → Bool) → (ℕ → Bool) → ℕ → Bool
-inRows size rows set y = someBelow size (λ x. set x && rows x y)
+inRows size rows set y = anyBelow size (λ x. set x && rows x y)
 
 -- Some step goes from the lower names, or from start, to the higher names, or to the end.
 unfoldable pub stepsOver : ℕ → Bool → (ℕ → Bool) → (ℕ → Bool) → (ℕ → ℕ → Bool) → (ℕ → Bool) → (ℕ → Bool) → Bool

@@ -16,9 +16,9 @@ use Rattle.nameset.specs.declared.NameSet.{NameSet}
 use Rattle.nameset.specs.Set.{member, ofWord, wordOf, minus, isEmpty}
 use Rattle.nameset.specs.Promise.{Smallest}
 use Rattle.nameset.proofs.Laws.{member-empty, member-minus, member-some, of-word-of, of-zero}
-use Rattle.levels.specs.Below.{someBelow}
+use Rattle.levels.specs.Below.{anyBelow}
 use Rattle.peel.specs.Sets.{inRows}
-use Rattle.peel.proofs.Tests.{some-is, both-ways, not-true}
+use Rattle.levels.proofs.Tests.{some-is, both-ways, refuted}
 use Rattle.rows.specs.Rows.{inWord, inRow, Round, OneWay, groupIn, smallestIn, leadsIn, amongRows}
 
 -- ---- words
@@ -208,12 +208,12 @@ part-word rows a w own other rest e f law er b =
 -- ---- rows joined one after the other
 
 pub rows-none : (rows : List ℕ) (set : NameSet) (b : ℕ) → inRows 0 (inRow rows) (member set) b ≡ false
-unfolding inRows someBelow
+unfolding inRows anyBelow
 rows-none rows set b = refl
 
 pub rows-more : (rows : List ℕ) (set s r : NameSet) (a b : ℕ) (more : Bool) → member s b ≡ inRows a (inRow rows) (member set) b → more ≡ member set a →
     member r b ≡ (member s b || (more && inWord (getD rows a 0) b)) → member r b ≡ inRows (a + 1) (inRow rows) (member set) b
-unfolding inRows someBelow inRow
+unfolding inRows anyBelow inRow
 rows-more rows set s r a b more e m law = rw (add-one a, ← e, ← m) law
 
 pub rows-all : (rows : List ℕ) (set s : NameSet) (a b : ℕ) → a ≤ places → places ≤ a → member s b ≡ inRows a (inRow rows) (member set) b →
@@ -221,13 +221,13 @@ pub rows-all : (rows : List ℕ) (set s : NameSet) (a b : ℕ) → a ≤ places 
 rows-all rows set s a b l h e = let q : a ≡ places = omega arith in e ∙ ap (λ (k : ℕ). inRows k (inRow rows) (member set) b) q
 
 pub among-none : (rows : List ℕ) (b : ℕ) (x : Bool) → x ≡ (x || amongRows 0 rows b)
-unfolding amongRows someBelow
+unfolding amongRows anyBelow
 among-none rows b x = sym (or-false x)
 
 pub among-more : (rows : List ℕ) (s r q : NameSet) (a b : ℕ) (x : Bool) → member s b ≡ (x || amongRows a rows b) → q ≡ ofWord (getD rows a 0) →
     member r b ≡ (member s b || member q b) → member r b ≡ (x || amongRows (a + 1) rows b)
-unfolding amongRows someBelow inRow
-among-more rows s r q a b x e f law = law ∙ rw (add-one a, e, of-law (getD rows a 0) q b f) (or-assoc x (someBelow a (λ k. inWord (getD rows k 0) b)) (inWord (getD rows a 0) b))
+unfolding amongRows anyBelow inRow
+among-more rows s r q a b x e f law = law ∙ rw (add-one a, e, of-law (getD rows a 0) q b f) (or-assoc x (anyBelow a (λ k. inWord (getD rows k 0) b)) (inWord (getD rows a 0) b))
 
 -- ---- loop groups
 
@@ -251,14 +251,14 @@ leads-yes s a r q e = go (decLt r a) (decLt a r)
     found : isEmpty s ≡ false
     found = member-some s a e
 
-    go : Dec (r < a) → Dec (a < r) → eqb r a ≡ (member s a && not (someBelow a (member s)))
+    go : Dec (r < a) → Dec (a < r) → eqb r a ≡ (member s a && not (anyBelow a (member s)))
     go (yes l) d =
-        let z : someBelow a (member s) ≡ true = some-is a (member s) .1 (r, l, q .found found .1) in
+        let z : anyBelow a (member s) ≡ true = some-is a (member s) .1 (r, l, q .found found .1) in
         rw (e, z) (ne-eqb r a (λ u. omega arith))
     go (no l) (yes d) = absurd (both-ways (member s a) e (q .least a d))
     go (no l) (no d) =
         let u : r ≡ a = omega arith in
-        let z : someBelow a (member s) ≡ false = not-true (someBelow a (member s)) (λ t. let p = some-is a (member s) .0 t in both-ways (member s (p .0)) (p .2) (q .least (p .0) (omega (arith, p .1)))) in
+        let z : anyBelow a (member s) ≡ false = refuted (anyBelow a (member s)) (λ t. let p = some-is a (member s) .0 t in both-ways (member s (p .0)) (p .2) (q .least (p .0) (omega (arith, p .1)))) in
         rw (e, z) (eq-eqb r a u)
 
 pub leads-no : (s : NameSet) (a : ℕ) → member s a ≡ false → false ≡ smallestIn s a

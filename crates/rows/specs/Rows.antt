@@ -8,7 +8,7 @@ use lib.ListN.{length, getD}
 use Rattle.nameset.specs.Places.{places}
 use Rattle.nameset.specs.declared.NameSet.{NameSet}
 use Rattle.nameset.specs.Set.{member, ofWord, minus}
-use Rattle.levels.specs.Below.{someBelow}
+use Rattle.levels.specs.Below.{anyBelow}
 
 -- The set that the word w keeps has the name b.
 unfoldable pub inWord : ℕ → ℕ → Bool
@@ -34,7 +34,7 @@ groupIn reach behind a = minus (ofWord (getD reach a 0)) (ofWord (getD behind a 
 
 -- a is the smallest name of the set.
 unfoldable pub smallestIn : NameSet → ℕ → Bool
-smallestIn s a = member s a && not (someBelow a (member s))
+smallestIn s a = member s a && not (anyBelow a (member s))
 
 -- a is the smallest name of its loop group.
 unfoldable pub leadsIn : List ℕ → List ℕ → ℕ → Bool
@@ -42,4 +42,4 @@ leadsIn reach behind a = smallestIn (groupIn reach behind a) a
 
 -- b is in one of the first n rows.
 unfoldable pub amongRows : ℕ → List ℕ → ℕ → Bool
-amongRows n rows b = someBelow n (λ a. inRow rows a b)
+amongRows n rows b = anyBelow n (λ a. inRow rows a b)

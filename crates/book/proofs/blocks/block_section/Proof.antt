@@ -9,6 +9,7 @@ use borrow.Author.Tests.{lt-ltb, le-ltb}
 use Rattle.refusal.specs.declared.Refusal.{Refusal}
 use Rattle.refusal.specs.declared.Refusal.the-variants.{BytesMissing, BytesLeftOver}
 use Rattle.refusal.specs.Answer.{Answer, given, refused}
+use Rattle.book.specs.declared.blocks.BlocksEnd.{BlocksEnd}
 use Rattle.book.specs.declared.blocks.BlocksEnd.the-variants.{End, Stopped as BlocksStopped}
 use Rattle.book.specs.declared.blocks.BlockCount.the-variants.{Blocks, Stopped}
 use Rattle.book.specs.Field.{Field}
@@ -31,9 +32,9 @@ module _ (s : List ℕ) (n at : ℕ) where
   missing l h = rw (count-missing s at (omega arith))
 
   module _ (h : 2 ≤ length s - at) (m : ℕ) (e : m ≡ countAt s at) where
-    stop : (r : Refusal) → blocksEnd (at + 2) (blocksOf n m (drop (at + 2) s)) ≡ BlocksStopped r → Stopped r ≡ blockCount (blockSection n (drop at s))
+    stop : (r : Refusal) (x : BlocksEnd) → x ≡ blocksEnd (at + 2) (blocksOf n m (drop (at + 2) s)) → x ≡ BlocksStopped r → Stopped r ≡ blockCount (blockSection n (drop at s))
     unfolding blocksEnd blockCount blockSection
-    stop r q = go (blocksOf n m (drop (at + 2) s)) refl q
+    stop r x w v = go (blocksOf n m (drop (at + 2) s)) refl (sym w ∙ v)
       where
         go : (a : Answer (Field (List Block))) → blocksOf n m (drop (at + 2) s) ≡ a → blocksEnd (at + 2) a ≡ BlocksStopped r →
             Stopped r ≡ blockCount (blockSection n (drop at s))
@@ -54,18 +55,18 @@ module _ (s : List ℕ) (n at : ℕ) where
             (blocks, k, ap length (sym (behind-blocks s (at + 2) (blocks .value) (blocks .rest) (t .bytes))) ∙ rw z (length-drop end s), t .many)
         go (refused r) k q = absurd (let z : _≡_ {A = ℕ} 0 1 = cc in omega arith)
 
-    module _ (end : ℕ) (q : blocksEnd (at + 2) (blocksOf n m (drop (at + 2) s)) ≡ End end) where
+    module _ (end : ℕ) (x : BlocksEnd) (w : x ≡ blocksEnd (at + 2) (blocksOf n m (drop (at + 2) s))) (v : x ≡ End end) where
       left-over : end < length s → Stopped BytesLeftOver ≡ blockCount (blockSection n (drop at s))
       unfolding blockCount blockSection
       left-over l =
-          let t = ended end q in
+          let t = ended end (sym w ∙ v) in
           let k : 0 < length (t .0 .rest) = rw (t .2) (omega arith) in
           rw (count-given s at (omega arith), ← e, t .1, lt-ltb 0 (length (t .0 .rest)) k)
 
       whole : length s ≤ end → Blocks m ≡ blockCount (blockSection n (drop at s))
       unfolding blockCount blockSection
       whole l =
-          let t = ended end q in
+          let t = ended end (sym w ∙ v) in
           let k : length (t .0 .rest) ≤ 0 = rw (t .2) (omega arith) in
           rw (count-given s at (omega arith), ← e, t .1, le-ltb 0 (length (t .0 .rest)) k, t .3)
 
@@ -93,19 +94,19 @@ enum-known-refusal c = search needs
 returns-2 : tie.Need-returns-2
 returns-2 c =
     let b = c .before .before .before .before in
-    left-over _ _ _ (b .before .before .if1 .left) _ (b .before .count-at .ensures .0) _ (sym (b .read-blocks .ensures) ∙ c .before .before .end .given .1)
+    left-over _ _ _ (b .before .before .if1 .left) _ (b .before .count-at .ensures .0) _ _ (b .read-blocks .ensures) (c .before .before .end .given .1)
     (c .if2 .taken)
 
 returns-3 : tie.Need-returns-3
 returns-3 c =
     let b = c .before .before .before .before in
-    whole _ _ _ (b .before .before .if1 .left) _ (b .before .count-at .ensures .0) _ (sym (b .read-blocks .ensures) ∙ c .before .before .end .given .1)
+    whole _ _ _ (b .before .before .if1 .left) _ (b .before .count-at .ensures .0) _ _ (b .read-blocks .ensures) (c .before .before .end .given .1)
     (c .if2 .left)
 
 returns-4 : tie.Need-returns-4
 returns-4 c =
     let b = c .before .before .before in
-    stop _ _ _ (b .before .before .if1 .left) _ (b .before .count-at .ensures .0) _ (sym (b .read-blocks .ensures) ∙ c .before .refusal .given .1)
+    stop _ _ _ (b .before .before .if1 .left) _ (b .before .count-at .ensures .0) _ _ (b .read-blocks .ensures) (c .before .refusal .given .1)
 
 pub block-section-spec : {M : Type 1} → statement M
 block-section-spec =
