@@ -16,13 +16,12 @@ use Rattle.book.specs.declared.Reading.{Reading}
 use Rattle.book.specs.Book.{Book, bookOf, namesIn}
 use Rattle.book.specs.Layout.{readingOf}
 use Rattle.book.specs.Access.{LaidOut}
-use Rattle.book.proofs.Laws.{laid-out}
+use Rattle.book.proofs.Laws.{laid-out, book-refused}
 use Rattle.spelling.specs.House.{opening}
 use Rattle.spelling.specs.Form.{strip}
 use Rattle.spelling.specs.Read.{Declared, readText}
 use Rattle.spelling.proofs.Tests.{strip-is}
 use Rattle.spelling.proofs.Books.{few}
-use Rattle.book.proofs.Laws.{book-refused}
 use Rattle.walk.specs.Walk.{acceptsRest, hasForm}
 use Rattle.gather.specs.Gather.{tokensAnswer, textAnswer}
 use Rattle.gather.proofs.Gathered.{text-answer}
