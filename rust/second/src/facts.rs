@@ -49,9 +49,9 @@ impl Facts {
         let mut reached = BTreeSet::new();
         let mut waiting = vec![a];
         while let Some(from) = waiting.pop() {
-            for &(x, y) in &self.follow {
-                if x == from && reached.insert(y) {
-                    waiting.push(y);
+            for &(_, to) in self.follow.range((from, 0)..=(from, 255)) {
+                if reached.insert(to) {
+                    waiting.push(to);
                 }
             }
         }
