@@ -175,7 +175,11 @@ impl Answer {
     pub fn shown(&self) -> String {
         match self {
             Answer::Written(number, length, buffer) => {
-                format!("number {number}, length {length}, buffer then {}\n  as text: {}", hex(buffer), String::from_utf8_lossy(buffer))
+                format!(
+                    "number {number}, length {length}, buffer then {}\n  as text: {}",
+                    hex(buffer),
+                    String::from_utf8_lossy(buffer)
+                )
             }
             Answer::Printed(out) => format!("printed {}", String::from_utf8_lossy(out)),
             other => format!("{other:?}"),

@@ -321,7 +321,9 @@ fn limits(c: &mut Chance, _: u64) -> Vec<Due> {
             // A refused book refuses every call, with the same number.
             let due = (number != 0).then(|| match &call {
                 Call::ModelOfParent { .. } => Answer::Model(number, EMPTY),
-                Call::WriteFromSample { buffer, .. } | Call::WriteDeclaration { buffer, .. } => Answer::Written(number, 0, buffer.clone()),
+                Call::WriteFromSample { buffer, .. } | Call::WriteDeclaration { buffer, .. } => {
+                    Answer::Written(number, 0, buffer.clone())
+                }
                 _ => Answer::Read(number, 0, EMPTY),
             });
             calls.push((call, due));
@@ -345,7 +347,8 @@ fn paper(_: &mut Chance, _: u64) -> Vec<Due> {
     let letters: Vec<Vec<u8>> = (b'a'..=b'z').map(|b| vec![b]).collect();
     let parent = 25;
     let mut calls: Vec<Due> = Vec::new();
-    let record = |factors: &[(&str, u8)]| Record::of(&factors.iter().map(|(names, mode)| (word(names), *mode)).collect::<Vec<_>>());
+    let record =
+        |factors: &[(&str, u8)]| Record::of(&factors.iter().map(|(names, mode)| (word(names), *mode)).collect::<Vec<_>>());
     let samples: &[(&str, &str, Record)] = &[
         ("-", "EMPTY", EMPTY),
         ("a", "(a)", record(&[("a", 0)])),

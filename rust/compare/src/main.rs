@@ -12,7 +12,10 @@ use std::process::exit;
 
 fn usage(why: &str) -> ! {
     let kinds: Vec<&str> = KINDS.iter().map(|k| k.name).collect();
-    eprintln!("compare: {why}\nusage: compare [--dtd PROGRAM] [--self] [--seed N] [--times N] [--kind KIND [--case N]]\nkinds: {}", kinds.join(" "));
+    eprintln!(
+        "compare: {why}\nusage: compare [--dtd PROGRAM] [--self] [--seed N] [--times N] [--kind KIND [--case N]]\nkinds: {}",
+        kinds.join(" ")
+    );
     exit(2)
 }
 
@@ -63,8 +66,7 @@ fn main() {
         exit(1);
     }
     print!("{}", reached.lines());
-    let missing: Vec<String> =
-        reached.missing().into_iter().filter(|m| tested.has_library() || m.starts_with("dtd")).collect();
+    let missing: Vec<String> = reached.missing().into_iter().filter(|m| tested.has_library() || m.starts_with("dtd")).collect();
     if kind.is_none() && !missing.is_empty() {
         println!("compare: no case reached: {}", missing.join(", "));
         exit(1);

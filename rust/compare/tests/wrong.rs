@@ -85,9 +85,10 @@ impl Wrong {
         let last = *levels.last().unwrap();
         let mut factors: Vec<(Vec<u8>, u8)> = Vec::new();
         for level in 1..last {
-            let skipped = graph.steps.iter().any(|&(u, v)| {
-                levels[u] < level && level < levels[v] && (u == 0 || !self.is(SkipsFromStartOnly))
-            });
+            let skipped = graph
+                .steps
+                .iter()
+                .any(|&(u, v)| levels[u] < level && level < levels[v] && (u == 0 || !self.is(SkipsFromStartOnly)));
             let mut singles: Vec<u8> = Vec::new();
             let mut groups: Vec<Vec<u8>> = Vec::new();
             for (i, point) in graph.points.iter().enumerate() {
@@ -252,7 +253,11 @@ impl Calls for Wrong {
                 let house = written(&names, parent, &record);
                 let bare: Vec<u8> = text.iter().copied().filter(|b| *b != b' ').collect();
                 let house: Vec<u8> = house.into_iter().filter(|b| *b != b' ').collect();
-                if bare == house { (0, parent, record) } else { (13, 0, EMPTY) }
+                if bare == house {
+                    (0, parent, record)
+                } else {
+                    (13, 0, EMPTY)
+                }
             }
             (NoSpaceBeforeEnd, 0) if text.ends_with(b" >") => (13, 0, EMPTY),
             (RefusedParent, 14 | 15) => (number, 1, record),
@@ -287,12 +292,46 @@ fn no_fault_is_found_in_the_second_implementation() {
 #[test]
 fn every_fault_is_found() {
     for fault in [
-        SinglesAfterGroups, ShortestLevels, SkipsFromStartOnly, LoneLoopIsSingle, FactorForEachSingle, GroupsByLargest,
-        GroupsInOneFactor, OneStarredGroup, AlwaysEmpty, ModelOfAllParents, RefusedModelNotEmpty, ParentCut, NamesCut, CountCut,
-        ParentEqualToN, NoBlockIsEmpty, LengthBeforeMissing, OrderOfNamesUnchecked, LeftOverTaken, SixtyThousandRefused, AlwaysYes,
-        LongWordTaken, LongestWordRefused, PlusIsStar, QuestionIsStar, YesWhereRefused, OneByteShortTaken, ExactRefused, RestCleared,
-        RefusedWrites, LengthOneMore, NothingWritten, LineFeedTaken, TabTaken, SpaceBeforeMark, RepeatBeforeUnknown, GroupsMustRise,
-        NoSpaceBeforeEnd, RefusedParent, SixtyFourFactors,
+        SinglesAfterGroups,
+        ShortestLevels,
+        SkipsFromStartOnly,
+        LoneLoopIsSingle,
+        FactorForEachSingle,
+        GroupsByLargest,
+        GroupsInOneFactor,
+        OneStarredGroup,
+        AlwaysEmpty,
+        ModelOfAllParents,
+        RefusedModelNotEmpty,
+        ParentCut,
+        NamesCut,
+        CountCut,
+        ParentEqualToN,
+        NoBlockIsEmpty,
+        LengthBeforeMissing,
+        OrderOfNamesUnchecked,
+        LeftOverTaken,
+        SixtyThousandRefused,
+        AlwaysYes,
+        LongWordTaken,
+        LongestWordRefused,
+        PlusIsStar,
+        QuestionIsStar,
+        YesWhereRefused,
+        OneByteShortTaken,
+        ExactRefused,
+        RestCleared,
+        RefusedWrites,
+        LengthOneMore,
+        NothingWritten,
+        LineFeedTaken,
+        TabTaken,
+        SpaceBeforeMark,
+        RepeatBeforeUnknown,
+        GroupsMustRise,
+        NoSpaceBeforeEnd,
+        RefusedParent,
+        SixtyFourFactors,
     ] {
         // Without the first kind, which has the samples of paper 01 written out: chance has to find it too.
         let found = run_kinds(&KINDS[1..], SEED, 1, &mut Wrong(fault), &mut Reached::default());

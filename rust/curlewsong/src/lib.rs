@@ -111,9 +111,8 @@ pub mod raw {
     }
 
     pub fn write_from_sample(book: &[u8], parent: usize, buffer: &mut [u8]) -> (u8, usize) {
-        let a = unsafe {
-            ffi::curlewsong_write_from_sample(book.as_ptr(), book.len(), parent, buffer.as_mut_ptr(), buffer.len())
-        };
+        let a =
+            unsafe { ffi::curlewsong_write_from_sample(book.as_ptr(), book.len(), parent, buffer.as_mut_ptr(), buffer.len()) };
         (a.refusal, a.length)
     }
 

@@ -59,7 +59,13 @@ impl Table {
         let words = words(n);
         assert!(words.len() <= 128);
         let bits = |c: &Record| words.iter().enumerate().filter(|(_, w)| c.accepts(w)).fold(0, |s, (i, _)| s | 1u128 << i);
-        let chains = chains(n as usize).into_iter().map(|c| { let b = bits(&c); (c, b) }).collect();
+        let chains = chains(n as usize)
+            .into_iter()
+            .map(|c| {
+                let b = bits(&c);
+                (c, b)
+            })
+            .collect();
         Table { words, chains }
     }
 

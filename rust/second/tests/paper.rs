@@ -112,8 +112,7 @@ fn traps() {
 fn the_example() {
     let names: Vec<Vec<u8>> =
         ["contribution", "entry", "leaver", "member", "reason", "total"].iter().map(|n| n.as_bytes().to_vec()).collect();
-    let blocks: Vec<Block> =
-        [[3u8, 0, 5], [3, 2, 4], [3, 0, 4]].iter().map(|w| Block { parent: 1, word: w.to_vec() }).collect();
+    let blocks: Vec<Block> = [[3u8, 0, 5], [3, 2, 4], [3, 0, 4]].iter().map(|w| Block { parent: 1, word: w.to_vec() }).collect();
     let bytes = bytes_of(&names, &blocks);
     assert_eq!(dtd(&bytes), b"<!ELEMENT entry (member,(contribution|leaver),(reason|total))>\n");
     assert_eq!(dtd(&bytes_of(&names, &[])), b"");
