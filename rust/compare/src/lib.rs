@@ -87,7 +87,7 @@ pub fn run_case(kind: &Kind, seed: u64, case: u64, tested: &mut dyn Calls, reach
 #[allow(clippy::too_many_arguments)]
 fn wrong(who: &str, kind: &Kind, seed: u64, case: u64, i: usize, call: &Call, due: &Answer, got: &Answer) -> String {
     format!(
-        "{who} differs in call {i} of: --seed {seed} --kind {} --case {case}\n{}due: {}\ngot: {}\n",
+        "{who} differs in call {i} of: compare --seed {seed} --kind {} --case {case}\n{}due: {}\ngot: {}\n",
         kind.name,
         call.shown(),
         due.shown(),

@@ -21,9 +21,14 @@ pub fn printed(program: &PathBuf, input: &[u8]) -> Vec<u8> {
     let mut stdin = child.stdin.take().unwrap();
     let mut out = Vec::new();
     std::thread::scope(|scope| {
-        // A program that refuses a long book may leave the rest of it unread.
+        // In pieces, so that one read does not see all of a long book. A program that refuses it may leave the rest unread.
         scope.spawn(move || {
-            let _ = stdin.write_all(input);
+            for piece in input.chunks(17_000) {
+                if stdin.write_all(piece).is_err() {
+                    break;
+                }
+                std::thread::sleep(std::time::Duration::from_millis((input.len() / 17_000) as u64));
+            }
         });
         child.stdout.take().unwrap().read_to_end(&mut out).expect("standard output is read");
     });
