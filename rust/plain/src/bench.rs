@@ -1,7 +1,7 @@
 //! bench [--program PROGRAM]..
 //!
 //! Times on books near 60,000 bytes, each the least and the median of many runs in one process after a warm-up: all declarations of
-//! a book, the model of one parent, a word of 255 names, a declaration written and read. With the feature `library` the static library
+//! a book, in one pass and a parent at a time, the model of one parent, a word of 255 names, a declaration written and read. With the feature `library` the static library
 //! is timed beside the plain code on the same inputs. Output buffers are lent as they are and not cleared between runs.
 //! --program times whole programs from start to end, a book on standard input.
 
@@ -71,11 +71,25 @@ fn main() {
         let size = plain::write_declaration(&book, parent, &model, &mut buffer).unwrap();
         let text = buffer[..size].to_vec();
         line(
-            "  all declarations",
+            "  all declarations, one pass",
             "plain",
             timed(|| {
                 out.clear();
                 plain::dtd(black_box(&book), &mut out);
+                black_box(&out);
+            }),
+        );
+        line(
+            "  all, a parent at a time",
+            "plain",
+            timed(|| {
+                out.clear();
+                for p in 0..book[0] as usize {
+                    if let Ok(size) = plain::write_from_sample(black_box(&book), p, &mut buffer) {
+                        out.extend_from_slice(&buffer[..size]);
+                        out.push(b'\n');
+                    }
+                }
                 black_box(&out);
             }),
         );
@@ -121,7 +135,7 @@ fn library(book: &[u8], parent: usize, model: &plain::Model, word: &[u8], text: 
     let mut out: Vec<u8> = Vec::with_capacity(1 << 18);
     let n = book[0] as usize;
     line(
-        "  all declarations",
+        "  all, a parent at a time",
         "library",
         timed(|| {
             out.clear();
