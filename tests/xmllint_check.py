@@ -60,7 +60,10 @@ def models_of(dtd):
     """The printed models as regular expressions over the names of the children, each with a space behind it."""
     models = {}
     for line in dtd.splitlines():
-        parent, model = re.fullmatch(r"<!ELEMENT (\S+) (.*)>", line).groups()
+        declaration = re.fullmatch(r"<!ELEMENT (\S+) (.*)>", line)
+        if declaration is None:
+            sys.exit(f"xmllint_check: this line is no declaration: {line}")
+        parent, model = declaration.groups()
         pattern = "" if model == "EMPTY" else re.sub(r"[\w.-]+", lambda m: "(?:" + re.escape(m.group()) + " )", model).replace(",", "")
         models[parent] = re.compile(pattern)
     return models
@@ -79,7 +82,8 @@ def valid(dtd_file, document, folder):
     file = folder / "document.xml"
     file.write_text(document)
     done = subprocess.run(["xmllint", "--noout", "--nonet", "--dtdvalid", str(dtd_file), str(file)], capture_output=True, text=True)
-    if done.returncode not in (0, 3):
+    # 0 is valid and 3 not valid; a DTD that is not well formed, or that declares a name twice, is neither.
+    if done.returncode not in (0, 3) or (done.returncode == 0 and done.stderr):
         sys.exit(f"xmllint_check: xmllint ended with {done.returncode}: {done.stderr.strip()}\n{dtd_file.read_text()}\n{document}")
     return done.returncode == 0
 
@@ -96,17 +100,18 @@ def check(program, documents, others, folder):
     dtd = done.stdout.decode()
     dtd_file = folder / "printed.dtd"
     dtd_file.write_text(dtd)
-    models = models_of(dtd)
     turned_away = 0
     for document in documents:
-        if not valid(dtd_file, document, folder) or not matches(document, models):
+        if not valid(dtd_file, document, folder):
             sys.exit(f"xmllint_check: a sample document is not valid against its own DTD (seed {SEED})\n{dtd}\n{document}")
+    models = models_of(dtd)
+    others = documents + others
     for document in others:
         ours, theirs = bool(matches(document, models)), valid(dtd_file, document, folder)
         if ours != theirs:
             sys.exit(f"xmllint_check: valid is {theirs} for xmllint and {ours} by the models (seed {SEED})\n{dtd}\n{document}")
         turned_away += not theirs
-    return len(documents) + len(others), turned_away
+    return len(others), turned_away
 
 
 def main():
@@ -120,7 +125,7 @@ def main():
     total = away = 0
     with tempfile.TemporaryDirectory() as name:
         folder = pathlib.Path(name)
-        samples = [(ROOT / "samples" / f).read_text().split("?>", 1)[1] for f in ("march.xml", "april.xml")]
+        samples = [(ROOT / "samples" / f).read_text() for f in ("march.xml", "april.xml")]
         sets = [(samples, []), ([STORY], [BOTH])]
         for _ in range(int(os.environ.get("XMLLINT_FEEDS", FEEDS))):
             names = ["root"] + [f"n{i}" for i in range(chance.randrange(2, 8))]
