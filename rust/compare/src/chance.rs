@@ -7,14 +7,14 @@ impl Chance {
     pub fn of(seed: u64, kind: &str, case: u64) -> Chance {
         let mut chance = Chance(seed);
         for part in kind.bytes().map(u64::from).chain([case]) {
-            chance.0 = chance.next() ^ part;
+            chance.0 = chance.number() ^ part;
         }
-        chance.next();
+        chance.number();
         chance
     }
 
     /// SplitMix64.
-    pub fn next(&mut self) -> u64 {
+    pub fn number(&mut self) -> u64 {
         self.0 = self.0.wrapping_add(0x9e37_79b9_7f4a_7c15);
         let mut z = self.0;
         z = (z ^ (z >> 30)).wrapping_mul(0xbf58_476d_1ce4_e5b9);
@@ -24,7 +24,7 @@ impl Chance {
 
     /// A number below n.
     pub fn below(&mut self, n: usize) -> usize {
-        (self.next() % n as u64) as usize
+        (self.number() % n as u64) as usize
     }
 
     /// A number from a to b, both included.
@@ -38,7 +38,7 @@ impl Chance {
     }
 
     pub fn byte(&mut self) -> u8 {
-        self.next() as u8
+        self.number() as u8
     }
 
     pub fn pick<'a, T>(&mut self, from: &'a [T]) -> &'a T {
