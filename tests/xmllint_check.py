@@ -1,9 +1,11 @@
 #!/usr/bin/env python3
-"""Printed DTDs against libxml2: xmllint_check.py PROGRAM [ARGUMENT..], where PROGRAM prints the DTD of a book on standard input.
+"""Printed DTDs against libxml2: xmllint_check.py PROGRAM [VERDICT [ARGUMENT..]].
 
-Of each set of documents the book is made with tools/book.py and the DTD printed with PROGRAM. Then xmllint must find the DTD
-well formed, the documents valid against it, and changed documents valid exactly when each element's children match its printed
-model as a regular expression of Python's. Without xmllint the check is skipped, and says so.
+PROGRAM prints the DTD of a book on standard input; VERDICT, if given, says whether the models of one book accept every block of
+another (rust/compare/src/bin/verdict.rs). Of each set of documents the book is made with tools/book.py and the DTD printed with
+PROGRAM. Then xmllint must find the DTD well formed, the documents valid against it, and changed documents valid exactly when each
+element's children match its printed model as a regular expression of Python's, and when VERDICT says yes. Without xmllint the
+check is skipped, and says so.
 """
 import os
 import pathlib
@@ -88,15 +90,27 @@ def valid(dtd_file, document, folder):
     return done.returncode == 0
 
 
-def check(program, documents, others, folder):
+def blocks_of(documents):
+    return [b for document in documents for b in tool.Document("a document").read(document.encode()).blocks]
+
+
+def accepted(verdict, book, blocks, names, folder):
+    """What VERDICT says of these blocks: both books have all the names, used or not."""
+    (folder / "sample.book").write_bytes(book)
+    (folder / "other.book").write_bytes(tool.book_of(blocks, names))
+    done = subprocess.run([*verdict, str(folder / "sample.book"), str(folder / "other.book")], capture_output=True, text=True)
+    if done.stdout not in ("yes\n", "no\n"):
+        sys.exit(f"xmllint_check: {verdict[0]} ended with status {done.returncode}: {done.stderr}")
+    return done.stdout == "yes\n"
+
+
+def check(program, verdict, documents, others, folder):
     """How many documents were compared, of which so many are not valid."""
-    blocks = []
-    for document in documents:
-        blocks += tool.Document("a document").read(document.encode()).blocks
-    book = tool.book_of(blocks)
-    done = subprocess.run(program, input=book, capture_output=True)
+    names = {name for parent, children in blocks_of(documents + others) for name in (parent, *children)}
+    book = tool.book_of(blocks_of(documents), names)
+    done = subprocess.run([program], input=book, capture_output=True)
     if done.returncode != 0:
-        sys.exit(f"xmllint_check: {program[0]} ended with status {done.returncode}")
+        sys.exit(f"xmllint_check: {program} ended with status {done.returncode}")
     dtd = done.stdout.decode()
     dtd_file = folder / "printed.dtd"
     dtd_file.write_text(dtd)
@@ -109,15 +123,17 @@ def check(program, documents, others, folder):
     for document in others:
         ours, theirs = bool(matches(document, models)), valid(dtd_file, document, folder)
         if ours != theirs:
-            sys.exit(f"xmllint_check: valid is {theirs} for xmllint and {ours} by the models (seed {SEED})\n{dtd}\n{document}")
+            sys.exit(f"xmllint_check: valid is {theirs} for xmllint and {ours} by the printed models (seed {SEED})\n{dtd}\n{document}")
+        if verdict and accepted(verdict, book, blocks_of([document]), names, folder) != theirs:
+            sys.exit(f"xmllint_check: valid is {theirs} for xmllint and {not theirs} by the calls (seed {SEED})\n{dtd}\n{document}")
         turned_away += not theirs
     return len(others), turned_away
 
 
 def main():
-    program = sys.argv[1:]
-    if not program:
-        sys.exit("usage: xmllint_check.py PROGRAM [ARGUMENT..]")
+    if len(sys.argv) < 2:
+        sys.exit("usage: xmllint_check.py PROGRAM [VERDICT [ARGUMENT..]]")
+    program, verdict = sys.argv[1], sys.argv[2:]
     if shutil.which("xmllint") is None:
         print("skipped: xmllint (libxml2) is not installed, so no other reader has read the printed DTDs")
         return
@@ -132,7 +148,7 @@ def main():
             documents = [random_document(chance, names) for _ in range(chance.randrange(1, 4))]
             sets.append((documents, [changed(chance, chance.choice(documents), names[1:]) for _ in range(CHANGES)]))
         for i, (documents, others) in enumerate(sets):
-            n, turned_away = check(program, documents, others, folder)
+            n, turned_away = check(program, verdict, documents, others, folder)
             if i == 1 and turned_away != 1:
                 sys.exit("xmllint_check: an entry with both a contribution and a leaver is valid")
             total += n
