@@ -1,0 +1,454 @@
+//! The kinds of cases. Each makes, from a seed and a number, the calls of one case.
+
+use crate::calls::{Answer, Call};
+use crate::chance::Chance;
+use crate::make::*;
+use second::book::{bytes_of, Block};
+use second::record::{Record, EMPTY};
+
+/// A call, and its answer where it is written down; else the second implementation's is due.
+pub type Due = (Call, Option<Answer>);
+
+pub struct Kind {
+    pub name: &'static str,
+    /// How many cases a run has; a longer run has as many times more.
+    pub cases: u64,
+    pub make: fn(&mut Chance, u64) -> Vec<Due>,
+}
+
+/// The quick ones first.
+pub const KINDS: &[Kind] = &[
+    Kind { name: "paper", cases: 1, make: paper },
+    Kind { name: "limits", cases: 1, make: limits },
+    Kind { name: "texts", cases: 4000, make: texts },
+    Kind { name: "records", cases: 3000, make: records },
+    Kind { name: "writing", cases: 1500, make: writing },
+    Kind { name: "damaged", cases: 2000, make: damaged },
+    Kind { name: "small", cases: 1000, make: small },
+    Kind { name: "large", cases: 12, make: large },
+];
+
+fn undue(calls: Vec<Call>) -> Vec<Due> {
+    calls.into_iter().map(|call| (call, None)).collect()
+}
+
+/// Parents on both sides of the limit, also such as would be good if they lost part of their number.
+fn edge_parents(c: &mut Chance, n: usize) -> Vec<usize> {
+    let p = c.below(n);
+    vec![n - 1, n, n + 1, *c.pick(&[64, 255, 256, 256 + p, 65536 + p, (1 << 32) + p, usize::MAX])]
+}
+
+/// Buffers around a declaration's length.
+fn buffers(c: &mut Chance, length: usize) -> Vec<Vec<u8>> {
+    let mut sizes = vec![length, length.saturating_sub(1)];
+    sizes.push(match c.below(4) {
+        0 => 0,
+        1 => 2253,
+        2 => length + c.from_to(1, 40),
+        _ => c.below(length + 1),
+    });
+    sizes.into_iter().map(|size| buffer(c, size)).collect()
+}
+
+/// What is asked of every parent of a good book.
+fn calls_of_parent(c: &mut Chance, parts: &Parts, book: &[u8], parent: usize, calls: &mut Vec<Call>) {
+    let n = parts.names.len();
+    calls.push(Call::ModelOfParent { book: book.to_vec(), parent });
+    let Ok(record) = second::calls::model_of_parent(book, parent) else {
+        calls.push(Call::WriteFromSample { book: book.to_vec(), parent, buffer: buffer(c, 60) });
+        return;
+    };
+    let text = second::declaration::written(&parts.names, parent, &record);
+    for buffer in buffers(c, text.len()) {
+        calls.push(Call::WriteFromSample { book: book.to_vec(), parent, buffer });
+    }
+    calls.push(Call::WriteDeclaration { book: book.to_vec(), parent, record, buffer: buffer(c, text.len() + 3) });
+    calls.push(Call::ReadDeclaration { book: book.to_vec(), text });
+    let words: Vec<&Block> = parts.blocks.iter().filter(|b| b.parent as usize == parent).collect();
+    for _ in 0..4 {
+        let word = &c.pick(&words).word;
+        calls.push(Call::AcceptsWord { names: n, record, word: word.clone() });
+        calls.push(Call::AcceptsWord { names: n, record, word: near_word(c, n, word) });
+    }
+    for _ in 0..2 {
+        let word = accepted_word(c, &record);
+        calls.push(Call::AcceptsWord { names: n, record, word });
+    }
+}
+
+fn small(c: &mut Chance, case: u64) -> Vec<Due> {
+    let parts = small_book(c);
+    let book = parts.bytes();
+    let mut calls = Vec::new();
+    let mut parents: Vec<usize> = parts.blocks.iter().map(|b| b.parent as usize).collect();
+    parents.sort();
+    parents.dedup();
+    parents.extend(edge_parents(c, parts.names.len()));
+    parents.push(c.below(parts.names.len()));
+    for parent in parents {
+        calls_of_parent(c, &parts, &book, parent, &mut calls);
+    }
+    if case % 8 == 0 {
+        calls.push(Call::Dtd { book });
+    }
+    undue(calls)
+}
+
+fn large(c: &mut Chance, case: u64) -> Vec<Due> {
+    let size = match case % 3 {
+        0 => 60_000,
+        1 => c.from_to(59_000, 59_999),
+        _ => c.from_to(4_000, 59_999),
+    };
+    let parts = large_book(c, size);
+    let book = parts.bytes();
+    assert!(book.len() == size, "{} bytes for {size}", book.len());
+    let mut calls = Vec::new();
+    for _ in 0..2 {
+        let parent = parts.blocks[c.below(parts.blocks.len())].parent as usize;
+        calls_of_parent(c, &parts, &book, parent, &mut calls);
+    }
+    calls.push(Call::Dtd { book: book.clone() });
+    let mut longer = book.clone();
+    longer.extend(vec![0; 60_001 - size]);
+    calls.push(Call::Dtd { book: longer.clone() });
+    calls.push(Call::ModelOfParent { book: longer, parent: 0 });
+    let bad = damaged_book(c, &book);
+    calls.push(Call::ModelOfParent { book: bad.clone(), parent: 0 });
+    calls.push(Call::Dtd { book: bad });
+    undue(calls)
+}
+
+/// Every call that takes a book, on one book.
+fn calls_of_book(c: &mut Chance, book: &[u8], parent: usize) -> Vec<Call> {
+    let book = || book.to_vec();
+    vec![
+        Call::ModelOfParent { book: book(), parent },
+        Call::WriteFromSample { book: book(), parent, buffer: buffer(c, 40) },
+        Call::WriteDeclaration { book: book(), parent, record: EMPTY, buffer: buffer(c, 60) },
+        Call::ReadDeclaration { book: book(), text: b"<!ELEMENT a EMPTY>".to_vec() },
+    ]
+}
+
+fn damaged(c: &mut Chance, case: u64) -> Vec<Due> {
+    let mut parts = small_book(c);
+    let bad = if c.once_in(6) { damaged_parts(c, &mut parts) } else { damaged_book(c, &parts.bytes()) };
+    let parent = c.below(parts.names.len() + 1);
+    let mut calls = calls_of_book(c, &bad, parent);
+    if case % 10 == 0 {
+        calls.push(Call::Dtd { book: bad });
+    }
+    undue(calls)
+}
+
+fn records(c: &mut Chance, _: u64) -> Vec<Due> {
+    let n = count(c);
+    let good = chain(c, n);
+    let mut word = accepted_word(c, &good);
+    if c.once_in(6) && n > 0 {
+        // Up to and above the longest word of the call, by names of a factor that repeats if there is one.
+        let size = c.from_to(250, 260);
+        let looped = (0..good.count).find(|&i| good.mode[i] >= 2);
+        let held = looped.map_or(vec![0], |i| good.names_of(i));
+        let at = word.iter().position(|x| held.contains(x)).unwrap_or(0);
+        while word.len() < size {
+            word.insert(at, *c.pick(&held));
+        }
+        word.truncate(size);
+    }
+    let bad = damaged_record(c, n, &good);
+    let mut far = word.clone();
+    let any = c.byte();
+    far.push(*c.pick(&[n as u8, n as u8 - 1, 64, 255, any]));
+    let near = near_word(c, n, &word);
+    let other_n = *c.pick(&[0, 1, n - 1, n + 1, 63, 64, 65, 256 + n, 65536 + n, (1 << 32) + n, usize::MAX]);
+    undue(vec![
+        Call::AcceptsWord { names: n, record: good, word: word.clone() },
+        Call::AcceptsWord { names: n, record: good, word: near },
+        Call::AcceptsWord { names: n, record: good, word: far.clone() },
+        Call::AcceptsWord { names: n, record: good, word: (0..c.below(5)).map(|_| c.below(n) as u8).collect() },
+        Call::AcceptsWord { names: n, record: bad, word: word.clone() },
+        Call::AcceptsWord { names: n, record: bad, word: far },
+        Call::AcceptsWord { names: other_n, record: good, word: word.clone() },
+        Call::AcceptsWord { names: other_n, record: bad, word },
+    ])
+}
+
+fn writing(c: &mut Chance, _: u64) -> Vec<Due> {
+    let n = count(c);
+    let parts = Parts { names: names(c, n), blocks: vec![] };
+    let book = parts.bytes();
+    let parent = c.below(n);
+    let good = chain(c, n);
+    let text = second::declaration::written(&parts.names, parent, &good);
+    let mut calls = Vec::new();
+    for buffer in buffers(c, text.len()) {
+        calls.push(Call::WriteDeclaration { book: book.clone(), parent, record: good, buffer });
+    }
+    calls.push(Call::ReadDeclaration { book: book.clone(), text: text.clone() });
+    let bad = damaged_record(c, n, &good);
+    let size = *c.pick(&[0, text.len(), 2253]);
+    calls.push(Call::WriteDeclaration { book: book.clone(), parent, record: bad, buffer: buffer(c, size) });
+    for parent in edge_parents(c, n) {
+        let record = if c.once_in(2) { good } else { bad };
+        calls.push(Call::WriteDeclaration { book: book.clone(), parent, record, buffer: buffer(c, text.len()) });
+    }
+    undue(calls)
+}
+
+fn texts(c: &mut Chance, _: u64) -> Vec<Due> {
+    let n = count(c);
+    let names = names(c, n);
+    let book = bytes_of(&names, &[]);
+    let record = chain(c, n);
+    let parent = c.below(n);
+    let good = spelling(c, &names, parent, &record);
+    let due = Answer::Read(0, parent, record);
+    let mut calls = vec![(Call::ReadDeclaration { book: book.clone(), text: good.clone() }, Some(due))];
+    for _ in 0..4 {
+        let mut text = damaged_text(c, &names, &good);
+        if c.once_in(5) {
+            text = damaged_text(c, &names, &text);
+        }
+        calls.push((Call::ReadDeclaration { book: book.clone(), text }, None));
+    }
+    if c.once_in(100) {
+        // No limit on a text's length.
+        let factors: Vec<Vec<u8>> = (0..c.from_to(60, 3000)).map(|i| names[i % n].clone()).collect();
+        let text = [b"<!ELEMENT ", &names[0][..], b" (", &factors.join(&b", "[..]), b")>"].concat();
+        calls.push((Call::ReadDeclaration { book, text }, None));
+    }
+    calls
+}
+
+/// A length byte and a name's bytes.
+fn named(text: &[u8]) -> Vec<u8> {
+    [&[text.len() as u8], text].concat()
+}
+
+fn two_bytes(n: usize) -> Vec<u8> {
+    vec![(n % 256) as u8, (n / 256) as u8]
+}
+
+/// Books on both sides of each limit, with the refusal that paper 01 gives them, 0 for none.
+fn limit_books() -> Vec<(Vec<u8>, u8)> {
+    let a = [two_bytes(1), named(b"a")].concat();
+    let ab = [two_bytes(2), named(b"a"), named(b"b")].concat();
+    let of = |parts: &[&[u8]]| parts.concat();
+    let many = |n: usize| -> Vec<u8> {
+        let mut all = two_bytes(n);
+        for i in 0..n {
+            all.extend(named(&[b'A' + (i / 26) as u8, b'a' + (i % 26) as u8]));
+        }
+        all.extend(two_bytes(0));
+        all
+    };
+    let mut books = vec![
+        (vec![], 2),
+        (vec![1], 2),
+        (vec![0, 0], 3),
+        (vec![65, 0], 3),
+        (vec![0, 1], 3),
+        (vec![1, 1], 3),
+        (vec![255, 255], 3),
+        (many(1), 0),
+        (many(64), 0),
+        (many(65), 3),
+        (vec![1, 0], 2),
+        (vec![1, 0, 0], 4),
+        (vec![1, 0, 33], 4),
+        (vec![1, 0, 255], 4),
+        (vec![1, 0, 32], 2),
+        (of(&[&[1, 0], &named(&[b'a'; 32]), &[0, 0]]), 0),
+        (of(&[&[1, 0], &named(&[b'a'; 33]), &[0, 0]]), 4),
+        (of(&[&[1, 0, 2, b'9']]), 2),
+        (of(&[&[1, 0, 2, b'a']]), 2),
+        (of(&[&[2, 0], &named(b"ab"), &named(b"ab"), &[0, 0]]), 5),
+        (of(&[&[2, 0], &named(b"b"), &named(b"a"), &[0, 0]]), 5),
+        (of(&[&[2, 0], &named(b"ab"), &named(b"a"), &[0, 0]]), 5),
+        (of(&[&[2, 0], &named(b"a"), &named(b"ab"), &[0, 0]]), 0),
+        (of(&[&[2, 0], &named(b"B"), &named(b"a"), &[0, 0]]), 0),
+        (of(&[&[2, 0], &named(b"a-"), &named(b"a."), &[0, 0]]), 0),
+        (of(&[&[2, 0], &named(b"b"), &named(b"a!"), &[0, 0]]), 4),
+        (a.clone(), 2),
+        (of(&[&a, &[0]]), 2),
+        (of(&[&a, &[0, 0]]), 0),
+        (of(&[&a, &[0, 0, 0]]), 7),
+        (of(&[&a, &[255, 255]]), 2),
+        (of(&[&a, &[255, 255, 1, 0]]), 6),
+        (of(&[&a, &[1, 0]]), 2),
+        (of(&[&a, &[1, 0, 0]]), 2),
+        (of(&[&a, &[1, 0, 0, 0]]), 0),
+        (of(&[&a, &[1, 0, 0, 0, 0]]), 7),
+        (of(&[&a, &[1, 0, 0, 255], &[0; 255]]), 0),
+        (of(&[&a, &[1, 0, 0, 255], &[0; 254]]), 2),
+        (of(&[&ab, &[1, 0, 1, 0]]), 0),
+        (of(&[&ab, &[1, 0, 2, 0]]), 6),
+        (of(&[&ab, &[1, 0, 2]]), 6),
+        (of(&[&ab, &[1, 0, 0, 1, 1]]), 0),
+        (of(&[&ab, &[1, 0, 0, 1, 2]]), 6),
+        (of(&[&ab, &[1, 0, 0, 2, 9]]), 2),
+        (of(&[&ab, &[1, 0, 0, 1, 2, 0]]), 6),
+        (of(&[&ab, &[2, 0, 0, 1, 1, 1, 1, 9]]), 6),
+        (vec![0; 60_001], 1),
+        (vec![255; 100_000], 1),
+    ];
+    for b in 0..=255u8 {
+        let good = START.contains(&b);
+        books.push((of(&[&[1, 0], &named(&[b]), &[0, 0]]), if good { 0 } else { 4 }));
+        books.push((of(&[&[1, 0], &named(&[b'a', b]), &[0, 0]]), if LATER.contains(&b) { 0 } else { 4 }));
+    }
+    // 60,000 bytes and one more: 6 bytes, then 233 blocks of 257 and one of what is left.
+    for size in [60_000, 60_001] {
+        let mut book = of(&[&a, &two_bytes(234)]);
+        for _ in 0..233 {
+            book.extend([0, 255]);
+            book.extend([0; 255]);
+        }
+        let rest = size - book.len() - 2;
+        book.extend([0, rest as u8]);
+        book.extend(vec![0; rest]);
+        assert_eq!(book.len(), size);
+        books.push((book, if size == 60_000 { 0 } else { 1 }));
+    }
+    books
+}
+
+fn limits(c: &mut Chance, _: u64) -> Vec<Due> {
+    let mut calls = Vec::new();
+    for (i, (book, number)) in limit_books().into_iter().enumerate() {
+        for call in calls_of_book(c, &book, 0) {
+            // A refused book refuses every call, with the same number.
+            let due = (number != 0).then(|| match &call {
+                Call::ModelOfParent { .. } => Answer::Model(number, EMPTY),
+                Call::WriteFromSample { buffer, .. } | Call::WriteDeclaration { buffer, .. } => {
+                    Answer::Written(number, 0, buffer.clone())
+                }
+                _ => Answer::Read(number, 0, EMPTY),
+            });
+            calls.push((call, due));
+        }
+        // Names' bytes are tried once through the program in eight.
+        if i < 48 || i % 8 == 0 || book.len() > 1000 {
+            let due = (number != 0).then(|| Answer::Printed(format!("refused {number}\n").into_bytes()));
+            calls.push((Call::Dtd { book }, due));
+        }
+    }
+    calls
+}
+
+/// A word in letters over the names a to z; `-` is the empty word.
+fn word(letters: &str) -> Vec<u8> {
+    letters.bytes().filter(|&b| b != b'-').map(|b| b - b'a').collect()
+}
+
+/// What paper 01 writes out: its samples, what stands under them, its example, and forms of a declaration.
+fn paper(_: &mut Chance, _: u64) -> Vec<Due> {
+    let letters: Vec<Vec<u8>> = (b'a'..=b'z').map(|b| vec![b]).collect();
+    let parent = 25;
+    let mut calls: Vec<Due> = Vec::new();
+    let record =
+        |factors: &[(&str, u8)]| Record::of(&factors.iter().map(|(names, mode)| (word(names), *mode)).collect::<Vec<_>>());
+    let samples: &[(&str, &str, Record)] = &[
+        ("-", "EMPTY", EMPTY),
+        ("a", "(a)", record(&[("a", 0)])),
+        ("- a", "(a?)", record(&[("a", 1)])),
+        ("aa", "(a+)", record(&[("a", 2)])),
+        ("- aa", "(a*)", record(&[("a", 3)])),
+        ("ab b", "(a?,b)", record(&[("a", 1), ("b", 0)])),
+        ("ab c", "((a|c),b?)", record(&[("ac", 0), ("b", 1)])),
+        ("aba", "((a|b)+)", record(&[("ab", 2)])),
+        ("aa bb", "(a*,b*)", record(&[("a", 3), ("b", 3)])),
+        ("kkb a", "(a?,k*,b?)", record(&[("a", 1), ("k", 3), ("b", 1)])),
+        ("ac bbc", "(a?,b*,c)", record(&[("a", 1), ("b", 3), ("c", 0)])),
+        ("abc ade abe", "(a,(b|d),(c|e))", record(&[("a", 0), ("bd", 0), ("ce", 0)])),
+    ];
+    for (sample, model, record) in samples {
+        let blocks: Vec<Block> = sample.split(' ').map(|w| Block { parent, word: word(w) }).collect();
+        let book = bytes_of(&letters, &blocks);
+        let text = format!("<!ELEMENT z {model}>").into_bytes();
+        let parent = parent as usize;
+        calls.push((Call::ModelOfParent { book: book.clone(), parent }, Some(Answer::Model(0, *record))));
+        let line = [&text[..], b"\n"].concat();
+        calls.push((Call::Dtd { book: book.clone() }, Some(Answer::Printed(line))));
+        for w in sample.split(' ') {
+            calls.push((Call::AcceptsWord { names: 26, record: *record, word: word(w) }, Some(Answer::Verdict(0, true))));
+        }
+        // The exact buffer, one byte short, and one with bytes behind the text.
+        for size in [text.len(), text.len() - 1, text.len() + 9] {
+            let buffer = vec![0xa5; size];
+            let due = if size < text.len() {
+                Answer::Written(12, 0, buffer.clone())
+            } else {
+                Answer::Written(0, text.len(), [&text[..], &buffer[text.len()..]].concat())
+            };
+            let call = Call::WriteFromSample { book: book.clone(), parent, buffer: buffer.clone() };
+            calls.push((call, Some(due.clone())));
+            calls.push((Call::WriteDeclaration { book: book.clone(), parent, record: *record, buffer }, Some(due)));
+        }
+        calls.push((Call::ReadDeclaration { book, text }, Some(Answer::Read(0, parent, *record))));
+    }
+
+    let m = samples[9].2;
+    for (w, yes) in [("-", true), ("akkb", true), ("ka", false)] {
+        calls.push((Call::AcceptsWord { names: 26, record: m, word: word(w) }, Some(Answer::Verdict(0, yes))));
+    }
+    let star = record(&[("a", 3)]);
+    calls.push((Call::AcceptsWord { names: 1, record: star, word: vec![0; 255] }, Some(Answer::Verdict(0, true))));
+    calls.push((Call::AcceptsWord { names: 1, record: star, word: vec![0; 256] }, Some(Answer::Verdict(11, false))));
+    for (names, number, yes) in [(0, 3, false), (1, 0, true), (64, 0, true), (65, 3, false)] {
+        calls.push((Call::AcceptsWord { names, record: EMPTY, word: vec![] }, Some(Answer::Verdict(number, yes))));
+    }
+
+    // The three samples of one feed; a block with both contribution and leaver is turned away.
+    let feed: Vec<Vec<u8>> =
+        ["contribution", "entry", "leaver", "member", "reason", "total"].iter().map(|n| n.as_bytes().to_vec()).collect();
+    let blocks: Vec<Block> = [[3u8, 0, 5], [3, 2, 4], [3, 0, 4]].iter().map(|w| Block { parent: 1, word: w.to_vec() }).collect();
+    let book = bytes_of(&feed, &blocks);
+    let model = Record::of(&[(vec![3], 0), (vec![0, 2], 0), (vec![4, 5], 0)]);
+    let text = b"<!ELEMENT entry (member,(contribution|leaver),(reason|total))>";
+    calls.push((Call::Dtd { book: book.clone() }, Some(Answer::Printed([&text[..], b"\n"].concat()))));
+    calls.push((Call::ModelOfParent { book: book.clone(), parent: 1 }, Some(Answer::Model(0, model))));
+    calls.push((Call::ModelOfParent { book: book.clone(), parent: 0 }, Some(Answer::Model(9, EMPTY))));
+    calls.push((Call::ModelOfParent { book: book.clone(), parent: 6 }, Some(Answer::Model(8, EMPTY))));
+    calls.push((Call::AcceptsWord { names: 6, record: model, word: vec![3, 0, 2, 4] }, Some(Answer::Verdict(0, false))));
+    calls.push((Call::Dtd { book: bytes_of(&feed, &[]) }, Some(Answer::Printed(vec![]))));
+
+    // The longest declaration, and a buffer one byte short of it.
+    let long: Vec<Vec<u8>> = (0..64).map(|i| format!("n{i:031}").into_bytes()).collect();
+    let pairs = Record::of(&(0..32).map(|i| (vec![2 * i, 2 * i + 1], 3)).collect::<Vec<_>>());
+    let book = bytes_of(&long, &[]);
+    for size in [2252, 2253] {
+        calls.push((Call::WriteDeclaration { book: book.clone(), parent: 0, record: pairs, buffer: vec![1; size] }, None));
+    }
+
+    // Forms that paper 01 names.
+    let book = bytes_of(&letters, &[]);
+    for (text, number) in [
+        ("((a),b)", 13),
+        ("(a|b)", 13),
+        ("(a)*", 13),
+        ("(a,b)+", 13),
+        ("(a ?)", 13),
+        ("((a|b) *)", 13),
+        ("()", 13),
+        ("(a,)", 13),
+        ("ANY", 13),
+        ("EMPTYx", 13),
+        ("(9)", 13),
+        ("(#PCDATA)", 13),
+        ("(a,\tb)", 13),
+        ("(aa)", 14),
+        ("(a,a,aa)", 14),
+        ("(a,a)", 15),
+        ("((a|a))", 15),
+        ("(z)", 0),
+        ("( a? , ( c | b )+ )  ", 0),
+        ("((b|a))", 0),
+    ] {
+        let text = format!("<!ELEMENT z {text}>").into_bytes();
+        let due = (number != 0).then_some(Answer::Read(number, 0, EMPTY));
+        calls.push((Call::ReadDeclaration { book: book.clone(), text }, due));
+    }
+    calls
+}

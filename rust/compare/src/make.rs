@@ -1,0 +1,485 @@
+//! Names, words, records, books and texts by chance.
+
+use crate::chance::Chance;
+use second::book::{bytes_of, Block};
+use second::record::{Record, EMPTY, NONE};
+use std::collections::BTreeSet;
+
+pub const START: &[u8] = b"ABCDEFGHIJKLMNOPQRSTUVWXYZabcdefghijklmnopqrstuvwxyz_";
+pub const LATER: &[u8] = b"ABCDEFGHIJKLMNOPQRSTUVWXYZabcdefghijklmnopqrstuvwxyz_0123456789-.";
+
+/// A good name. Many are short, some have the full 32 bytes, and `EMPTY` and `ANY` are names too.
+pub fn name(c: &mut Chance) -> Vec<u8> {
+    match c.below(24) {
+        0 => return b"EMPTY".to_vec(),
+        1 => return b"ANY".to_vec(),
+        2 => return b"ELEMENT".to_vec(),
+        _ => {}
+    }
+    let size = match c.below(6) {
+        0 => 1,
+        1..=3 => c.from_to(1, 4),
+        4 => c.from_to(1, 32),
+        _ => 32,
+    };
+    // Few letters, so that many names are prefixes of others.
+    let few = c.once_in(2);
+    let mut name = vec![if few { *c.pick(b"aAz_") } else { *c.pick(START) }];
+    while name.len() < size {
+        name.push(if few { *c.pick(b"a.-9") } else { *c.pick(LATER) });
+    }
+    name
+}
+
+/// So many names, rising.
+pub fn names(c: &mut Chance, n: usize) -> Vec<Vec<u8>> {
+    let mut all = BTreeSet::new();
+    while all.len() < n {
+        all.insert(name(c));
+    }
+    all.into_iter().collect()
+}
+
+/// A count of names: small ones mostly, and both ends.
+pub fn count(c: &mut Chance) -> usize {
+    match c.below(8) {
+        0 => 1,
+        1..=3 => c.from_to(2, 5),
+        4..=5 => c.from_to(2, 12),
+        6 => c.from_to(1, 64),
+        _ => 64,
+    }
+}
+
+/// Some of the names below n, in any order.
+pub fn some_names(c: &mut Chance, n: usize, most: usize) -> Vec<u8> {
+    let mut all: Vec<u8> = (0..n as u8).collect();
+    c.shuffle(&mut all);
+    all.truncate(c.from_to(1, most.min(n)));
+    all
+}
+
+/// A chain over n names.
+pub fn chain(c: &mut Chance, n: usize) -> Record {
+    if c.once_in(12) {
+        return EMPTY;
+    }
+    let held = if c.once_in(4) { some_names(c, n, 64) } else { some_names(c, n, 8) };
+    let mut factors: Vec<(Vec<u8>, u8)> = Vec::new();
+    let join = c.from_to(1, 5);
+    for x in held {
+        if factors.is_empty() || !c.once_in(join) {
+            factors.push((Vec::new(), c.below(4) as u8));
+        }
+        factors.last_mut().unwrap().0.push(x);
+    }
+    Record::of(&factors)
+}
+
+/// A record that is no chain over n names, or may be none.
+pub fn damaged_record(c: &mut Chance, n: usize, good: &Record) -> Record {
+    let mut r = *good;
+    let place = c.below(64);
+    match c.below(12) {
+        0 => r.count = *c.pick(&[0, r.count + 1, r.count.wrapping_sub(1), 64, 65, 256, 256 + r.count, usize::MAX]),
+        1 => r.factor[place] = c.byte(),
+        2 => r.factor[place] = r.count as u8,
+        3 => r.factor[place] = 254,
+        4 => r.factor[place] = NONE,
+        5 if n < 64 => r.factor[c.from_to(n, 63)] = if c.once_in(2) { 0 } else { c.byte() },
+        6 => r.mode[place] = c.from_to(1, 3) as u8,
+        7 => r.mode[place] = c.byte(),
+        8 if r.count > 0 => r.mode[c.below(r.count)] = *c.pick(&[3, 4, 5, 128, 255]),
+        9 if r.count < 64 => r.mode[r.count] = c.from_to(1, 3) as u8,
+        10 => {
+            // A factor without names.
+            if r.count > 0 {
+                let i = c.below(r.count) as u8;
+                for x in r.factor.iter_mut().filter(|x| **x == i) {
+                    *x = NONE;
+                }
+            }
+        }
+        _ => {
+            r.count = c.below(70);
+            for x in 0..64 {
+                r.factor[x] = if c.once_in(2) { NONE } else { c.below(5) as u8 };
+                r.mode[x] = c.below(5) as u8;
+            }
+        }
+    }
+    r
+}
+
+/// A word that the chain accepts.
+pub fn accepted_word(c: &mut Chance, r: &Record) -> Vec<u8> {
+    let most = if c.once_in(10) { 60 } else { 3 };
+    let mut word = Vec::new();
+    for i in 0..r.count {
+        let times = match r.mode[i] {
+            0 => 1,
+            1 => c.below(2),
+            2 => c.from_to(1, most),
+            _ => c.below(most + 1),
+        };
+        let held = r.names_of(i);
+        for _ in 0..times {
+            word.push(*c.pick(&held));
+        }
+    }
+    word
+}
+
+/// A word near this one: a name put in, taken out, replaced, doubled or two of them exchanged.
+pub fn near_word(c: &mut Chance, n: usize, word: &[u8]) -> Vec<u8> {
+    let mut w = word.to_vec();
+    for _ in 0..c.from_to(1, 2) {
+        let at = c.below(w.len() + 1);
+        match c.below(5) {
+            0 => w.insert(at, c.below(n) as u8),
+            1 if at < w.len() => drop(w.remove(at)),
+            2 if at < w.len() => w[at] = c.below(n) as u8,
+            3 if at < w.len() => w.insert(at, w[at]),
+            _ if at + 1 < w.len() => w.swap(at, at + 1),
+            _ => {}
+        }
+    }
+    w
+}
+
+/// A sample over n names, of one of several shapes; no word has more than 255 names.
+pub fn sample(c: &mut Chance, n: usize) -> Vec<Vec<u8>> {
+    let mut words: Vec<Vec<u8>> = Vec::new();
+    let many = c.from_to(1, 7);
+    match c.below(9) {
+        // Short words over a few names.
+        0 => {
+            let few = some_names(c, n, 4);
+            for _ in 0..many {
+                words.push((0..c.below(6)).map(|_| *c.pick(&few)).collect());
+            }
+        }
+        // Names in one order, some left out: no loops.
+        1 => {
+            let order = some_names(c, n, 12);
+            let keep = c.from_to(1, 4);
+            for _ in 0..many {
+                words.push(order.iter().copied().filter(|_| c.below(keep + 1) > 0).collect());
+            }
+        }
+        // The same, with some names more than once in a row.
+        2 => {
+            let order = some_names(c, n, 10);
+            let repeats: Vec<bool> = order.iter().map(|_| c.once_in(3)).collect();
+            for _ in 0..many {
+                let mut w = Vec::new();
+                for (i, &x) in order.iter().enumerate() {
+                    if c.once_in(3) {
+                        continue;
+                    }
+                    w.push(x);
+                    if repeats[i] {
+                        w.extend(vec![x; c.below(3)]);
+                    }
+                }
+                words.push(w);
+            }
+        }
+        // Words of a chain.
+        3 | 4 => {
+            let r = chain(c, n);
+            for _ in 0..many {
+                words.push(accepted_word(c, &r));
+            }
+        }
+        // One long word, with few or many names.
+        5 => {
+            let held = some_names(c, n, 64);
+            let size = c.from_to(200, 255);
+            words.push((0..size).map(|_| *c.pick(&held)).collect());
+            words.push(held[..held.len().min(3)].to_vec());
+        }
+        // Layers of singles and loop groups.
+        6 | 7 => words = layered(c, n),
+        // Every name, in order or in a ring.
+        _ => {
+            let mut w: Vec<u8> = (0..n as u8).collect();
+            if c.once_in(2) {
+                c.shuffle(&mut w);
+            }
+            if c.once_in(2) {
+                w.push(w[0]);
+            }
+            words.push(w);
+        }
+    }
+    if c.once_in(5) {
+        words.push(Vec::new());
+    }
+    if c.once_in(4) {
+        let again = c.pick(&words).clone();
+        words.push(again);
+    }
+    for w in &mut words {
+        w.truncate(255);
+    }
+    words
+}
+
+/// Words that go through layers, each of several singles and loop groups, one of them in each layer; some layers are left out.
+fn layered(c: &mut Chance, n: usize) -> Vec<Vec<u8>> {
+    let mut left = some_names(c, n, 24);
+    let mut layers: Vec<Vec<Vec<u8>>> = Vec::new();
+    // A group of one name is a single where its name stands once.
+    while !left.is_empty() {
+        let mut layer = Vec::new();
+        for _ in 0..c.from_to(1, 4) {
+            let size = if c.once_in(2) { 1 } else { c.from_to(1, 4) };
+            let group: Vec<u8> = left.drain(..size.min(left.len())).collect();
+            if !group.is_empty() {
+                layer.push(group);
+            }
+        }
+        layers.push(layer);
+    }
+    let looped = c.once_in(2);
+    let leave_out = c.from_to(2, 8);
+    let mut words = Vec::new();
+    for _ in 0..c.from_to(2, 14) {
+        let mut word = Vec::new();
+        for layer in &layers {
+            if c.once_in(leave_out) {
+                continue;
+            }
+            let group = c.pick(layer);
+            word.extend(group);
+            if group.len() > 1 || (looped && group[0] % 2 == 0) {
+                word.extend(group);
+                word.truncate(word.len() - c.below(group.len()));
+            }
+        }
+        words.push(word);
+    }
+    words
+}
+
+/// A good book in parts.
+pub struct Parts {
+    pub names: Vec<Vec<u8>>,
+    pub blocks: Vec<Block>,
+}
+
+impl Parts {
+    pub fn bytes(&self) -> Vec<u8> {
+        bytes_of(&self.names, &self.blocks)
+    }
+}
+
+/// A small book: a few parents with samples of several shapes, their blocks in any order.
+pub fn small_book(c: &mut Chance) -> Parts {
+    let n = count(c);
+    let names = names(c, n);
+    let mut blocks = Vec::new();
+    for parent in some_names(c, n, 4) {
+        for word in sample(c, n) {
+            blocks.push(Block { parent, word });
+        }
+    }
+    if c.once_in(15) {
+        blocks.clear();
+    }
+    c.shuffle(&mut blocks);
+    Parts { names, blocks }
+}
+
+/// A book of exactly `size` bytes: many blocks, some of them long.
+pub fn large_book(c: &mut Chance, size: usize) -> Parts {
+    let n = c.from_to(1, 64);
+    let names = names(c, n);
+    let mut left = size - bytes_of(&names, &[]).len();
+    let parents = some_names(c, n, 64);
+    let shape = c.below(3);
+    let mut blocks: Vec<Block> = Vec::new();
+    while left >= 2 {
+        let parent = *c.pick(&parents);
+        let words = match shape {
+            0 => sample(c, n),
+            1 => vec![(0..c.below(4)).map(|_| c.below(n) as u8).collect()],
+            _ => vec![(0..255).map(|i| ((i * n / 255) as u8 + c.below(2) as u8).min(n as u8 - 1)).collect()],
+        };
+        for mut word in words {
+            if left < 2 {
+                break;
+            }
+            word.truncate(left - 2);
+            left -= 2 + word.len();
+            blocks.push(Block { parent, word });
+        }
+    }
+    // One byte that no block can fill lengthens the shortest word.
+    if left == 1 {
+        let shortest = blocks.iter_mut().min_by_key(|b| b.word.len()).unwrap();
+        shortest.word.push(0);
+    }
+    Parts { names, blocks }
+}
+
+/// A good book with one change by chance, which most often makes it bad.
+pub fn damaged_book(c: &mut Chance, good: &[u8]) -> Vec<u8> {
+    let mut b = good.to_vec();
+    let at = c.below(b.len());
+    match c.below(8) {
+        0 => b.truncate(at),
+        1 => b[at] = c.byte(),
+        2 => b[at] = b[at].wrapping_add(1),
+        3 => b[at] = b[at].wrapping_sub(1),
+        4 => b.insert(at, c.byte()),
+        5 => drop(b.remove(at)),
+        6 => b.extend((0..c.from_to(1, 3)).map(|_| c.byte())),
+        _ => {
+            // In the names more often: they come first.
+            let near = c.below(b.len().min(40));
+            b[near] = *c.pick(&[0, 1, 2, 32, 33, 63, 64, 65, 97, 255]);
+        }
+    }
+    b
+}
+
+/// A book with bad names or numbers where all else is good: names out of order, twice or misspelled, or a number not below N.
+pub fn damaged_parts(c: &mut Chance, parts: &mut Parts) -> Vec<u8> {
+    let n = parts.names.len();
+    let i = c.below(n);
+    match c.below(5) {
+        0 if i + 1 < n => parts.names.swap(i, i + 1),
+        1 if i + 1 < n => parts.names[i + 1] = parts.names[i].clone(),
+        2 => {
+            let name = &mut parts.names[i];
+            let at = c.below(name.len());
+            name[at] = c.byte();
+        }
+        3 if !parts.blocks.is_empty() => {
+            let k = c.below(parts.blocks.len());
+            parts.blocks[k].parent = *c.pick(&[n as u8 - 1, n as u8, 255]);
+        }
+        _ if !parts.blocks.is_empty() => {
+            let k = c.below(parts.blocks.len());
+            let word = &mut parts.blocks[k].word;
+            if !word.is_empty() {
+                let at = c.below(word.len());
+                word[at] = *c.pick(&[n as u8 - 1, n as u8, 64, 255]);
+            }
+        }
+        _ => {}
+    }
+    parts.bytes()
+}
+
+/// Spaces where any number of them may stand: mostly none.
+fn spaces(c: &mut Chance, text: &mut Vec<u8>) {
+    if c.once_in(4) {
+        text.extend(vec![b' '; c.from_to(1, 3)]);
+    }
+}
+
+/// A spelling of a declaration that the reader takes.
+pub fn spelling(c: &mut Chance, names: &[Vec<u8>], parent: usize, r: &Record) -> Vec<u8> {
+    let mut t = b"<!ELEMENT ".to_vec();
+    spaces(c, &mut t);
+    t.extend(&names[parent]);
+    t.push(b' ');
+    spaces(c, &mut t);
+    if r.count == 0 {
+        t.extend(b"EMPTY");
+    } else {
+        t.push(b'(');
+        for i in 0..r.count {
+            if i > 0 {
+                t.push(b',');
+            }
+            spaces(c, &mut t);
+            let mut held = r.names_of(i);
+            c.shuffle(&mut held);
+            if held.len() == 1 {
+                t.extend(&names[held[0] as usize]);
+            } else {
+                t.push(b'(');
+                for (k, &x) in held.iter().enumerate() {
+                    if k > 0 {
+                        t.push(b'|');
+                    }
+                    spaces(c, &mut t);
+                    t.extend(&names[x as usize]);
+                    spaces(c, &mut t);
+                }
+                t.push(b')');
+            }
+            match r.mode[i] {
+                1 => t.push(b'?'),
+                2 => t.push(b'+'),
+                3 => t.push(b'*'),
+                _ => {}
+            }
+            spaces(c, &mut t);
+        }
+        t.push(b')');
+    }
+    spaces(c, &mut t);
+    t.push(b'>');
+    t
+}
+
+/// Where the names of a text stand, the parent's first: runs of name bytes behind the keyword.
+fn name_places(text: &[u8]) -> Vec<(usize, usize)> {
+    let mut places = Vec::new();
+    let mut at = text.len().min(9);
+    while at < text.len() {
+        let size = text[at..].iter().take_while(|b| LATER.contains(b)).count();
+        if size > 0 {
+            places.push((at, at + size));
+        }
+        at += size.max(1);
+    }
+    places
+}
+
+/// A text near a good one: bytes changed, names replaced by others of the book, by unknown ones or by bad ones.
+pub fn damaged_text(c: &mut Chance, names: &[Vec<u8>], good: &[u8]) -> Vec<u8> {
+    let mut t = good.to_vec();
+    if t.is_empty() {
+        return t;
+    }
+    let at = c.below(t.len());
+    match c.below(12) {
+        0 => drop(t.remove(at)),
+        1 => t.insert(at, *c.pick(b" ()|,?+*<>!EMPTYa1-._\t\n\r#%")),
+        2 => t[at] = *c.pick(b" ()|,?+*<>!EMPTYa1-._\t\n\r#%"),
+        3 => t.insert(at, t[at]),
+        4 if at + 1 < t.len() => t.swap(at, at + 1),
+        5 => t.truncate(at),
+        6 => t.push(*c.pick(b"\n >")),
+        7..=10 => {
+            let places = name_places(&t);
+            if let Some(&(a, b)) = places.get(c.below(places.len().max(1))) {
+                let other = match c.below(5) {
+                    0 | 1 => c.pick(names).clone(),
+                    2 => name(c),
+                    3 => vec![b'x'; c.from_to(31, 34)],
+                    _ => b"9x".to_vec(),
+                };
+                t.splice(a..b, other);
+            }
+        }
+        _ => {
+            // A piece twice: brackets, commas and names with them.
+            let to = c.from_to(at, (at + 12).min(t.len()));
+            let piece = t[at..to].to_vec();
+            t.splice(to..to, piece);
+        }
+    }
+    t
+}
+
+/// A buffer of this length with bytes by chance.
+pub fn buffer(c: &mut Chance, size: usize) -> Vec<u8> {
+    (0..size).map(|_| c.byte()).collect()
+}

@@ -1,0 +1,123 @@
+//! Safe calls of the proved static library. Each takes any input, returns, and answers a value or the number of a refusal, which
+//! is that of paper 01's table (include/curlewsong.h has it). A refused call leaves its buffer as it was.
+//!
+//! The calls ask nothing of their input, so these functions test nothing: they hand over slices as pointers and lengths, which is
+//! what makes them safe, and take the answers apart.
+
+mod ffi;
+
+pub use ffi::{Model, PLACES};
+
+/// No factor holds this name.
+pub const NONE: u8 = 255;
+
+/// The longest declaration: a buffer of this length is never too short.
+pub const LONGEST_DECLARATION: usize = 2253;
+
+/// The model that accepts the empty word alone; also what a refused call has in the place of a model.
+pub const EMPTY: Model = Model { count: 0, factor: [NONE; PLACES], mode: [0; PLACES] };
+
+/// A refusal, by its number in paper 01's table.
+#[derive(Clone, Copy, PartialEq, Eq, Debug)]
+pub struct Refusal(pub u8);
+
+impl std::fmt::Display for Refusal {
+    fn fmt(&self, f: &mut std::fmt::Formatter) -> std::fmt::Result {
+        let reason = match self.0 {
+            1 => "the book has more than 60,000 bytes",
+            2 => "bytes of the book are missing",
+            3 => "the count of names is 0 or above 64",
+            4 => "a name of the book has a bad length or a bad byte",
+            5 => "a name of the book is not above the one before it",
+            6 => "a number in the book is not below the count of names",
+            7 => "bytes of the book are left over",
+            8 => "the parent is not below the count of names",
+            9 => "no block of the book has the parent",
+            10 => "the model is no chain over the names",
+            11 => "the word has more than 255 names, or a number not below the count of names",
+            12 => "the buffer is shorter than the declaration",
+            13 => "the text does not have the form of a declaration",
+            14 => "a name in the text is not in the book",
+            15 => "the model in the text has a name twice",
+            _ => "no refusal of this table",
+        };
+        write!(f, "refused {}: {reason}", self.0)
+    }
+}
+
+impl std::error::Error for Refusal {}
+
+fn answer<T>(refusal: u8, value: T) -> Result<T, Refusal> {
+    if refusal == 0 {
+        Ok(value)
+    } else {
+        Err(Refusal(refusal))
+    }
+}
+
+/// The model of a parent from its blocks in a book.
+pub fn model_of_parent(book: &[u8], parent: usize) -> Result<Model, Refusal> {
+    let a = raw::model_of_parent(book, parent);
+    answer(a.0, a.1)
+}
+
+/// Whether a model over so many names accepts a word.
+pub fn accepts_word(names: usize, model: Model, word: &[u8]) -> Result<bool, Refusal> {
+    let a = raw::accepts_word(names, model, word);
+    answer(a.0, a.1)
+}
+
+/// Writes a declaration into the front of the buffer, and answers its length.
+pub fn write_declaration(book: &[u8], parent: usize, model: Model, buffer: &mut [u8]) -> Result<usize, Refusal> {
+    let a = raw::write_declaration(book, parent, model, buffer);
+    answer(a.0, a.1)
+}
+
+/// Writes the declaration of a parent's model from its blocks into the front of the buffer, and answers its length.
+pub fn write_from_sample(book: &[u8], parent: usize, buffer: &mut [u8]) -> Result<usize, Refusal> {
+    let a = raw::write_from_sample(book, parent, buffer);
+    answer(a.0, a.1)
+}
+
+/// The parent and the model of a declaration over the names of a book.
+pub fn read_declaration(book: &[u8], text: &[u8]) -> Result<(usize, Model), Refusal> {
+    let a = raw::read_declaration(book, text);
+    answer(a.0, (a.1, a.2))
+}
+
+/// The same calls with the refusal's number and the values beside it, whatever the number is: for comparisons.
+pub mod raw {
+    use super::ffi;
+    use super::Model;
+
+    // A slice's pointer is never null, its length is that of what it points to, and a `&mut` slice overlaps no other: all that the
+    // library asks of a caller.
+
+    pub fn model_of_parent(book: &[u8], parent: usize) -> (u8, Model) {
+        let a = unsafe { ffi::curlewsong_model_of_parent(book.as_ptr(), book.len(), parent) };
+        (a.refusal, a.model)
+    }
+
+    pub fn accepts_word(names: usize, model: Model, word: &[u8]) -> (u8, bool) {
+        let a = unsafe { ffi::curlewsong_accepts_word(names, model, word.as_ptr(), word.len()) };
+        (a.refusal, a.yes)
+    }
+
+    pub fn write_declaration(book: &[u8], parent: usize, model: Model, buffer: &mut [u8]) -> (u8, usize) {
+        let a = unsafe {
+            ffi::curlewsong_write_declaration(book.as_ptr(), book.len(), parent, model, buffer.as_mut_ptr(), buffer.len())
+        };
+        (a.refusal, a.length)
+    }
+
+    pub fn write_from_sample(book: &[u8], parent: usize, buffer: &mut [u8]) -> (u8, usize) {
+        let a =
+            unsafe { ffi::curlewsong_write_from_sample(book.as_ptr(), book.len(), parent, buffer.as_mut_ptr(), buffer.len()) };
+        (a.refusal, a.length)
+    }
+
+    pub fn read_declaration(book: &[u8], text: &[u8]) -> (u8, usize, Model) {
+        let a = unsafe { ffi::curlewsong_read_declaration(book.as_ptr(), book.len(), text.as_ptr(), text.len()) };
+        (a.refusal, a.parent, a.model)
+    }
+}

@@ -1,0 +1,96 @@
+//! Books for the benchmark, each near 60,000 bytes and the same in every run.
+
+/// The limit that the books come close to.
+pub const SIZE: usize = 60_000;
+
+struct Next(u64);
+
+impl Next {
+    fn below(&mut self, n: usize) -> usize {
+        self.0 = self.0.wrapping_mul(6364136223846793005).wrapping_add(1442695040888963407);
+        ((self.0 >> 33) % n as u64) as usize
+    }
+}
+
+/// A book with these names, rising, and as many of the blocks as fit.
+fn book(names: &[String], mut block: impl FnMut(usize) -> (u8, Vec<u8>)) -> Vec<u8> {
+    let mut out = (names.len() as u16).to_le_bytes().to_vec();
+    for name in names {
+        out.push(name.len() as u8);
+        out.extend(name.bytes());
+    }
+    let count_at = out.len();
+    out.extend([0, 0]);
+    let mut m = 0u16;
+    loop {
+        let (parent, word) = block(m as usize);
+        if out.len() + 2 + word.len() > SIZE {
+            break;
+        }
+        out.extend([parent, word.len() as u8]);
+        out.extend(word);
+        m += 1;
+    }
+    out[count_at..count_at + 2].copy_from_slice(&m.to_le_bytes());
+    out
+}
+
+fn names(n: usize) -> Vec<String> {
+    (0..n).map(|i| format!("name-{i:02}")).collect()
+}
+
+/// Words of no name to three, for all 64 parents.
+pub fn short_words() -> Vec<u8> {
+    let mut next = Next(1);
+    book(&names(64), |i| ((i % 64) as u8, (0..next.below(4)).map(|_| next.below(64) as u8).collect()))
+}
+
+/// Words of 255 names, which rise slowly and repeat, for all 64 parents.
+pub fn long_words() -> Vec<u8> {
+    let mut next = Next(2);
+    book(&names(64), |i| ((i % 64) as u8, (0..255).map(|k| ((k / 4 + next.below(2)) as u8).min(63)).collect()))
+}
+
+/// All names in one loop group, for eight parents.
+pub fn one_group() -> Vec<u8> {
+    let mut next = Next(3);
+    book(&names(64), |i| ((i % 8) as u8, (0..200).map(|_| next.below(64) as u8).collect()))
+}
+
+/// No loops and as many levels as there are names: the names in order, some left out, for all 64 parents.
+pub fn many_levels() -> Vec<u8> {
+    let mut next = Next(4);
+    book(&names(64), |i| ((i % 64) as u8, (0..64u8).filter(|_| i < 64 || next.below(8) > 0).collect()))
+}
+
+/// One parent with words of several kinds.
+pub fn one_parent() -> Vec<u8> {
+    let mut next = Next(5);
+    book(&names(64), |i| {
+        let word = match i % 3 {
+            0 => (0..next.below(6)).map(|k| (10 * k + next.below(10)) as u8).collect(),
+            1 => (0..60u8).filter(|_| next.below(3) == 0).collect(),
+            _ => (0..next.below(40)).map(|k| 40 + (k % 3) as u8).collect(),
+        };
+        (0, word)
+    })
+}
+
+/// The feed of paper 01, again and again.
+pub fn feed() -> Vec<u8> {
+    let names: Vec<String> =
+        ["contribution", "entry", "leaver", "member", "reason", "total"].iter().map(|n| n.to_string()).collect();
+    book(&names, |i| (1, [[3, 0, 5], [3, 2, 4], [3, 0, 4]][i % 3].to_vec()))
+}
+
+/// A kind of book: its name, and what makes it.
+pub type Kind = (&'static str, fn() -> Vec<u8>);
+
+pub const KINDS: &[Kind] = &[
+    ("many short words", short_words),
+    ("words of 255 names", long_words),
+    ("one loop group of all names", one_group),
+    ("no loops, many levels", many_levels),
+    ("one parent", one_parent),
+    ("the feed repeated", feed),
+];

@@ -1,0 +1,349 @@
+//! The product's method in plain Rust, for the benchmark: sets of names are the bits of a word, follow facts are rows of such
+//! words, and a book is read once for all its parents. Nothing is proved here; the tests compare it with the second implementation.
+
+pub mod books;
+pub mod declaration;
+
+pub const PLACES: usize = 64;
+pub const NONE: u8 = 255;
+
+#[derive(Clone, Copy, PartialEq, Eq, Debug)]
+pub struct Model {
+    pub count: usize,
+    pub factor: [u8; PLACES],
+    pub mode: [u8; PLACES],
+}
+
+pub const EMPTY: Model = Model { count: 0, factor: [NONE; PLACES], mode: [0; PLACES] };
+
+/// The names of a set, rising.
+struct Members(u64);
+
+impl Iterator for Members {
+    type Item = usize;
+
+    fn next(&mut self) -> Option<usize> {
+        if self.0 == 0 {
+            return None;
+        }
+        let first = self.0.trailing_zeros() as usize;
+        self.0 &= self.0 - 1;
+        Some(first)
+    }
+}
+
+/// The follow facts of one parent.
+#[derive(Clone, Copy)]
+pub struct Facts {
+    /// Whether the parent has a block.
+    seen: bool,
+    empty: bool,
+    start: u64,
+    end: u64,
+    follow: [u64; PLACES],
+}
+
+const NO_FACTS: Facts = Facts { seen: false, empty: false, start: 0, end: 0, follow: [0; PLACES] };
+
+impl Facts {
+    /// Adds a word whose names are below 64.
+    fn add(&mut self, word: &[u8]) {
+        self.seen = true;
+        let (Some(&first), Some(&last)) = (word.first(), word.last()) else {
+            self.empty = true;
+            return;
+        };
+        self.start |= 1 << first;
+        self.end |= 1 << last;
+        let mut before = first as usize % PLACES;
+        for &x in &word[1..] {
+            self.follow[before] |= 1 << x;
+            before = x as usize % PLACES;
+        }
+    }
+}
+
+/// The names of a book: where each stands.
+pub struct Names<'a> {
+    pub count: usize,
+    names: [&'a [u8]; PLACES],
+}
+
+impl<'a> Names<'a> {
+    pub fn get(&self, i: usize) -> &'a [u8] {
+        self.names[i]
+    }
+
+    pub fn find(&self, name: &[u8]) -> Option<usize> {
+        self.names[..self.count].binary_search(&name).ok()
+    }
+}
+
+/// 0 for no name byte, 1 for a later byte only, 2 for a byte that may start a name too.
+pub const CLASS: [u8; 256] = {
+    let mut table = [0; 256];
+    let mut b = 0;
+    while b < 256 {
+        let c = b as u8;
+        if c.is_ascii_alphabetic() || c == b'_' {
+            table[b] = 2;
+        } else if c.is_ascii_digit() || c == b'-' || c == b'.' {
+            table[b] = 1;
+        }
+        b += 1;
+    }
+    table
+};
+
+fn good_bytes(name: &[u8]) -> bool {
+    CLASS[name[0] as usize] == 2 && name.iter().all(|&b| CLASS[b as usize] > 0)
+}
+
+/// Reads a book, hands each block to `block`, and gives the names back, or a refusal 1 to 7.
+pub fn read_book<'a>(bytes: &'a [u8], mut block: impl FnMut(u8, &'a [u8])) -> Result<Names<'a>, u8> {
+    if bytes.len() > 60_000 {
+        return Err(1);
+    }
+    if bytes.len() < 2 {
+        return Err(2);
+    }
+    let n = bytes[0] as usize + 256 * bytes[1] as usize;
+    if n == 0 || n > PLACES {
+        return Err(3);
+    }
+    let mut at = 2;
+    let mut names: [&[u8]; PLACES] = [&[]; PLACES];
+    let mut before: &[u8] = &[];
+    for name in &mut names[..n] {
+        let size = *bytes.get(at).ok_or(2)? as usize;
+        if size == 0 || size > 32 {
+            return Err(4);
+        }
+        let here = bytes.get(at + 1..at + 1 + size).ok_or(2)?;
+        if !good_bytes(here) {
+            return Err(4);
+        }
+        if here <= before {
+            return Err(5);
+        }
+        *name = here;
+        before = here;
+        at += 1 + size;
+    }
+    let m = bytes.get(at..at + 2).ok_or(2)?;
+    at += 2;
+    for _ in 0..m[0] as usize + 256 * m[1] as usize {
+        let parent = *bytes.get(at).ok_or(2)?;
+        if parent as usize >= n {
+            return Err(6);
+        }
+        let size = *bytes.get(at + 1).ok_or(2)? as usize;
+        let word = bytes.get(at + 2..at + 2 + size).ok_or(2)?;
+        if word.iter().fold(0, |most, &x| most.max(x)) as usize >= n {
+            return Err(6);
+        }
+        block(parent, word);
+        at += 2 + size;
+    }
+    if at < bytes.len() {
+        return Err(7);
+    }
+    Ok(Names { count: n, names })
+}
+
+/// The chain under construction.
+struct Building(Model);
+
+impl Building {
+    fn factor(&mut self, names: u64, mode: u8) {
+        let i = self.0.count;
+        for x in Members(names) {
+            self.0.factor[x] = i as u8;
+        }
+        self.0.mode[i] = mode;
+        self.0.count += 1;
+    }
+}
+
+/// The chain that the levels of these facts give.
+pub fn chain(facts: &Facts) -> Model {
+    let held = facts.follow.iter().fold(facts.start, |all, row| all | row);
+    // Reach: one more name may stand in the middle in each round.
+    let mut reach = facts.follow;
+    for k in Members(held) {
+        let row = reach[k];
+        for x in Members(held) {
+            if reach[x] >> k & 1 == 1 {
+                reach[x] |= row;
+            }
+        }
+    }
+    let mut reached_by = [0u64; PLACES];
+    for x in Members(held) {
+        for y in Members(reach[x]) {
+            reached_by[y] |= 1 << x;
+        }
+    }
+    let mut building = Building(EMPTY);
+    let mut left = held;
+    let mut below = 0u64;
+    // What one step leads to from a lower level.
+    let mut next = facts.start;
+    while left != 0 {
+        // Names that stand behind no other that is left, outside their own group.
+        let behind = Members(left).fold(0, |all, x| all | (reach[x] & !reached_by[x]));
+        let level = left & !behind;
+        let above = left & behind;
+        let skipped = facts.empty || facts.end & below != 0 || next & above != 0;
+        let loops = Members(level).filter(|&x| reach[x] >> x & 1 == 1).fold(0, |all, x| all | 1u64 << x);
+        let singles = level & !loops;
+        let one_group = loops != 0 && {
+            let x = loops.trailing_zeros() as usize;
+            reach[x] & reached_by[x] == loops
+        };
+        let alone = !skipped && (loops == 0 || (singles == 0 && one_group));
+        if singles != 0 {
+            building.factor(singles, if alone { 0 } else { 1 });
+        }
+        let mut rest = loops;
+        while rest != 0 {
+            let x = rest.trailing_zeros() as usize;
+            let group = reach[x] & reached_by[x];
+            building.factor(group, if alone { 2 } else { 3 });
+            rest &= !group;
+        }
+        below |= level;
+        for x in Members(level) {
+            next |= facts.follow[x];
+        }
+        left = above;
+    }
+    building.0
+}
+
+/// The facts of one parent in a book, with the book's names.
+fn facts_of(bytes: &[u8], parent: usize) -> Result<(Names<'_>, Facts), u8> {
+    let mut facts = NO_FACTS;
+    let names = read_book(bytes, |p, word| {
+        if p as usize == parent {
+            facts.add(word);
+        }
+    })?;
+    if parent >= names.count {
+        return Err(8);
+    }
+    Ok((names, facts))
+}
+
+pub fn model_of_parent(bytes: &[u8], parent: usize) -> Result<Model, u8> {
+    let (_, facts) = facts_of(bytes, parent)?;
+    if !facts.seen {
+        return Err(9);
+    }
+    Ok(chain(&facts))
+}
+
+pub fn is_chain(n: usize, m: &Model) -> bool {
+    if m.count > PLACES {
+        return false;
+    }
+    let mut used = 0u64;
+    for x in 0..PLACES {
+        let f = m.factor[x];
+        if f != NONE {
+            if x >= n || f as usize >= m.count {
+                return false;
+            }
+            used |= 1 << f;
+        }
+    }
+    let all = if m.count == PLACES { u64::MAX } else { (1 << m.count) - 1 };
+    used == all && m.mode[..m.count].iter().all(|&k| k <= 3) && m.mode[m.count..].iter().all(|&k| k == 0)
+}
+
+/// Whether a chain accepts a word, from left to right.
+pub fn accepted(m: &Model, word: &[u8]) -> bool {
+    let mut factor = 0;
+    let mut taken = false;
+    for &x in word {
+        let own = m.factor[x as usize % PLACES] as usize;
+        loop {
+            if factor >= m.count {
+                return false;
+            }
+            let mode = m.mode[factor];
+            if own == factor && (!taken || mode >= 2) {
+                taken = true;
+                break;
+            }
+            if !taken && mode % 2 == 0 {
+                return false;
+            }
+            factor += 1;
+            taken = false;
+        }
+    }
+    (factor..m.count).all(|i| m.mode[i] % 2 == 1 || (i == factor && taken))
+}
+
+pub fn accepts_word(n: usize, m: &Model, word: &[u8]) -> Result<bool, u8> {
+    if n == 0 || n > PLACES {
+        return Err(3);
+    }
+    if !is_chain(n, m) {
+        return Err(10);
+    }
+    if word.len() > 255 || word.iter().any(|&x| x as usize >= n) {
+        return Err(11);
+    }
+    Ok(accepted(m, word))
+}
+
+fn put(names: &Names, parent: usize, m: &Model, buffer: &mut [u8]) -> Result<usize, u8> {
+    let mut text = [0u8; declaration::LONGEST];
+    let size = declaration::write(names, parent, m, &mut text);
+    buffer.get_mut(..size).ok_or(12)?.copy_from_slice(&text[..size]);
+    Ok(size)
+}
+
+pub fn write_declaration(bytes: &[u8], parent: usize, m: &Model, buffer: &mut [u8]) -> Result<usize, u8> {
+    let names = read_book(bytes, |_, _| {})?;
+    if parent >= names.count {
+        return Err(8);
+    }
+    if !is_chain(names.count, m) {
+        return Err(10);
+    }
+    put(&names, parent, m, buffer)
+}
+
+pub fn write_from_sample(bytes: &[u8], parent: usize, buffer: &mut [u8]) -> Result<usize, u8> {
+    let (names, facts) = facts_of(bytes, parent)?;
+    if !facts.seen {
+        return Err(9);
+    }
+    put(&names, parent, &chain(&facts), buffer)
+}
+
+pub fn read_declaration(bytes: &[u8], text: &[u8]) -> Result<(usize, Model), u8> {
+    let names = read_book(bytes, |_, _| {})?;
+    declaration::read(&names, text)
+}
+
+/// What the program prints of a book, put behind what `out` holds.
+pub fn dtd(bytes: &[u8], out: &mut Vec<u8>) {
+    let mut all = vec![NO_FACTS; PLACES];
+    match read_book(bytes, |parent, word| all[parent as usize].add(word)) {
+        Ok(names) => {
+            let mut text = [0u8; declaration::LONGEST];
+            for (parent, facts) in all[..names.count].iter().enumerate() {
+                if facts.seen {
+                    let size = declaration::write(&names, parent, &chain(facts), &mut text);
+                    out.extend_from_slice(&text[..size]);
+                    out.push(b'\n');
+                }
+            }
+        }
+        Err(number) => out.extend_from_slice(format!("refused {number}\n").as_bytes()),
+    }
+}

@@ -1,0 +1,91 @@
+//! The calls open to the outside, each with its checks in the order of paper 01's table, and the program.
+
+use crate::book::{self, Book};
+use crate::record::Record;
+use crate::{chain, declaration, facts::Facts, Refusal};
+
+/// The most names of a word in the acceptance call.
+pub const MOST_WORD: usize = 255;
+
+fn parent_of(book: &Book, parent: usize) -> Result<u8, Refusal> {
+    if parent >= book.names.len() {
+        Err(8)
+    } else {
+        Ok(parent as u8)
+    }
+}
+
+fn model_in(book: &Book, parent: u8) -> Result<Record, Refusal> {
+    let sample = book.sample(parent);
+    if sample.is_empty() {
+        return Err(9);
+    }
+    Ok(chain::chain(&Facts::of(sample)))
+}
+
+fn put(text: &[u8], buffer: &mut [u8]) -> Result<usize, Refusal> {
+    if buffer.len() < text.len() {
+        return Err(12);
+    }
+    buffer[..text.len()].copy_from_slice(text);
+    Ok(text.len())
+}
+
+/// The model of a parent from a book: 1 to 7, 8, 9.
+pub fn model_of_parent(bytes: &[u8], parent: usize) -> Result<Record, Refusal> {
+    let book = book::read(bytes)?;
+    let parent = parent_of(&book, parent)?;
+    model_in(&book, parent)
+}
+
+/// Whether a record over n names accepts a word: 3, 10, 11.
+pub fn accepts_word(n: usize, record: &Record, word: &[u8]) -> Result<bool, Refusal> {
+    book::check_names(n)?;
+    if !record.is_chain(n) {
+        return Err(10);
+    }
+    if word.len() > MOST_WORD || word.iter().any(|&x| x as usize >= n) {
+        return Err(11);
+    }
+    Ok(record.accepts(word))
+}
+
+/// The length of a record's declaration, written into the buffer: 1 to 7, 8, 10, 12.
+pub fn write_declaration(bytes: &[u8], parent: usize, record: &Record, buffer: &mut [u8]) -> Result<usize, Refusal> {
+    let book = book::read(bytes)?;
+    let parent = parent_of(&book, parent)?;
+    if !record.is_chain(book.names.len()) {
+        return Err(10);
+    }
+    put(&declaration::written(&book.names, parent as usize, record), buffer)
+}
+
+/// The length of the declaration of a parent's model, written into the buffer: 1 to 7, 8, 9, 12.
+pub fn write_from_sample(bytes: &[u8], parent: usize, buffer: &mut [u8]) -> Result<usize, Refusal> {
+    let book = book::read(bytes)?;
+    let parent = parent_of(&book, parent)?;
+    let record = model_in(&book, parent)?;
+    put(&declaration::written(&book.names, parent as usize, &record), buffer)
+}
+
+/// The parent and the record of a declaration's text: 1 to 7, 13, 14, 15.
+pub fn read_declaration(bytes: &[u8], text: &[u8]) -> Result<(usize, Record), Refusal> {
+    let book = book::read(bytes)?;
+    declaration::read(&book.names, text)
+}
+
+/// What the program prints of a book.
+pub fn dtd(bytes: &[u8]) -> Vec<u8> {
+    let book = match book::read(bytes) {
+        Ok(book) => book,
+        Err(number) => return format!("refused {number}\n").into_bytes(),
+    };
+    let mut out = Vec::new();
+    for parent in 0..book.names.len() as u8 {
+        if let Ok(record) = model_in(&book, parent) {
+            out.extend(declaration::written(&book.names, parent as usize, &record));
+            out.push(b'\n');
+        }
+    }
+    out
+}

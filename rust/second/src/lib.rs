@@ -1,0 +1,17 @@
+//! A second implementation of paper 01, written from its text and not from the proved crates. It is made to be
+//! compared with, so it follows the paper's sentences and takes the slow way wherever that is the clearer one.
+//!
+//! A refusal is the number that paper 01's table gives it.
+
+pub mod book;
+pub mod calls;
+pub mod chain;
+pub mod declaration;
+pub mod facts;
+pub mod record;
+
+/// A refusal's number, 1 to 15.
+pub type Refusal = u8;
+
+/// The most names that a book may have, and the places of a model record.
+pub const PLACES: usize = 64;

@@ -1,0 +1,79 @@
+//! The model record, when it is a chain over N names, and which words it accepts.
+
+use crate::PLACES;
+
+/// No factor holds this name.
+pub const NONE: u8 = 255;
+
+/// A model record: F, the factor that holds each number, and the factors' modes. Any values may stand in it.
+#[derive(Clone, Copy, PartialEq, Eq)]
+pub struct Record {
+    pub count: usize,
+    pub factor: [u8; PLACES],
+    pub mode: [u8; PLACES],
+}
+
+/// The empty model.
+pub const EMPTY: Record = Record { count: 0, factor: [NONE; PLACES], mode: [0; PLACES] };
+
+impl std::fmt::Debug for Record {
+    fn fmt(&self, f: &mut std::fmt::Formatter) -> std::fmt::Result {
+        write!(f, "F={} factors={:?} modes={:?}", self.count, self.factor, self.mode)
+    }
+}
+
+impl Record {
+    /// The record with these factors, each its names and its mode.
+    pub fn of(factors: &[(Vec<u8>, u8)]) -> Record {
+        let mut record = EMPTY;
+        record.count = factors.len();
+        for (i, (names, mode)) in factors.iter().enumerate() {
+            for &name in names {
+                record.factor[name as usize] = i as u8;
+            }
+            record.mode[i] = *mode;
+        }
+        record
+    }
+
+    /// The names of factor i, rising.
+    pub fn names_of(&self, i: usize) -> Vec<u8> {
+        (0..PLACES as u8).filter(|&x| self.factor[x as usize] as usize == i).collect()
+    }
+
+    /// Whether it is a chain over n names.
+    pub fn is_chain(&self, n: usize) -> bool {
+        let f = self.count;
+        f <= PLACES
+            && (0..PLACES).all(|x| self.factor[x] == NONE || (x < n && (self.factor[x] as usize) < f))
+            && (0..f).all(|i| !self.names_of(i).is_empty())
+            && (0..PLACES).all(|i| if i < f { self.mode[i] <= 3 } else { self.mode[i] == 0 })
+    }
+
+    /// Whether a word, of any length, is a joining of one part for each factor in order.
+    pub fn accepts(&self, word: &[u8]) -> bool {
+        // The places of the word at which the parts of the factors so far can end.
+        let mut ends: Vec<bool> = vec![false; word.len() + 1];
+        ends[0] = true;
+        for i in 0..self.count {
+            let mut next = vec![false; word.len() + 1];
+            for from in (0..=word.len()).filter(|&from| ends[from]) {
+                for to in from..=word.len() {
+                    let part = &word[from..to];
+                    if !part.iter().all(|&x| self.factor[x as usize] as usize == i) {
+                        break;
+                    }
+                    next[to] |= match self.mode[i] {
+                        0 => part.len() == 1,
+                        1 => part.len() <= 1,
+                        2 => !part.is_empty(),
+                        3 => true,
+                        _ => false,
+                    };
+                }
+            }
+            ends = next;
+        }
+        ends[word.len()]
+    }
+}

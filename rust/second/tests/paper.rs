@@ -1,0 +1,277 @@
+//! Every line under the samples of paper 01, its traps, its example and its limits.
+
+use second::book::{self, bytes_of, Block};
+use second::calls::*;
+use second::declaration::written;
+use second::record::{Record, EMPTY, NONE};
+
+/// Words in letters: a is 0. `-` is the empty word.
+fn word(letters: &str) -> Vec<u8> {
+    letters.bytes().filter(|&b| b != b'-').map(|b| b - b'a').collect()
+}
+
+/// A book of the names a to l and a parent `p`, number 12, with these words.
+fn letters(sample: &str) -> Vec<u8> {
+    let names: Vec<Vec<u8>> = (b'a'..=b'l').chain([b'p']).map(|b| vec![b]).collect();
+    let blocks: Vec<Block> = sample.split(", ").map(|w| Block { parent: 12, word: word(w) }).collect();
+    bytes_of(&names, &blocks)
+}
+
+fn model(sample: &str) -> Record {
+    model_of_parent(&letters(sample), 12).unwrap()
+}
+
+/// The content model that the program prints for a sample.
+fn printed(sample: &str) -> String {
+    let line = String::from_utf8(dtd(&letters(sample))).unwrap();
+    line.strip_prefix("<!ELEMENT p ").unwrap().strip_suffix(">\n").unwrap().to_string()
+}
+
+#[test]
+fn samples_with_their_models() {
+    for (sample, expected) in [
+        ("-", "EMPTY"),
+        ("a", "(a)"),
+        ("-, a", "(a?)"),
+        ("aa", "(a+)"),
+        ("-, aa", "(a*)"),
+        ("ab, b", "(a?,b)"),
+        ("ab, c", "((a|c),b?)"),
+        ("aba", "((a|b)+)"),
+        ("aa, bb", "(a*,b*)"),
+        ("kkb, a", "(a?,k*,b?)"),
+        ("ac, bbc", "(a?,b*,c)"),
+        ("abc, ade, abe", "(a,(b|d),(c|e))"),
+    ] {
+        assert_eq!(printed(sample), expected, "sample {sample}");
+        // In any order and however often.
+        let mut back: Vec<&str> = sample.split(", ").collect();
+        back.reverse();
+        assert_eq!(printed(&back.join(", ")), expected);
+        assert_eq!(printed(&format!("{sample}, {sample}")), expected);
+        // The declaration reads back as the same parent and model.
+        let text = format!("<!ELEMENT p {expected}>");
+        assert_eq!(read_declaration(&letters(sample), text.as_bytes()), Ok((12, model(sample))));
+        for w in sample.split(", ") {
+            assert_eq!(accepts_word(13, &model(sample), &word(w)), Ok(true), "sample {sample}, word {w}");
+        }
+    }
+}
+
+#[test]
+fn lines_under_the_samples() {
+    let m = model("kkb, a");
+    assert_eq!(accepts_word(13, &m, &word("-")), Ok(true));
+    assert_eq!(accepts_word(13, &m, &word("akkb")), Ok(true));
+    assert_eq!(accepts_word(13, &m, &word("ka")), Ok(false));
+    // N = 64 passes, 65 is 3.
+    let named = |n: usize| bytes_of(&(0..n).map(|i| format!("n{i:02}").into_bytes()).collect::<Vec<_>>(), &[]);
+    assert!(book::read(&named(64)).is_ok());
+    assert_eq!(book::read(&named(65)).err(), Some(3));
+    assert_eq!(accepts_word(64, &EMPTY, &[]), Ok(true));
+    assert_eq!(accepts_word(65, &EMPTY, &[]), Err(3));
+    assert_eq!(accepts_word(0, &EMPTY, &[]), Err(3));
+    // A 32-byte name passes, 33 is 4.
+    assert!(book::read(&bytes_of(&[vec![b'a'; 32]], &[])).is_ok());
+    assert_eq!(book::read(&bytes_of(&[vec![b'a'; 33]], &[])).err(), Some(4));
+    // A 255-name word passes, 256 is 11.
+    let star = Record::of(&[(vec![0], 3)]);
+    assert_eq!(accepts_word(1, &star, &[0; 255]), Ok(true));
+    assert_eq!(accepts_word(1, &star, &[0; 256]), Err(11));
+    // A buffer one byte short is 12.
+    let text = b"<!ELEMENT p (a?,k*,b?)>";
+    let bytes = letters("kkb, a");
+    for size in 0..40 {
+        let mut buffer = vec![7u8; size];
+        let answer = write_from_sample(&bytes, 12, &mut buffer);
+        if size < text.len() {
+            assert_eq!(answer, Err(12));
+            assert!(buffer.iter().all(|&b| b == 7));
+        } else {
+            assert_eq!(answer, Ok(text.len()));
+            assert_eq!(&buffer[..text.len()], text);
+            assert!(buffer[text.len()..].iter().all(|&b| b == 7));
+        }
+    }
+}
+
+#[test]
+fn traps() {
+    assert_ne!(printed("kkb, a"), "(k*,a?,b?)");
+    let narrower = Record::of(&[(word("k"), 3), (word("ab"), 0)]);
+    for w in ["kkb", "a"] {
+        assert_eq!(accepts_word(13, &narrower, &word(w)), Ok(true));
+    }
+    let wider = Record::of(&[(word("k"), 3), (word("a"), 1), (word("b"), 1)]);
+    assert_eq!(accepts_word(13, &wider, &word("ab")), Ok(true));
+    assert_eq!(accepts_word(13, &narrower, &word("ab")), Ok(false));
+    assert_eq!(accepts_word(13, &Record::of(&[(word("ab"), 0)]), &word("ab")), Ok(false));
+}
+
+#[test]
+fn the_example() {
+    let names: Vec<Vec<u8>> =
+        ["contribution", "entry", "leaver", "member", "reason", "total"].iter().map(|n| n.as_bytes().to_vec()).collect();
+    let blocks: Vec<Block> = [[3u8, 0, 5], [3, 2, 4], [3, 0, 4]].iter().map(|w| Block { parent: 1, word: w.to_vec() }).collect();
+    let bytes = bytes_of(&names, &blocks);
+    assert_eq!(dtd(&bytes), b"<!ELEMENT entry (member,(contribution|leaver),(reason|total))>\n");
+    assert_eq!(dtd(&bytes_of(&names, &[])), b"");
+    assert_eq!(dtd(&bytes[..bytes.len() - 1]), b"refused 2\n");
+    assert_eq!(model_of_parent(&bytes, 6), Err(8));
+    assert_eq!(model_of_parent(&bytes, 256 + 1), Err(8));
+    assert_eq!(model_of_parent(&bytes, 0), Err(9));
+    let m = model_of_parent(&bytes, 1).unwrap();
+    let both = [3u8, 0, 2, 4];
+    assert_eq!(accepts_word(6, &m, &both), Ok(false));
+}
+
+#[test]
+fn the_longest_declaration() {
+    let names: Vec<Vec<u8>> = (0..64).map(|i| format!("n{i:031}").into_bytes()).collect();
+    let bytes = bytes_of(&names, &[]);
+    // Half of the names in pairs with a mark each, or each name a factor with a mark: the longest of all chains.
+    let mut longest = 0;
+    for pairs in 0..=32 {
+        let mut factors: Vec<(Vec<u8>, u8)> = (0..pairs).map(|i| (vec![2 * i, 2 * i + 1], 1)).collect();
+        factors.extend((2 * pairs..64).map(|i| (vec![i], 3)));
+        let mut buffer = [0u8; 4096];
+        longest = longest.max(write_declaration(&bytes, 0, &Record::of(&factors), &mut buffer).unwrap());
+    }
+    assert_eq!(longest, 2253);
+}
+
+#[test]
+fn book_refusals() {
+    let name = |text: &[u8]| [&[text.len() as u8], text].concat();
+    let cases: Vec<(Vec<u8>, u8)> = vec![
+        (vec![], 2),
+        (vec![0], 2),
+        (vec![0, 0], 3),
+        (vec![65, 0], 3),
+        (vec![1, 1], 3),
+        (vec![1, 0], 2),
+        (vec![1, 0, 0], 4),
+        (vec![1, 0, 33], 4),
+        (vec![1, 0, 2, b'9'], 2),
+        (vec![1, 0, 1, b'9'], 4),
+        ([&[2, 0][..], &name(b"b"), &name(b"a!")].concat(), 4),
+        ([&[2, 0][..], &name(b"b"), &name(b"a")].concat(), 5),
+        ([&[2, 0][..], &name(b"ab"), &name(b"a")].concat(), 5),
+        ([&[2, 0][..], &name(b"a"), &name(b"a")].concat(), 5),
+        ([&[1, 0][..], &name(b"a"), &[1, 0]].concat(), 2),
+        ([&[1, 0][..], &name(b"a"), &[1, 0, 1]].concat(), 6),
+        ([&[1, 0][..], &name(b"a"), &[1, 0, 0]].concat(), 2),
+        ([&[1, 0][..], &name(b"a"), &[1, 0, 0, 2, 9]].concat(), 2),
+        ([&[1, 0][..], &name(b"a"), &[1, 0, 0, 2, 0, 1]].concat(), 6),
+        ([&[1, 0][..], &name(b"a"), &[0, 0, 0]].concat(), 7),
+        (vec![0; 60_001], 1),
+    ];
+    for (bytes, number) in cases {
+        assert_eq!(book::read(&bytes).err(), Some(number), "{:?}", &bytes[..bytes.len().min(20)]);
+    }
+}
+
+#[test]
+fn records_that_are_no_chain() {
+    let good = Record::of(&[(vec![0], 0), (vec![2, 3], 2)]);
+    assert!(good.is_chain(4));
+    let change = |f: fn(&mut Record)| {
+        let mut r = good;
+        f(&mut r);
+        r
+    };
+    assert!(!good.is_chain(3));
+    for bad in [
+        change(|r| r.count = 1),
+        change(|r| r.count = 3),
+        change(|r| r.count = 65),
+        change(|r| r.count = usize::MAX),
+        change(|r| r.count = 256 + 2),
+        change(|r| r.factor[0] = 2),
+        change(|r| r.factor[0] = 254),
+        change(|r| r.factor[0] = NONE),
+        change(|r| r.factor[4] = 0),
+        change(|r| r.factor[63] = 1),
+        change(|r| r.mode[0] = 4),
+        change(|r| r.mode[1] = 255),
+        change(|r| r.mode[2] = 1),
+        change(|r| r.mode[63] = 3),
+    ] {
+        assert_eq!(accepts_word(4, &bad, &[0, 2]), Err(10), "{bad:?}");
+        assert_eq!(accepts_word(4, &bad, &[99; 300]), Err(10));
+    }
+    assert_eq!(accepts_word(4, &good, &[4]), Err(11));
+    assert_eq!(accepts_word(4, &good, &[0, 3, 2, 2]), Ok(true));
+    assert_eq!(accepts_word(4, &good, &[0]), Ok(false));
+}
+
+#[test]
+fn texts() {
+    let names: Vec<Vec<u8>> = ["ANY", "EMPTY", "a", "b", "c"].iter().map(|n| n.as_bytes().to_vec()).collect();
+    let bytes = bytes_of(&names, &[]);
+    for text in [
+        "<!ELEMENT a (a)>",
+        "<!ELEMENT   a   ( a )  >",
+        "<!ELEMENT a (a? ,b )>",
+        "<!ELEMENT a ( ( b | a )+ , c* )>",
+        "<!ELEMENT a ((b|a))>",
+        "<!ELEMENT a EMPTY>",
+        "<!ELEMENT a EMPTY  >",
+        "<!ELEMENT EMPTY EMPTY>",
+        "<!ELEMENT a (EMPTY)>",
+        "<!ELEMENT ANY (ANY)>",
+    ] {
+        let (parent, record) = read_declaration(&bytes, text.as_bytes()).unwrap_or_else(|n| panic!("{text}: {n}"));
+        let house = written(&names, parent, &record);
+        assert_eq!(read_declaration(&bytes, &house), Ok((parent, record)), "{text}");
+    }
+    for (text, number) in [
+        ("", 13),
+        ("<!ELEMENT a (a)>\n", 13),
+        (" <!ELEMENT a (a)>", 13),
+        ("<!ELEMENT a(a)>", 13),
+        ("<!ELEMENTa (a)>", 13),
+        ("<!ELEMENT a ANY>", 13),
+        ("<!ELEMENT a EMPTYx>", 13),
+        ("<!ELEMENT a empty>", 13),
+        ("<!element a EMPTY>", 13),
+        ("<!ELEMENT a ()>", 13),
+        ("<!ELEMENT a (a,)>", 13),
+        ("<!ELEMENT a (,a)>", 13),
+        ("<!ELEMENT a (a b)>", 13),
+        ("<!ELEMENT a (a ?)>", 13),
+        ("<!ELEMENT a ((a|b) ?)>", 13),
+        ("<!ELEMENT a (a??)>", 13),
+        ("<!ELEMENT a ((a),b)>", 13),
+        ("<!ELEMENT a ((a)?,b)>", 13),
+        ("<!ELEMENT a (a|b)>", 13),
+        ("<!ELEMENT a (a)*>", 13),
+        ("<!ELEMENT a (a,b)+>", 13),
+        ("<!ELEMENT a ((a?|b),c)>", 13),
+        ("<!ELEMENT a ((a|b),c)", 13),
+        ("<!ELEMENT a (a)>>", 13),
+        ("<!ELEMENT a (a,\tb)>", 13),
+        ("<!ELEMENT a (1a)>", 13),
+        ("<!ELEMENT a (#PCDATA)>", 13),
+        ("<!ELEMENT d (a)>", 14),
+        ("<!ELEMENT a (d,d)>", 14),
+        ("<!ELEMENT a (a,a,d)>", 14),
+        ("<!ELEMENT a (a,a)>", 15),
+        ("<!ELEMENT a ((a|a))>", 15),
+        ("<!ELEMENT a ((a|b),b?)>", 15),
+    ] {
+        assert_eq!(read_declaration(&bytes, text.as_bytes()), Err(number), "{text}");
+    }
+    let long = |n: usize| format!("<!ELEMENT a ({})>", "x".repeat(n));
+    assert_eq!(read_declaration(&bytes, long(32).as_bytes()), Err(14));
+    assert_eq!(read_declaration(&bytes, long(33).as_bytes()), Err(13));
+    assert_eq!(read_declaration(&[0, 0], b"<!ELEMENT"), Err(3));
+}
+
+#[test]
+fn the_sample_feed() {
+    let folder = concat!(env!("CARGO_MANIFEST_DIR"), "/../../samples/");
+    let book = std::fs::read(format!("{folder}feed.book")).unwrap();
+    let due = std::fs::read(format!("{folder}feed.dtd")).unwrap();
+    assert_eq!(dtd(&book), due);
+}

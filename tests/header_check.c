@@ -1,0 +1,85 @@
+/* Calls each function of the static library from C, on the example of paper 01. Prints what differs; the status is then 1.
+ *
+ *     cc -Iinclude tests/header_check.c -Ltarget/staticlib -lcurlewsong -o target/header_check && target/header_check
+ */
+#include "curlewsong.h"
+
+#include <stdio.h>
+#include <string.h>
+
+static int failures = 0;
+
+static void expect(int holds, const char *what) {
+    if (!holds) {
+        printf("header_check: %s\n", what);
+        failures++;
+    }
+}
+
+/* Six names and three blocks of `entry`. */
+static const uint8_t book[] = {
+    6, 0,
+    12, 'c', 'o', 'n', 't', 'r', 'i', 'b', 'u', 't', 'i', 'o', 'n',
+    5, 'e', 'n', 't', 'r', 'y',
+    6, 'l', 'e', 'a', 'v', 'e', 'r',
+    6, 'm', 'e', 'm', 'b', 'e', 'r',
+    6, 'r', 'e', 'a', 's', 'o', 'n',
+    5, 't', 'o', 't', 'a', 'l',
+    3, 0,
+    1, 3, 3, 0, 5,
+    1, 3, 3, 2, 4,
+    1, 3, 3, 0, 4,
+};
+
+static const char declaration[] = "<!ELEMENT entry (member,(contribution|leaver),(reason|total))>";
+
+static bool same(const curlewsong_model *a, const curlewsong_model *b) {
+    return a->count == b->count && memcmp(a->factor, b->factor, CURLEWSONG_PLACES) == 0
+        && memcmp(a->mode, b->mode, CURLEWSONG_PLACES) == 0;
+}
+
+int main(void) {
+    const size_t length = sizeof declaration - 1;
+    uint8_t buffer[CURLEWSONG_LONGEST_DECLARATION];
+    curlewsong_model empty = {0};
+    memset(empty.factor, CURLEWSONG_NONE, CURLEWSONG_PLACES);
+
+    curlewsong_model_answer found = curlewsong_model_of_parent(book, sizeof book, 1);
+    expect(found.refusal == 0, "entry has a model");
+    expect(found.model.count == 3, "of three factors");
+    const uint8_t factors[] = {1, 255, 1, 0, 2, 2, 255};
+    expect(memcmp(found.model.factor, factors, sizeof factors) == 0, "with its names in their factors");
+    curlewsong_model_answer none = curlewsong_model_of_parent(book, sizeof book, 0);
+    expect(none.refusal == 9 && same(&none.model, &empty), "contribution has no block");
+    expect(curlewsong_model_of_parent(book, sizeof book, 6).refusal == 8, "there is no parent 6");
+    expect(curlewsong_model_of_parent(book, sizeof book - 1, 1).refusal == 2, "a cut book is refused");
+
+    const uint8_t sampled[] = {3, 0, 5}, both[] = {3, 0, 2, 4}, far[] = {6};
+    curlewsong_verdict verdict = curlewsong_accepts_word(6, found.model, sampled, sizeof sampled);
+    expect(verdict.refusal == 0 && verdict.yes, "a sample word is accepted");
+    verdict = curlewsong_accepts_word(6, found.model, both, sizeof both);
+    expect(verdict.refusal == 0 && !verdict.yes, "a contribution and a leaver together are not");
+    verdict = curlewsong_accepts_word(6, found.model, far, sizeof far);
+    expect(verdict.refusal == 11 && !verdict.yes, "there is no name 6");
+    expect(curlewsong_accepts_word(65, found.model, far, 0).refusal == 3, "65 names are too many");
+
+    memset(buffer, 7, sizeof buffer);
+    curlewsong_written written = curlewsong_write_from_sample(book, sizeof book, 1, buffer, length - 1);
+    expect(written.refusal == 12 && written.length == 0 && buffer[0] == 7, "a buffer one byte short is refused and kept");
+    written = curlewsong_write_from_sample(book, sizeof book, 1, buffer, length);
+    expect(written.refusal == 0 && written.length == length, "the exact buffer is long enough");
+    expect(memcmp(buffer, declaration, length) == 0 && buffer[length] == 7, "the declaration is written, and nothing behind it");
+    memset(buffer, 7, sizeof buffer);
+    written = curlewsong_write_declaration(book, sizeof book, 1, found.model, buffer, sizeof buffer);
+    expect(written.refusal == 0 && memcmp(buffer, declaration, length) == 0, "the record is written alike");
+
+    curlewsong_read read = curlewsong_read_declaration(book, sizeof book, buffer, length);
+    expect(read.refusal == 0 && read.parent == 1 && same(&read.model, &found.model), "it reads back as it was written");
+    read = curlewsong_read_declaration(book, sizeof book, buffer, length - 1);
+    expect(read.refusal == 13 && read.parent == 0 && same(&read.model, &empty), "a cut text is refused");
+
+    if (failures == 0) {
+        printf("header_check: every call of include/curlewsong.h answers as paper 01 has it\n");
+    }
+    return failures != 0;
+}

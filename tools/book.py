@@ -1,0 +1,387 @@
+#!/usr/bin/env python3
+"""Sample books from feeds, and books as lines of text.
+
+  book.py make [--distinct] [-o BOOK] FILE..    a book from XML documents or from lines; '-' is standard input
+  book.py show [BOOK]                           a book as lines
+
+A file that begins with '<' is an XML document; any other file holds lines:
+
+  entry: member contribution total    a block: a parent and its children in order
+  total:                              a block without children
+  + note                              names that the book holds though no block does
+  # text                              a comment; empty lines count for nothing
+
+Of an XML document each element is a block: its name, and the names of its child elements in order. Attributes, text, comments,
+processing instructions and the document type declaration have no place in a book and are left out; `make` says so where it
+leaves out text or attributes. Names stand as they are spelled in the document, so a name with a namespace prefix breaks the
+rule for names. Blocks stand in the order of their opening tags, one for each element; --distinct keeps equal blocks once, which
+changes no model.
+
+Exit status: 0, or 1 where a file or a book is bad; the reason is then on standard error and no book is written.
+"""
+import argparse
+import os
+import sys
+import xml.parsers.expat
+
+BOOK_BYTES = 60000
+NAMES = 64
+NAME_BYTES = 32
+CHILDREN = 255
+
+START = frozenset(b"ABCDEFGHIJKLMNOPQRSTUVWXYZabcdefghijklmnopqrstuvwxyz_")
+LATER = START | frozenset(b"0123456789-.")
+
+REASONS = {
+    1: "the book has more than 60,000 bytes",
+    2: "bytes are missing",
+    3: "the count of names is 0 or above 64",
+    4: "a name has a bad length or a bad byte",
+    5: "a name is not above the one before it",
+    6: "a number is not below the count of names",
+    7: "bytes are left over after the last block",
+}
+
+
+class Bad(Exception):
+    """A file that no book can be made of; its text is the message."""
+
+
+class Refused(Exception):
+    """A refused book: paper 01's number, and the place in the book with what stands there."""
+
+    def __init__(self, number, place, detail):
+        super().__init__(f"refused {number}: {REASONS[number]} ({detail}, byte {place})")
+        self.number = number
+
+
+# Names
+
+
+def shown(name):
+    """A name for a message."""
+    return "'" + name.decode("utf-8", "backslashreplace") + "'"
+
+
+def name_fault(name):
+    """Why the rule for names refuses this one, or None."""
+    if not name:
+        return "is empty"
+    for at, byte in enumerate(name):
+        if byte not in (LATER if at else START):
+            what = f"'{chr(byte)}'" if 32 < byte < 127 else f"byte {byte}"
+            prefix = "; a book has no namespace prefixes" if byte == ord(":") else ""
+            if at == 0 and byte in LATER:
+                return f"starts with {what}; a name starts with A-Z, a-z or _"
+            return f"holds {what}; a name starts with A-Z, a-z or _ and goes on with these, 0-9, - or .{prefix}"
+    if len(name) > NAME_BYTES:
+        return f"has {len(name)} bytes; a name has at most {NAME_BYTES}"
+    return None
+
+
+def checked(name, where):
+    fault = name_fault(name)
+    if fault:
+        raise Bad(f"{where}: the name {shown(name)} {fault}")
+    return name
+
+
+# A book is made of blocks, each (where, parent, children), and of names that no block may hold
+
+
+def checked_block(where, parent, children):
+    if len(children) > CHILDREN:
+        raise Bad(f"{where}: {shown(parent)} has {len(children)} children; a block has at most {CHILDREN}")
+    return parent, tuple(children)
+
+
+def book_of(blocks, more_names=(), distinct=False):
+    """The bytes of the book with these blocks, each a parent and its children."""
+    if distinct:
+        blocks = list(dict.fromkeys(blocks))
+    names = set(more_names)
+    for parent, children in blocks:
+        names.add(parent)
+        names.update(children)
+    names = sorted(names)
+    if not names:
+        raise Bad("there is no name, and a book has at least one")
+    if len(names) > NAMES:
+        raise Bad(f"there are {len(names)} names, and a book has at most {NAMES}; the names after these: "
+                  + ", ".join(shown(n) for n in names[NAMES:NAMES + 5]) + (", .." if len(names) > NAMES + 5 else ""))
+    number = {name: i for i, name in enumerate(names)}
+    out = bytearray(len(names).to_bytes(2, "little"))
+    for name in names:
+        out += bytes([len(name)]) + name
+    size = len(out) + 2 + sum(2 + len(children) for _, children in blocks)
+    if size > BOOK_BYTES:
+        raise Bad(f"the book would have {size:,} bytes, and at most {BOOK_BYTES:,} fit" + ("" if distinct else
+                  f"; with --distinct, which keeps equal blocks once, it would have {distinct_size(len(out), blocks):,}"))
+    out += len(blocks).to_bytes(2, "little")
+    for parent, children in blocks:
+        out += bytes([number[parent], len(children)])
+        out += bytes(number[child] for child in children)
+    return bytes(out)
+
+
+def distinct_size(head, blocks):
+    return head + 2 + sum(2 + len(children) for _, children in set(blocks))
+
+
+# Lines
+
+
+def blocks_of_lines(data, file):
+    """The blocks and the further names of a file of lines."""
+    blocks, more = [], []
+    for at, line in enumerate(data.split(b"\n"), 1):
+        where = f"{file}, line {at}"
+        line = line.strip()
+        if not line or line.startswith(b"#"):
+            continue
+        if line.startswith(b"+"):
+            more += [checked(name, where) for name in line[1:].split()]
+            continue
+        parent, colon, children = line.partition(b":")
+        if not colon:
+            raise Bad(f"{where}: no ':' behind the parent; a block is written as 'entry: member contribution total'")
+        parent = parent.strip()
+        if not parent:
+            raise Bad(f"{where}: no parent before ':'")
+        children = [checked(name, where) for name in children.split()]
+        blocks.append(checked_block(where, checked(parent, where), children))
+    return blocks, more
+
+
+def lines_of(names, blocks):
+    """A book as lines: its blocks in order, then the names that none of them holds."""
+    out = []
+    used = set()
+    for parent, children in blocks:
+        used.add(parent)
+        used.update(children)
+        out.append(b" ".join([names[parent] + b":"] + [names[child] for child in children]))
+    left = [name for number, name in enumerate(names) if number not in used]
+    if left:
+        out.append(b" ".join([b"+"] + left))
+    return b"".join(line + b"\n" for line in out)
+
+
+# XML documents
+
+
+class Document:
+    """Walks one document; `blocks` then has a block for each element, in the order of opening tags."""
+
+    def __init__(self, file):
+        self.file = file
+        self.blocks = []
+        self.open = []  # the places in `blocks` of the elements that are open
+        self.lines = []  # the line of each block's opening tag
+        self.text = {}  # how many elements of a name have text other than white space
+        self.attributes = {}  # how many elements of a name have attributes
+        self.with_text = set()
+        parser = xml.parsers.expat.ParserCreate()
+        parser.StartElementHandler = self.start
+        parser.EndElementHandler = self.end
+        parser.CharacterDataHandler = self.characters
+        parser.ExternalEntityRefHandler = self.external
+        parser.SkippedEntityHandler = self.skipped
+        self.parser = parser
+
+    def where(self, line=None):
+        return f"{self.file}, line {self.parser.CurrentLineNumber if line is None else line}"
+
+    def start(self, name, attributes):
+        name = checked(name.encode(), self.where())
+        if self.open:
+            self.blocks[self.open[-1]][1].append(name)
+        if attributes:
+            self.attributes[name] = self.attributes.get(name, 0) + 1
+        self.open.append(len(self.blocks))
+        self.blocks.append((name, []))
+        self.lines.append(self.parser.CurrentLineNumber)
+
+    def end(self, _name):
+        place = self.open.pop()
+        parent, children = self.blocks[place]
+        self.blocks[place] = checked_block(self.where(self.lines[place]), parent, children)
+
+    def characters(self, data):
+        if self.open and data.strip(" \t\r\n"):
+            place = self.open[-1]
+            if place not in self.with_text:
+                self.with_text.add(place)
+                name = self.blocks[place][0]
+                self.text[name] = self.text.get(name, 0) + 1
+
+    def external(self, _context, _base, system, _public):
+        raise Bad(f"{self.where()}: a reference to an entity in another file ({system}); put its text in its place first")
+
+    def skipped(self, name, is_parameter):
+        if not is_parameter:
+            raise Bad(f"{self.where()}: a reference to the entity '{name}', which the document does not declare")
+
+    def read(self, data):
+        try:
+            self.parser.Parse(data, True)
+        except xml.parsers.expat.ExpatError as e:
+            raise Bad(f"{self.file}, line {e.lineno}: not a well-formed XML document: {xml.parsers.expat.ErrorString(e.code)}")
+        except (LookupError, ValueError) as e:
+            raise Bad(f"{self.where()}: not a readable XML document: {e}")
+        return self
+
+
+def note_left_out(documents, say):
+    """What the book leaves out, where it matters to a DTD made from it."""
+    for kind, counts, effect in (
+        ("text", [d.text for d in documents], "a book has no place for text, and a DTD made from this one allows none"),
+        ("attributes", [d.attributes for d in documents], "a book has no place for attributes, and a DTD made from this one declares none"),
+    ):
+        total = {}
+        for count in counts:
+            for name, n in count.items():
+                total[name] = total.get(name, 0) + n
+        if total:
+            held = ", ".join(f"{name.decode()} ({n})" for name, n in sorted(total.items()))
+            say(f"note: {kind} left out of {held}: {effect}")
+
+
+# Books
+
+
+def read_book(data):
+    """The names and the blocks (as numbers) of a book, or Refused with paper 01's number."""
+    if len(data) > BOOK_BYTES:
+        raise Refused(1, BOOK_BYTES, f"{len(data):,} bytes")
+    at = 0
+
+    def take(size, what):
+        nonlocal at
+        if at + size > len(data):
+            raise Refused(2, len(data), f"{what} needs {size} and {len(data) - at} are there")
+        at += size
+        return data[at - size:at]
+
+    count = int.from_bytes(take(2, "the count of names"), "little")
+    if not 1 <= count <= NAMES:
+        raise Refused(3, 0, f"it is {count}")
+    names = []
+    for i in range(count):
+        size = take(1, f"the length of name {i}")[0]
+        if not 1 <= size <= NAME_BYTES:
+            raise Refused(4, at - 1, f"name {i} has length {size}")
+        name = take(size, f"name {i}")
+        fault = name_fault(name)
+        if fault:
+            raise Refused(4, at - size, f"name {i}, {shown(name)}, {fault}")
+        if names and name <= names[-1]:
+            raise Refused(5, at - size, f"name {i}, {shown(name)}, comes after {shown(names[-1])}")
+        names.append(name)
+    blocks = []
+    for i in range(int.from_bytes(take(2, "the count of blocks"), "little")):
+        parent = take(1, f"the parent of block {i}")[0]
+        if parent >= count:
+            raise Refused(6, at - 1, f"block {i} has parent {parent} of {count} names")
+        size = take(1, f"the child count of block {i}")[0]
+        children = take(size, f"the child list of block {i}")
+        for k, child in enumerate(children):
+            if child >= count:
+                raise Refused(6, at - size + k, f"block {i} has child {child} of {count} names")
+        blocks.append((parent, tuple(children)))
+    if at < len(data):
+        raise Refused(7, at, f"{len(data) - at} of them")
+    return names, blocks
+
+
+# Commands
+
+
+def contents(file):
+    """The bytes of a file, and what to call it in a message."""
+    try:
+        if file == "-":
+            return sys.stdin.buffer.read(), "standard input"
+        with open(file, "rb") as f:
+            return f.read(), file
+    except OSError as e:
+        raise Bad(f"{file}: {e.strerror}")
+
+
+def is_xml(data):
+    """Whether a file is an XML document: it begins with '<', in UTF-8 or in UTF-16."""
+    if data.startswith((b"\xfe\xff", b"\xff\xfe", b"<\0", b"\0<")):
+        return True
+    return data.removeprefix(b"\xef\xbb\xbf").lstrip().startswith(b"<")
+
+
+def make(files, distinct, say):
+    blocks, more, documents = [], [], []
+    for file in files:
+        data, called = contents(file)
+        if is_xml(data):
+            document = Document(called).read(data)
+            documents.append(document)
+            blocks += document.blocks
+        else:
+            found, names = blocks_of_lines(data.removeprefix(b"\xef\xbb\xbf"), called)
+            if not found and not names:
+                raise Bad(f"{called}: holds no block: neither an XML document nor a line such as 'entry: member total'")
+            blocks += found
+            more += names
+    book = book_of(blocks, more, distinct)
+    note_left_out(documents, say)
+    return book
+
+
+def write_file(file, data):
+    try:
+        with open(file, "wb") as f:
+            f.write(data)
+    except OSError as e:
+        raise Bad(f"{file}: {e.strerror}")
+
+
+def main(arguments=None):
+    parser = argparse.ArgumentParser(prog="book.py", description=__doc__, formatter_class=argparse.RawDescriptionHelpFormatter)
+    commands = parser.add_subparsers(dest="command", required=True)
+    maker = commands.add_parser("make", help="a book from XML documents or from lines")
+    maker.add_argument("--distinct", action="store_true", help="keep equal blocks once")
+    maker.add_argument("-o", dest="out", metavar="BOOK", help="the book's file; standard output if none is given")
+    maker.add_argument("files", nargs="+", metavar="FILE")
+    shower = commands.add_parser("show", help="a book as lines")
+    shower.add_argument("book", nargs="?", default="-", metavar="BOOK")
+    chosen = parser.parse_args(arguments)
+
+    def say(line):
+        print(f"book.py: {line}", file=sys.stderr)
+
+    try:
+        if chosen.command == "make":
+            book = make(chosen.files, chosen.distinct, say)
+            if chosen.out is not None:
+                write_file(chosen.out, book)
+            elif sys.stdout.isatty():
+                raise Bad("a book is no text: give it a file with -o BOOK, or a pipe")
+            else:
+                sys.stdout.buffer.write(book)
+                sys.stdout.buffer.flush()
+        else:
+            data, called = contents(chosen.book)
+            try:
+                lines = lines_of(*read_book(data))
+            except Refused as e:
+                raise Bad(f"{called}: {e}")
+            sys.stdout.buffer.write(lines)
+            sys.stdout.buffer.flush()
+    except Bad as e:
+        say(e)
+        return 1
+    except BrokenPipeError:
+        os.dup2(os.open(os.devnull, os.O_WRONLY), sys.stdout.fileno())
+        return 1
+    return 0
+
+
+if __name__ == "__main__":
+    sys.exit(main())
