@@ -1,0 +1,43 @@
+-- Each reply is that of the call's definition.
+-- Assumes nothing.
+use Prim.Native.Nat.{ℕ}
+use mathlib.Core.Path.{_≡_, sym, _∙_, ap}
+use mathlib.Core.Bool.{Bool}
+use mathlib.Core.List.{List}
+use Rattle.refusal.specs.Answer.{Answer, outcomeOf, outcomeNumber}
+use Rattle.model.specs.declared.Model.{Model}
+use Rattle.spelling.specs.Read.{Declared}
+use Rattle.declaration.specs.declared.Written.{Written}
+use Rattle.declaration.specs.Write.{written}
+use Rattle.reading.specs.declared.Declaration.{Declaration}
+use Rattle.reading.specs.Read.{readAnswer, declarationOf, ReadsDeclaration}
+use Rattle.intake.specs.declared.Acceptance.{Acceptance}
+use Rattle.intake.specs.declared.Inferred.{Inferred}
+use Rattle.intake.specs.Acceptance.{answerOf, AcceptsWord}
+use Rattle.intake.specs.Inference.{inferred}
+use Rattle.curlewsong.specs.declared.ModelReply.{ModelReply}
+use Rattle.curlewsong.specs.declared.Verdict.{Verdict}
+use Rattle.curlewsong.specs.declared.LengthReply.{LengthReply}
+use Rattle.curlewsong.specs.declared.TextReply.{TextReply}
+use Rattle.curlewsong.specs.Reply.{refusalIn, modelReply, verdict, verdictOf, lengthReply, lengthOf, textReply}
+
+pub model-replied : (x : Inferred) (a : Answer Model) (n : ℕ) → x ≡ inferred a → n ≡ outcomeNumber (x .outcome) → record { refusal = n; model = x .model } ≡ modelReply a
+unfolding modelReply inferred refusalIn
+model-replied x a n e k =
+    ap (λ (y : ℕ). record { refusal = y; model = x .model }) k
+    ∙ ap (λ (y : Inferred). record { refusal = outcomeNumber (y .outcome); model = y .model }) e
+
+pub word-replied : (n : ℕ) (m : Model) (w : List ℕ) (x : Acceptance) (v : Verdict) → AcceptsWord n m w x → v ≡ verdictOf x → v ≡ verdict (answerOf n m w)
+unfolding verdict verdictOf refusalIn
+word-replied n m w x v h e = e ∙ (λ i. record { refusal = h .number i; yes = h .yes i })
+
+pub length-replied : (x : Written) (a : Answer (List ℕ)) (v : LengthReply) → x ≡ written a → v ≡ lengthOf x → v ≡ lengthReply a
+unfolding lengthReply lengthOf written refusalIn
+length-replied x a v e k = k ∙ ap lengthOf e
+
+pub text-replied : (s text : List ℕ) (x : Declaration) (n : ℕ) → ReadsDeclaration s text x → n ≡ outcomeNumber (x .outcome) →
+    record { refusal = n; parent = x .parent; model = x .model } ≡ textReply (readAnswer s text)
+unfolding textReply declarationOf refusalIn
+text-replied s text x n h k =
+    ap (λ (y : ℕ). record { refusal = y; parent = x .parent; model = x .model }) k
+    ∙ ap (λ (y : Declaration). record { refusal = outcomeNumber (y .outcome); parent = y .parent; model = y .model }) (h .same)

@@ -1,0 +1,125 @@
+// The calls for C and Rust, as include/curlewsong.h declares them: each is a call open to the outside, its refusal as a number.
+use declaration::Written;
+use intake::Acceptance;
+use model::Model;
+ghost use mathlib.Core.Path.{_≡_};
+ghost use lib.ListN.{length};
+ghost use Rattle.declaration.specs.Write.{written, bufferAfter, writeAnswer};
+ghost use Rattle.reading.specs.Read.{readAnswer};
+ghost use Rattle.intake.specs.Acceptance.{answerOf};
+ghost use Rattle.intake.specs.Inference.{modelAnswer};
+ghost use Rattle.intake.specs.Writing.{sampleText};
+ghost use Rattle.curlewsong.specs.Reply.{modelReply, verdict, verdictOf, lengthReply, lengthOf, textReply};
+
+// A model, or the empty one and why.
+#[repr(C)]
+pub struct ModelReply {
+    pub refusal: u8,
+    pub model: Model,
+}
+
+// A yes or no, or no and why.
+#[repr(C)]
+pub struct Verdict {
+    pub refusal: u8,
+    pub yes: bool,
+}
+
+// The length that was written, or 0 and why.
+#[repr(C)]
+pub struct LengthReply {
+    pub refusal: u8,
+    pub length: usize,
+}
+
+// What a text was read as, or parent 0 and the empty model and why.
+#[repr(C)]
+pub struct TextReply {
+    pub refusal: u8,
+    pub parent: usize,
+    pub model: Model,
+}
+
+fn verdict_of(answer: Acceptance) -> Verdict
+    ensures { λ r. ⌜ r ≡ verdictOf answer ⌝ }
+{
+    match answer {
+        Acceptance::Yes => Verdict {
+            refusal: 0,
+            yes: true,
+        },
+        Acceptance::No => Verdict {
+            refusal: 0,
+            yes: false,
+        },
+        Acceptance::Refused(refusal) => Verdict {
+            refusal: refusal::number(refusal),
+            yes: false,
+        },
+    }
+}
+
+fn length_of(answer: Written) -> LengthReply
+    ensures { λ r. ⌜ r ≡ lengthOf answer ⌝ }
+{
+    let outcome = answer.outcome;
+    LengthReply {
+        refusal: refusal::outcome_number(outcome),
+        length: answer.length,
+    }
+}
+
+// The model of a parent from its blocks: 1 to 7, 8, 9.
+#[no_mangle]
+pub extern "C" fn curlewsong_model_of_parent(book: &[u8], parent: usize) -> ModelReply
+    ensures { λ r. ⌜ r ≡ modelReply (modelAnswer (now (book .entry)) parent) ⌝ }
+{
+    let answer = intake::model_of_parent(book, parent);
+    let outcome = answer.outcome;
+    let model = answer.model;
+    ModelReply {
+        refusal: refusal::outcome_number(outcome),
+        model,
+    }
+}
+
+// Whether a model over so many names accepts a word: 3, 10, 11.
+#[no_mangle]
+pub extern "C" fn curlewsong_accepts_word(names: usize, model: Model, word: &[u8]) -> Verdict
+    ensures { λ r. ⌜ r ≡ verdict (answerOf names model (now (word .entry))) ⌝ }
+{
+    verdict_of(intake::accepts_word(names, model, word))
+}
+
+// Writes the declaration of a parent with a model: 1 to 7, 8, 10, 12.
+#[no_mangle]
+pub extern "C" fn curlewsong_write_declaration(book: &[u8], parent: usize, model: Model, buffer: &mut [u8]) -> LengthReply
+    ensures { λ r. ⌜ (r ≡ lengthReply (writeAnswer (now (book .entry)) parent model (length (now (buffer .entry)))))
+        × (now (buffer .exit) ≡ bufferAfter (now (buffer .entry)) (writeAnswer (now (book .entry)) parent model (length (now (buffer .entry))))) ⌝ }
+{
+    length_of(declaration::write_declaration(book, parent, model, buffer))
+}
+
+// Writes the declaration of a parent with the model from its blocks: 1 to 7, 8, 9, 12.
+#[no_mangle]
+pub extern "C" fn curlewsong_write_from_sample(book: &[u8], parent: usize, buffer: &mut [u8]) -> LengthReply
+    ensures { λ r. ⌜ (r ≡ lengthReply (sampleText (now (book .entry)) parent (length (now (buffer .entry)))))
+        × (now (buffer .exit) ≡ bufferAfter (now (buffer .entry)) (sampleText (now (book .entry)) parent (length (now (buffer .entry))))) ⌝ }
+{
+    length_of(intake::write_from_sample(book, parent, buffer))
+}
+
+// Reads a declaration: 1 to 7, 13, 14, 15.
+#[no_mangle]
+pub extern "C" fn curlewsong_read_declaration(book: &[u8], text: &[u8]) -> TextReply
+    ensures { λ r. ⌜ r ≡ textReply (readAnswer (now (book .entry)) (now (text .entry))) ⌝ }
+{
+    let answer = reading::read_declaration(book, text);
+    let outcome = answer.outcome;
+    let model = answer.model;
+    TextReply {
+        refusal: refusal::outcome_number(outcome),
+        parent: answer.parent,
+        model,
+    }
+}
