@@ -2,8 +2,10 @@
 -- Assumes nothing.
 use Prim.Native.Nat.{ℕ}
 use mathlib.Core.Path.{_≡_, sym, _∙_, ap}
-use mathlib.Core.Bool.{Bool}
+use mathlib.Core.Bool.{Bool, true, false}
 use mathlib.Core.List.{List}
+use Rattle.refusal.specs.declared.Refusal.{Refusal}
+use Rattle.refusal.specs.Table.{numberOf}
 use Rattle.refusal.specs.Answer.{Answer, outcomeOf, outcomeNumber}
 use Rattle.model.specs.declared.Model.{Model}
 use Rattle.spelling.specs.Read.{Declared}
@@ -12,14 +14,35 @@ use Rattle.declaration.specs.Write.{written}
 use Rattle.reading.specs.declared.Declaration.{Declaration}
 use Rattle.reading.specs.Read.{readAnswer, declarationOf, ReadsDeclaration}
 use Rattle.intake.specs.declared.Acceptance.{Acceptance}
+use Rattle.intake.specs.declared.Acceptance.the-variants.{Yes, No, Refused}
 use Rattle.intake.specs.declared.Inferred.{Inferred}
-use Rattle.intake.specs.Acceptance.{answerOf, AcceptsWord}
+use Rattle.intake.specs.Acceptance.{answerOf, acceptanceNumber, acceptanceYes, AcceptsWord}
 use Rattle.intake.specs.Inference.{inferred}
 use Rattle.curlewsong.specs.declared.ModelReply.{ModelReply}
 use Rattle.curlewsong.specs.declared.Verdict.{Verdict}
 use Rattle.curlewsong.specs.declared.LengthReply.{LengthReply}
 use Rattle.curlewsong.specs.declared.TextReply.{TextReply}
 use Rattle.curlewsong.specs.Reply.{refusalIn, modelReply, verdict, verdictOf, lengthReply, lengthOf, textReply}
+
+-- ---- a verdict for each case
+
+pub said-yes : (x : Acceptance) → x ≡ Yes → record { refusal = 0; yes = true } ≡ verdictOf x
+unfolding verdictOf acceptanceNumber acceptanceYes
+said-yes x e = rw e
+
+pub said-no : (x : Acceptance) → x ≡ No → record { refusal = 0; yes = false } ≡ verdictOf x
+unfolding verdictOf acceptanceNumber acceptanceYes
+said-no x e = rw e
+
+pub said-refused : (x : Acceptance) (f : Refusal) (n : ℕ) → x ≡ Refused f → n ≡ numberOf f → record { refusal = n; yes = false } ≡ verdictOf x
+unfolding verdictOf acceptanceNumber acceptanceYes
+said-refused x f n e k = rw (e, k)
+
+pub length-told : (w : Written) (n : ℕ) → n ≡ outcomeNumber (w .outcome) → record { refusal = n; length = w .length } ≡ lengthOf w
+unfolding lengthOf
+length-told w n k = ap (λ (y : ℕ). record { refusal = y; length = w .length }) k
+
+-- ---- the calls
 
 pub model-replied : (x : Inferred) (a : Answer Model) (n : ℕ) → x ≡ inferred a → n ≡ outcomeNumber (x .outcome) → record { refusal = n; model = x .model } ≡ modelReply a
 unfolding modelReply inferred refusalIn

@@ -1,0 +1,19 @@
+-- `curlewsong_read_declaration` meets its contract.
+-- Assumes nothing.
+use borrow.Author.Needs.{needs}
+use Rattle.curlewsong.proofs.Replies.{text-replied}
+use Rattle.curlewsong.proofs.curlewsong_read_declaration.Statement.{statement}
+use Rattle.curlewsong.proofs.curlewsong_read_declaration.Tie as tie
+
+read-declaration-requires : tie.Need-read-declaration-requires
+read-declaration-requires c κs = search needs
+
+outcome-number-requires : tie.Need-outcome-number-requires
+outcome-number-requires c κs = search needs
+
+returns : tie.Need-returns
+returns c = text-replied _ _ (c .before .before .read-declaration .result) _ (c .before .before .read-declaration .ensures) (c .outcome-number .ensures)
+
+pub curlewsong-read-declaration-spec : {M : Type 1} → statement M
+curlewsong-read-declaration-spec =
+    tie.close (tie.spec read-declaration-requires outcome-number-requires returns)
