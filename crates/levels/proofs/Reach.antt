@@ -95,9 +95,6 @@ module _ (f : Follow) where
   pub reaches-trans : (a b c : ℕ) → reaches f a b ≡ true → reaches f b c ≡ true → reaches f a c ≡ true
   reaches-trans a b c p q = reaches-is a c .1 (reach-join (reaches-is a b .0 p) (reaches-is b c .0 q))
 
-  pub reaches-step : (a b : ℕ) → edge f a b ≡ true → reaches f a b ≡ true
-  reaches-step a b e = reaches-is a b .1 (one (edge-is a b .0 e))
-
   -- The first step of reach, and the last.
   first-step : {a b : ℕ} → Reach (steps f) a b → (c : ℕ) × steps f (name a) (name c)
   first-step (one {y = b} g) = (b, g)

@@ -14,7 +14,7 @@ use Rattle.follow.proofs.Laws.{over-in}
 use Rattle.levels.specs.Reach.{reaches}
 use Rattle.levels.proofs.Facts.{starts-step, ends-step, follows-step}
 use Rattle.levels.proofs.Reach.{reaches-is, reaches-trans}
-use Rattle.levels.proofs.Paths.{Way, here, by, occurs-is, entered-occurs, way-to-end}
+use Rattle.levels.proofs.Paths.{Way, by, occurs-is, entered-occurs, way-to-end}
 use Rattle.peel.specs.Shown.{Shown}
 
 module _ (f : Follow) where
@@ -37,10 +37,10 @@ module _ (n : ℕ) (words : List (List ℕ)) (all : Over n words) where
 
   pub shown-words : Shown (followOf n words)
   shown-words =
-      record
-        { starts = λ a e. starts-step n words names a e .0
-        ; follows = λ a b e. follows-step n words names a b e .1
-        ; followed = λ a b e. occurs-is (followOf n words) a .1 (entered-occurs n words names a (name b) (follows-step n words names a b e))
-        ; ended = λ a e. occurs-is (followOf n words) a .1 (entered-occurs n words names a end (ends-step n words names a e))
-        ; onward = λ a e. way-onward (followOf n words) a (way-to-end n words names a (occurs-is (followOf n words) a .0 e))
-        }
+      record {
+        starts = λ a e. starts-step n words names a e .0;
+        follows = λ a b e. follows-step n words names a b e .1;
+        followed = λ a b e. occurs-is (followOf n words) a .1 (entered-occurs n words names a (name b) (follows-step n words names a b e));
+        ended = λ a e. occurs-is (followOf n words) a .1 (entered-occurs n words names a end (ends-step n words names a e));
+        onward = λ a e. way-onward (followOf n words) a (way-to-end n words names a (occurs-is (followOf n words) a .0 e));
+      }
