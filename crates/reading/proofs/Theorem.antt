@@ -1,8 +1,8 @@
 -- What callers may rely on, in the words of paper 01: demand 2 for declarations, and when exactly a text is refused. The statements to read first.
 -- Assumes nothing.
 use Prim.Native.Nat.{ℕ, _≤_, _<_}
-use mathlib.Core.Path.{_≡_, refl, sym, _∙_, ap, subst}
-use mathlib.Core.Bool.{Bool, true, false}
+use mathlib.Core.Path.{_≡_, refl, sym, _∙_, ap}
+use mathlib.Core.Bool.{true, false}
 use mathlib.Core.List.{List}
 use mathlib.Core.Logic.{_↔_}
 use native.Mathlib.Omega.{arith}
@@ -34,7 +34,7 @@ use Rattle.spelling.proofs.Books.{book-exactly, book-longest}
 use Rattle.declaration.specs.Write.{fitted, writeAnswer}
 use Rattle.declaration.proofs.Back.{text-due}
 use Rattle.reading.specs.declared.Declaration.{Declaration}
-use Rattle.reading.specs.Read.{readAnswer, parentDue, modelDue, declarationOf, ReadsDeclaration}
+use Rattle.reading.specs.Read.{readAnswer, parentDue, modelDue, ReadsDeclaration}
 
 -- The bytes are a book.
 abbrev pub IsBook : List ℕ → Type 0
