@@ -1,7 +1,7 @@
 -- A book is refused by 1 to 7 and by no other number.
 -- Assumes nothing.
 use Prim.Native.Nat.{ℕ, zero, suc, _≤_}
-use mathlib.Core.Path.{_≡_, refl, subst}
+use mathlib.Core.Path.{_≡_, subst}
 use mathlib.Core.Bool.{Bool, true, false, not}
 use mathlib.Core.List.{List, [], _∷_}
 use native.Mathlib.Omega.{arith}
@@ -14,8 +14,8 @@ use Rattle.refusal.specs.Answer.{Answer, given, refused, onward, refuseIf}
 use Rattle.nameset.specs.Places.{goodCount}
 use Rattle.name.specs.Rule.{goodLength, goodBytes}
 use Rattle.name.specs.Order.{rises}
-use Rattle.book.specs.Field.{Field, byteOf, bytesOf, countOf}
-use Rattle.book.specs.Book.{Block, Book, longestBook, allBelow, nameOf, namesOf, blockOf, blocksOf, nameSection, blockSection, bookOf}
+use Rattle.book.specs.Field.{byteOf, bytesOf, countOf}
+use Rattle.book.specs.Book.{longestBook, allBelow, nameOf, namesOf, blockOf, blocksOf, nameSection, blockSection, bookOf}
 
 -- an answer that is refused by 1 to 7 only
 abbrev Early : {A : Type 0} → Answer A → Type 0

@@ -2,9 +2,9 @@
 -- Assumes nothing.
 use Prim.Native.Nat.{ℕ, zero, suc, _+_, _≤_, _<_}
 use mathlib.Core.Path.{_≡_, refl, sym, _∙_, ap, subst}
-use mathlib.Core.Bool.{Bool, true, false, cond}
+use mathlib.Core.Bool.{cond}
 use mathlib.Core.List.{List, [], _∷_}
-use mathlib.Core.Option.{Option, none, some}
+use mathlib.Core.Option.{some}
 use native.Mathlib.Omega.{arith}
 use native.Mathlib.Nat.{add-zero}
 use lib.Dec.{eqb}
@@ -15,7 +15,7 @@ use Rattle.model.specs.Record.{none as noFactor}
 use Rattle.spelling.specs.House.{Factor}
 use Rattle.spelling.specs.Spelled.{times}
 use Rattle.spelling.specs.Read.{total, placeFrom, modeAt}
-use Rattle.spelling.proofs.Tests.{none-some, some-injective}
+use Rattle.spelling.proofs.Tests.{some-injective}
 use Rattle.spelling.proofs.Names.{Below, AllBelow}
 use Rattle.gather.specs.Gather.{Rows, nextFactor, withMode, andThen}
 use Rattle.gather.proofs.Rows.{placeNames, placeFactor, placeOthers, then-some, then-join, row, moved, next-told, next-free, Placed, names-placed, names-place}

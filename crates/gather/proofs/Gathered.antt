@@ -1,37 +1,36 @@
 -- The walk's answer is the reader's: for a text that has the form, and then for every text.
 -- Assumes nothing.
 use Prim.Native.Nat.{ℕ, zero, suc, _+_, _≤_, _<_}
-use mathlib.Core.Path.{_≡_, refl, sym, _∙_, ap, subst}
-use mathlib.Core.Bool.{Bool, true, false, cond, not, _&&_, true≢false}
+use mathlib.Core.Path.{_≡_, refl, sym, _∙_, ap}
+use mathlib.Core.Bool.{Bool, true, false, not, _&&_, true≢false}
 use mathlib.Core.List.{List, [], _∷_, _++_}
 use mathlib.Core.Option.{Option, none, some}
 use native.Mathlib.Omega.{arith}
 use native.Mathlib.Nat.{zero-add}
-use lib.Dec.{leb}
 use lib.ListN.{length, getD, replicate, length-replicate, getD-replicate, drop, List·getD-eq-default}
 use native.Mathlib.Decide.{decLt}
 use Rattle.refusal.specs.declared.Refusal.the-variants.{NotADeclaration, UnknownName, NameTwice}
-use Rattle.refusal.specs.Answer.{Answer, given, refused, onward, refuseIf}
+use Rattle.refusal.specs.Answer.{Answer, given, onward, refuseIf}
 use Rattle.name.specs.Rule.{isName}
 use Rattle.model.specs.declared.Model.{Model}
 use Rattle.model.specs.Record.{none as noFactor, emptyModel}
-use Rattle.spelling.specs.Token.{Token, word, lpar, end}
-use Rattle.spelling.specs.House.{Factor, opening, emptyWord}
+use Rattle.spelling.specs.Token.{word, lpar}
+use Rattle.spelling.specs.House.{Factor, opening}
 use Rattle.spelling.specs.Spelled.{factorTokens, othersTokens, bodyTokens}
 use Rattle.spelling.specs.Form.{cut, tokens, Form, allFactors, allForm, formOf}
-use Rattle.spelling.specs.Read.{known, numberFor, numbersFor, numbered, total, noneTwice, valuesFrom, placeFrom, modeAt, recordOf, Declared, declared, orRefuse, judged, readText}
+use Rattle.spelling.specs.Read.{known, numberFor, numbered, total, noneTwice, valuesFrom, placeFrom, modeAt, recordOf, Declared, declared, orRefuse, judged, readText}
 use Rattle.spelling.specs.Stops.{Full, Small, HasForm}
 use Rattle.spelling.proofs.Tests.{and-is}
 use Rattle.spelling.proofs.Bytes.{name-word}
 use Rattle.spelling.proofs.Cutting.{cut-complete}
 use Rattle.spelling.proofs.Tree.{proper-body, full-numbered, small-numbered}
 use Rattle.spelling.proofs.Names.{AllBelow, factors-known}
-use Rattle.spelling.proofs.Numbers.{once-all, values-length, values-is, mode-beyond, place-none, total-le, few-factors}
+use Rattle.spelling.proofs.Numbers.{once-all, values-is, place-none, total-le, few-factors}
 use Rattle.spelling.proofs.Theorem.{form-sound}
-use Rattle.walk.specs.Walk.{isWord, hasForm}
+use Rattle.walk.specs.Walk.{isWord}
 use Rattle.walk.proofs.Runs.{found}
 use Rattle.walk.proofs.Formed.{form-found}
-use Rattle.gather.specs.Gather.{knownTokens, Rows, startRows, andThen, gatherFrom, modelOf, factorsAnswer, beginsWithWord, modelAnswer, tokensAnswer, textAnswer}
+use Rattle.gather.specs.Gather.{Rows, startRows, andThen, modelOf, factorsAnswer, beginsWithWord, modelAnswer, tokensAnswer, textAnswer}
 use Rattle.gather.proofs.Rows.{placeFactor, placeOthers, row}
 use Rattle.gather.proofs.Factors.{mark, Filled, all-filled, all-place}
 use Rattle.gather.proofs.Tokens.{byNumber, model-taken, model-known}

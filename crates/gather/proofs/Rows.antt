@@ -1,13 +1,12 @@
 -- Names placed in the rows, one factor after the other: what is filled then, and when nothing stands in the way.
 -- Assumes nothing.
-use Prim.Native.Nat.{ℕ, zero, suc, _+_, _≤_, _<_}
+use Prim.Native.Nat.{ℕ, zero, suc, _≤_, _<_}
 use mathlib.Core.Path.{_≡_, refl, sym, _∙_, ap, subst}
 use mathlib.Core.Bool.{Bool, true, false, cond}
 use mathlib.Core.List.{List, [], _∷_}
 use mathlib.Core.Option.{Option, none, some}
 use native.Mathlib.Omega.{arith}
 use native.Mathlib.Decide.{ℕ-discrete}
-use native.Mathlib.Nat.{add-zero}
 use lib.Dec.{eqb, ltb}
 use lib.ListN.{length, getD, set, length-set}
 use lib.Seq.{getD-set-same, getD-set-other}
@@ -15,9 +14,8 @@ use borrow.Author.Tests.{eq-eqb, ne-eqb, eqb-true, ltb-true, lt-ltb}
 use Rattle.model.specs.Record.{none as noFactor}
 use Rattle.spelling.specs.House.{Factor}
 use Rattle.spelling.specs.Spelled.{times}
-use Rattle.spelling.specs.Read.{total, placeFrom, modeAt}
 use Rattle.spelling.proofs.Tests.{none-some, some-injective}
-use Rattle.spelling.proofs.Names.{Below, AllBelow}
+use Rattle.spelling.proofs.Names.{Below}
 use Rattle.spelling.proofs.Numbers.{times-more, times-first}
 use Rattle.gather.specs.Gather.{Rows, isFree, withName, nextFactor, withMode, andThen}
 

@@ -1,11 +1,11 @@
 -- The tokens of a declaration, taken one after the other, fill the rows as its factors do.
 -- Assumes nothing.
 use Prim.Native.Nat.{ℕ, zero, suc}
-use mathlib.Core.Path.{_≡_, refl, sym, _∙_, ap, ap₂}
+use mathlib.Core.Path.{_≡_, refl, sym, _∙_, ap}
 use mathlib.Core.Bool.{Bool, true, false, _&&_}
 use mathlib.Core.List.{List, [], _∷_}
 use mathlib.Core.Option.{Option, none, some}
-use Rattle.spelling.specs.Token.{Token, word, lpar, rpar, comma, bar, end, mark}
+use Rattle.spelling.specs.Token.{Token, lpar}
 use Rattle.spelling.specs.House.{Factor}
 use Rattle.spelling.specs.Spelled.{markTokens, barsTokens, groupTokens, factorTokens, othersTokens}
 use Rattle.spelling.specs.Form.{allNames, allFactors}

@@ -2,24 +2,23 @@
 -- Assumes nothing.
 use Prim.Native.Nat.{ℕ, _≤_, _<_}
 use mathlib.Core.Path.{_≡_, refl, sym, _∙_, ap}
-use mathlib.Core.Bool.{Bool, true, false, not, false≢true}
-use mathlib.Core.List.{List, _∷_, _++_}
+use mathlib.Core.Bool.{Bool, true, false, false≢true}
+use mathlib.Core.List.{List, _++_}
 use mathlib.Core.Option.{Option, none, some}
 use native.Mathlib.Omega.{arith}
 use lib.ListN.{length}
 use Rattle.refusal.specs.declared.Refusal.{Refusal}
 use Rattle.refusal.specs.declared.Refusal.the-variants.{NotADeclaration}
 use Rattle.refusal.specs.declared.Outcome.the-variants.{Done, Refused}
-use Rattle.refusal.specs.Answer.{Answer, given, refused, onward, refuseIf, outcomeOf}
+use Rattle.refusal.specs.Answer.{refused}
 use Rattle.nameset.specs.Places.{places}
 use Rattle.book.specs.declared.Reading.{Reading}
-use Rattle.book.specs.Book.{Book, bookOf, namesIn}
+use Rattle.book.specs.Book.{bookOf, namesIn}
 use Rattle.book.specs.Layout.{readingOf}
 use Rattle.book.specs.Access.{LaidOut}
 use Rattle.book.proofs.Laws.{laid-out, book-refused}
 use Rattle.spelling.specs.House.{opening}
 use Rattle.spelling.specs.Form.{strip}
-use Rattle.spelling.specs.Read.{Declared, readText}
 use Rattle.spelling.proofs.Tests.{strip-is}
 use Rattle.spelling.proofs.Books.{few}
 use Rattle.walk.specs.Walk.{acceptsRest, hasForm}
@@ -27,7 +26,7 @@ use Rattle.gather.specs.Gather.{tokensAnswer, textAnswer}
 use Rattle.gather.proofs.Gathered.{text-answer}
 use Rattle.reading.specs.declared.Declaration.{Declaration}
 use Rattle.reading.specs.Place.{tokensAt}
-use Rattle.reading.specs.Read.{readAnswer, parentDue, modelDue, declarationOf, noDeclaration, ReadsDeclaration}
+use Rattle.reading.specs.Read.{readAnswer, declarationOf, noDeclaration, ReadsDeclaration}
 
 -- a text that has the form has the nine bytes of `<!ELEMENT`
 opened : (s t : List ℕ) → s ≡ opening ++ t → 9 ≤ length s

@@ -1,13 +1,13 @@
 -- One token by its place in the text: what is known of it, what it does to the rows, and what is left behind it.
 -- Assumes nothing.
 use Prim.Native.Nat.{ℕ, zero, suc, _+_, _-_, _≤_, _<_}
-use mathlib.Core.Path.{_≡_, refl, sym, _∙_, ap, ap₂, subst}
+use mathlib.Core.Path.{_≡_, refl, sym, ap}
 use mathlib.Core.Bool.{Bool, true, false, cond, not, _&&_}
 use mathlib.Core.List.{List, [], _∷_}
 use mathlib.Core.Option.{Option, none, some}
 use mathlib.Core.Logic.{_⊎_, inl, inr}
 use native.Mathlib.Omega.{arith}
-use native.Mathlib.Decide.{ℕ-discrete, decLt}
+use native.Mathlib.Decide.{ℕ-discrete}
 use native.Mathlib.Nat.{add-zero}
 use lib.Dec.{eqb, ltb}
 use lib.ListN.{length, getD, set, take, drop, drop-of-length-le}
@@ -16,9 +16,9 @@ use borrow.Author.Tests.{ne-eqb, lt-ltb}
 use Rattle.name.specs.Class.{laterByte}
 use Rattle.refusal.specs.declared.Refusal.the-variants.{NotADeclaration, UnknownName}
 use Rattle.refusal.specs.Answer.{refused, refuseIf}
-use Rattle.spelling.specs.Token.{isSpace, Token, word, lpar, rpar, comma, bar, end, mark, other}
+use Rattle.spelling.specs.Token.{isSpace, Token}
 use Rattle.spelling.specs.Form.{Cut, atFront, cut, tokens}
-use Rattle.spelling.specs.Read.{known, numberFor, Declared}
+use Rattle.spelling.specs.Read.{known, numberFor}
 use Rattle.walk.specs.Walk.{isWord}
 use Rattle.scan.specs.Unread.{nextOf, runOf, kindOf}
 use Rattle.scan.specs.Piece.{tokenLength, wordEnd, spaceEnd, pieceAt, tokenOf}

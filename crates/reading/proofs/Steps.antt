@@ -1,7 +1,7 @@
 -- The functions' steps and returns, over plain values.
 -- Assumes nothing.
 use Prim.Native.Nat.{ℕ, zero, suc, _+_, _-_, _≤_, _<_}
-use mathlib.Core.Path.{_≡_, refl, sym, _∙_, ap, ap₂, subst}
+use mathlib.Core.Path.{_≡_, refl, sym, _∙_, ap}
 use mathlib.Core.Bool.{Bool, true, false, cond, not, _&&_}
 use mathlib.Core.List.{List, [], _∷_}
 use mathlib.Core.Option.{Option, none, some}
@@ -9,12 +9,12 @@ use native.Mathlib.Omega.{arith}
 use native.Mathlib.Numerals.{add-one}
 use native.Mathlib.Nat.{le-of-suc-le-suc}
 use lib.Dec.{eqb, ltb}
-use lib.ListN.{length, getD, set, take, drop, replicate, length-replicate, length-set}
-use borrow.Author.Tests.{eq-eqb, ne-eqb, ltb-true}
+use lib.ListN.{length, getD, set, take, drop, replicate, length-set}
+use borrow.Author.Tests.{ne-eqb, ltb-true}
 use Rattle.refusal.specs.declared.Refusal.{Refusal}
 use Rattle.refusal.specs.declared.Refusal.the-variants.{NotADeclaration, UnknownName, NameTwice}
 use Rattle.refusal.specs.declared.Outcome.the-variants.{Done, Refused}
-use Rattle.refusal.specs.Answer.{Answer, given, refused, onward, refuseIf, outcomeOf}
+use Rattle.refusal.specs.Answer.{refused, refuseIf}
 use Rattle.nameset.specs.Places.{places}
 use Rattle.book.specs.declared.Layout.{Layout}
 use Rattle.book.specs.declared.Found.{Found}
@@ -25,8 +25,7 @@ use Rattle.model.specs.declared.Model.{Model}
 use Rattle.model.specs.Record.{none as noFactor, emptyModel}
 use Rattle.scan.specs.declared.Piece.{Piece}
 use Rattle.scan.specs.Piece.{pieceAt}
-use Rattle.spelling.specs.Token.{Token}
-use Rattle.spelling.specs.Read.{known, numberFor, Declared, declared, orRefuse}
+use Rattle.spelling.specs.Read.{known, numberFor}
 use Rattle.spelling.proofs.Names.{number-is}
 use Rattle.spelling.proofs.Books.{few}
 use Rattle.gather.specs.Gather.{knownTokens, Rows, startRows, andThen, gatherFrom, modelOf, factorsAnswer, beginsWithWord, modelAnswer, tokensAnswer}

@@ -2,8 +2,9 @@
 -- Assumes nothing.
 use Prim.Native.Nat.{ℕ, _≤_, _<_}
 use mathlib.Core.Path.{_≡_, refl, sym, _∙_, ap, subst}
-use mathlib.Core.Bool.{Bool, true, false}
+use mathlib.Core.Bool.{Bool, true, false, not}
 use mathlib.Core.List.{List}
+use mathlib.Core.Option.{Option, none, some}
 use mathlib.Core.Logic.{_↔_}
 use native.Mathlib.Omega.{arith}
 use lib.ListN.{length}
@@ -12,7 +13,7 @@ use Rattle.refusal.specs.declared.Refusal.{Refusal}
 use Rattle.refusal.specs.declared.Refusal.the-variants.{NotADeclaration, UnknownName, NameTwice}
 use Rattle.refusal.specs.declared.Outcome.the-variants.{Done, Refused}
 use Rattle.refusal.specs.Table.{numberOf}
-use Rattle.refusal.specs.Answer.{Answer, given, refused, onward, outcomeOf}
+use Rattle.refusal.specs.Answer.{Answer, given, refused, onward, refuseIf, outcomeOf}
 use Rattle.refusal.proofs.Answers.{onward-given}
 use Rattle.nameset.specs.Places.{places}
 use Rattle.book.specs.Book.{Book, bookOf, namesIn}
@@ -20,21 +21,21 @@ use Rattle.book.specs.Layout.{layoutOf}
 use Rattle.book.specs.Access.{LaidOut}
 use Rattle.book.proofs.Stops.{book-stops}
 use Rattle.model.specs.declared.Model.{Model}
-use Rattle.model.specs.Record.{IsChain}
+use Rattle.model.specs.Record.{IsChain, emptyModel}
 use Rattle.model.specs.Check.{isChain}
 use Rattle.model.proofs.Chain.{chain-law}
 use Rattle.spelling.specs.House.{declaration}
 use Rattle.spelling.specs.Length.{longestDeclaration}
 use Rattle.spelling.specs.Spelled.{Spelled}
-use Rattle.spelling.specs.Form.{Form, allForm}
+use Rattle.spelling.specs.Form.{Form, allForm, formOf}
 use Rattle.spelling.specs.Stops.{HasForm}
-use Rattle.spelling.specs.Read.{known, numbered, total, noneTwice, Declared, declared, readText}
+use Rattle.spelling.specs.Read.{known, numbered, total, noneTwice, Declared, declared, orRefuse, judged, readText}
 use Rattle.spelling.proofs.Refusals.{twice-law, refused-13, refused-14, refused-15}
 use Rattle.spelling.proofs.Books.{book-exactly, book-longest}
 use Rattle.declaration.specs.Write.{fitted, writeAnswer}
 use Rattle.declaration.proofs.Back.{text-due}
 use Rattle.reading.specs.declared.Declaration.{Declaration}
-use Rattle.reading.specs.Read.{readAnswer, parentDue, modelDue, declarationOf, ReadsDeclaration}
+use Rattle.reading.specs.Read.{readAnswer, parentDue, modelDue, ReadsDeclaration}
 
 -- The bytes are a book.
 abbrev pub IsBook : List ℕ → Type 0
@@ -75,6 +76,20 @@ late s text r l e = go (bookOf s) refl e
     go : (a : Answer Book) → bookOf s ≡ a → onward a (λ b. readText places (b .names) text) ≡ refused r → IsBook s
     go (given b) q f = (b, q)
     go (refused g) q f = let z : g ≡ r = cc in absurd (omega (arith, book-stops s r (q ∙ ap refused z)))
+
+-- and the text's numbers are 13 to 15
+judged-late : (a b : Bool) (x : Declared) (f : Refusal) → refuseIf (not a) UnknownName (refuseIf (not b) NameTwice (given x)) ≡ refused f → 12 < numberOf f
+judged-late true true x f e = absurd (let z : _≡_ {A = ℕ} 0 1 = cc in omega arith)
+judged-late true false x f e = let z : NameTwice ≡ f = cc in subst (λ (r : Refusal). 12 < numberOf r) z (omega arith)
+judged-late false b x f e = let z : UnknownName ≡ f = cc in subst (λ (r : Refusal). 12 < numberOf r) z (omega arith)
+
+text-late : (names : List (List ℕ)) (text : List ℕ) (f : Refusal) → readText places names text ≡ refused f → 12 < numberOf f
+unfolding readText judged
+text-late names text f e = go (formOf text) e
+  where
+    go : (o : Option Form) → onward (orRefuse NotADeclaration o) (judged places names) ≡ refused f → 12 < numberOf f
+    go none q = let z : NotADeclaration ≡ f = cc in subst (λ (r : Refusal). 12 < numberOf r) z (omega arith)
+    go (some d) q = judged-late (allForm (known names) d) (noneTwice (length names) (numbered names (d .factors))) _ f q
 
 given-book : (s text : List ℕ) (d : Declared) → readAnswer s text ≡ given d → IsBook s
 unfolding readAnswer
@@ -139,7 +154,21 @@ module _ (s text : List ℕ) (r : Declaration) (call : ReadsDeclaration s text r
           writeAnswer s (r .parent) (r .model) room ≡ given (declaration (namesIn s) (r .parent) (r .model))
       go ((b, q), S, c) = written-for s b q (r .parent) (r .model) room (S .parent) c l
 
-  -- ---- when exactly a text is refused
+  -- ---- when exactly the call is refused
+
+  -- 1 to 7: the bytes are no book, for this reason.
+  pub read-1-7 : (f : Refusal) → numberOf f ≤ 7 → (r .outcome ≡ Refused f) ↔ (bookOf s ≡ refused f)
+  unfolding readAnswer
+  read-1-7 f l = (λ o. to (bookOf s) refl (refusal-is f .0 o), λ q. refusal-is f .1 (rw q refl))
+    where
+      to : (a : Answer Book) → bookOf s ≡ a → onward a (λ b. readText places (b .names) text) ≡ refused f → bookOf s ≡ refused f
+      to (given b) q e = absurd (omega (arith, text-late (b .names) text f e))
+      to (refused g) q e = let z : g ≡ f = cc in q ∙ ap refused z
+
+  -- A refused call answers parent 0 and the empty model.
+  pub refused-due : (f : Refusal) → r .outcome ≡ Refused f → (r .parent ≡ 0) × (r .model ≡ emptyModel places)
+  unfolding parentDue modelDue
+  refused-due f o = let e = refusal-is f .0 o in (call .parent ∙ ap parentDue e, call .model ∙ ap modelDue e)
 
   -- 13: the bytes are a book, and the text has not the form of a declaration.
   pub read-13 : (r .outcome ≡ Refused NotADeclaration) ↔ (IsBook s × ((d : Form) → HasForm text d → ⊥))

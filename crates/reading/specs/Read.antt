@@ -5,7 +5,6 @@ use mathlib.Core.Path.{_≡_}
 use mathlib.Core.List.{List}
 use Rattle.refusal.specs.declared.Refusal.{Refusal}
 use Rattle.refusal.specs.declared.Refusal.the-variants.{NameTwice}
-use Rattle.refusal.specs.declared.Outcome.the-variants.{Done, Refused}
 use Rattle.refusal.specs.Table.{stoppedBy}
 use Rattle.refusal.specs.Answer.{Answer, given, refused, onward, outcomeOf}
 use Rattle.nameset.specs.Places.{places}

@@ -1,9 +1,9 @@
 -- `read_factors` meets its contract: from the rows so far, the tokens from i on give the answer.
 -- Assumes nothing.
 use Prim.Native.Nat.{_-_, _≤_, _<_}
-use mathlib.Core.Path.{_≡_, refl, sym, _∙_}
+use mathlib.Core.Path.{_≡_, refl, _∙_}
 use native.Mathlib.Omega.{arith}
-use lib.ListN.{length, length-replicate}
+use lib.ListN.{length}
 use borrow.Author.Tests.{not-true, not-false}
 use Rattle.nameset.specs.Places.{places}
 use Rattle.book.specs.Book.{namesIn}

@@ -9,7 +9,6 @@ use Rattle.book.specs.Book.{namesIn}
 use Rattle.gather.specs.Gather.{knownTokens}
 use Rattle.reading.specs.Place.{tokensAt}
 use Rattle.reading.proofs.Steps.{in-order, onward-to, known-stop, known-on, known-over}
-use borrow.Author.Needs.{needs}
 use Rattle.reading.proofs.lookup.all_known.Statement.{statement}
 use Rattle.reading.proofs.lookup.all_known.Tie as tie
 
