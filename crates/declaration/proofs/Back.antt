@@ -30,7 +30,7 @@ pub record Due (s : List ℕ) (p : ℕ) (m : Model) (room : ℕ) (text : List �
   pub fits : length text ≤ room
   pub back : readText places (namesIn s) text ≡ given (declared p m)
 
-names-of : (s : List ℕ) (b : Book) → bookOf s ≡ given b → namesIn s ≡ b .names
+pub names-of : (s : List ℕ) (b : Book) → bookOf s ≡ given b → namesIn s ≡ b .names
 unfolding namesIn
 names-of s b q = rw q
 

@@ -21,6 +21,11 @@ use Rattle.spelling.specs.House.{opening}
 use Rattle.spelling.specs.Form.{strip}
 use Rattle.spelling.proofs.Tests.{strip-is}
 use Rattle.spelling.proofs.Books.{few}
+<<<<<<< HEAD
+=======
+use Rattle.declaration.proofs.Calls.{book-refused}
+use Rattle.declaration.proofs.Back.{names-of}
+>>>>>>> 407c3e485e9dc731fdee26150813e8343b0dabca
 use Rattle.walk.specs.Walk.{acceptsRest, hasForm}
 use Rattle.gather.specs.Gather.{tokensAnswer, textAnswer}
 use Rattle.gather.proofs.Gathered.{text-answer}
@@ -64,14 +69,10 @@ module _ (s text : List ℕ) (b : Reading) (read : b ≡ readingOf (bookOf s)) w
     pub laid : LaidOut s (b .layout)
     laid = laid-out s b read done
 
-    names-in : namesIn s ≡ laid .book .names
-    unfolding namesIn
-    names-in = rw (laid .read)
-
     -- the answer is the walk's
     answer-is : readAnswer s text ≡ textAnswer places (namesIn s) text
     unfolding readAnswer
-    answer-is = rw (laid .read, ← names-in) (sym (text-answer places (namesIn s) (omega arith) (omega arith) (few s (b .layout) laid) text))
+    answer-is = rw (laid .read, ← names-of s (laid .book) (laid .read)) (sym (text-answer places (namesIn s) (omega arith) (omega arith) (few s (b .layout) laid) text))
 
     pub stopped-form : (r : Declaration) (t : Bool) → t ≡ hasForm text → t ≡ false → r ≡ declarationOf (noDeclaration NotADeclaration) → ReadsDeclaration s text r
     unfolding textAnswer

@@ -33,7 +33,7 @@ use Rattle.spelling.specs.Read.{known, numbered, total, noneTwice, Declared, de
 use Rattle.spelling.proofs.Refusals.{twice-law, refused-13, refused-14, refused-15}
 use Rattle.spelling.proofs.Books.{book-exactly, book-longest}
 use Rattle.declaration.specs.Write.{fitted, writeAnswer}
-use Rattle.declaration.proofs.Back.{text-due}
+use Rattle.declaration.proofs.Back.{names-of, text-due}
 use Rattle.reading.specs.declared.Declaration.{Declaration}
 use Rattle.reading.specs.Read.{readAnswer, parentDue, modelDue, ReadsDeclaration}
 
@@ -55,10 +55,6 @@ answer-done (refused r) e = absurd (let z : _≡_ {A = ℕ} 0 1 = cc in omega ar
 answer-refused : (a : Answer Declared) (r : Refusal) → outcomeOf a ≡ Refused r → a ≡ refused r
 answer-refused (given d) r e = absurd (let z : _≡_ {A = ℕ} 0 1 = cc in omega arith)
 answer-refused (refused q) r e = cc
-
-names-of : (s : List ℕ) (b : Book) → bookOf s ≡ given b → namesIn s ≡ b .names
-unfolding namesIn
-names-of s b q = rw q
 
 laid-of : (s : List ℕ) (b : Book) → bookOf s ≡ given b → LaidOut s (layoutOf b)
 laid-of s b q = record { book = b; read = q; same = refl }
