@@ -21,11 +21,7 @@ use Rattle.spelling.specs.House.{opening}
 use Rattle.spelling.specs.Form.{strip}
 use Rattle.spelling.proofs.Tests.{strip-is}
 use Rattle.spelling.proofs.Books.{few}
-<<<<<<< HEAD
-=======
-use Rattle.declaration.proofs.Calls.{book-refused}
 use Rattle.declaration.proofs.Back.{names-of}
->>>>>>> 407c3e485e9dc731fdee26150813e8343b0dabca
 use Rattle.walk.specs.Walk.{acceptsRest, hasForm}
 use Rattle.gather.specs.Gather.{tokensAnswer, textAnswer}
 use Rattle.gather.proofs.Gathered.{text-answer}
