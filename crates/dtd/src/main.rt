@@ -1,6 +1,13 @@
 // The program of paper 01: reads a book from standard input and prints its declarations, or why it was refused.
 const IN: i32 = 0;
 const OUT: i32 = 1;
+const ERR: i32 = 2;
+
+fn print(text: &[u8]) {
+    if !io::write_all(OUT, text) {
+        io::write_all(ERR, b"dtd: the output could not be written\n");
+    }
+}
 
 fn main() {
     // one byte more than a book may have: a longer input is refused whatever follows
@@ -8,5 +15,5 @@ fn main() {
     let size = io::read_full(IN, &mut book);
     let mut text = [0u8; 144256];
     let length = output::put_output(&mut text, &book[..size]);
-    io::write_all(OUT, &text[..length]);
+    print(&text[..length]);
 }
