@@ -40,11 +40,15 @@ neither : (a b : Bool) → (a || b) ≡ false → (a ≡ false) × (b ≡ false)
 neither true b e = absurd (false≢true (sym e))
 neither false b e = (refl, e)
 
-good-word : (n : ℕ) (w : List ℕ) → badWord n w ≡ false → (length w ≤ longest) × Names n w
+pub good-word : (n : ℕ) (w : List ℕ) → badWord n w ≡ false → (length w ≤ longest) × Names n w
 unfolding badWord
 good-word n w e =
     let p = neither (ltb longest (length w)) (not (allBelow n w)) e in
     (ltb-false longest (length w) (p .0), names-law n w .0 (not-false (allBelow n w) (p .1)))
+
+pub word-good : (n : ℕ) (w : List ℕ) → (length w ≤ longest) × Names n w → badWord n w ≡ false
+unfolding badWord
+word-good n w h = rw (le-ltb longest (length w) (h .0), names-law n w .1 (h .1))
 
 -- A yes says that no check stopped the call.
 clear : (a b c d : Bool) → acceptance (refuseIf a BadNameCount (refuseIf b NotAChain (refuseIf c BadWord (given d)))) ≡ Yes

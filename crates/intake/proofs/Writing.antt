@@ -34,20 +34,20 @@ use Rattle.intake.specs.Writing.{sampleText}
 use Rattle.intake.proofs.Samples.{few, sample-names}
 
 -- what a model that is given tells of the book and the parent
-record Given (s : List ℕ) (p : ℕ) (m : Model) : Type 0 where
-  book : Book
-  read : bookOf s ≡ given book
-  below : p < length (book .names)
-  some : ¬ (sampleOf book p ≡ [])
-  due : modelIn book p ≡ given m
-  is : chainIn book p ≡ m
+pub record Given (s : List ℕ) (p : ℕ) (m : Model) : Type 0 where
+  pub book : Book
+  pub read : bookOf s ≡ given book
+  pub below : p < length (book .names)
+  pub some : ¬ (sampleOf book p ≡ [])
+  pub due : modelIn book p ≡ given m
+  pub is : chainIn book p ≡ m
 
 pub has-word : (ws : List (List ℕ)) → noWord ws ≡ false → ¬ (ws ≡ [])
 unfolding noWord
 has-word [] e z = absurd (let z : _≡_ {A = ℕ} 0 1 = cc in omega arith)
 has-word (w ∷ ws) e z = absurd (let q : _≡_ {A = ℕ} (length (w ∷ ws)) 0 = ap length z in omega arith)
 
-model-given : (s : List ℕ) (p : ℕ) (m : Model) → modelAnswer s p ≡ given m → Given s p m
+pub model-given : (s : List ℕ) (p : ℕ) (m : Model) → modelAnswer s p ≡ given m → Given s p m
 unfolding modelAnswer modelIn badParent
 model-given s p m e =
     let b = onward-given (bookOf s) (λ b. modelIn b p) m e in

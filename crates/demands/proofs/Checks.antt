@@ -1,0 +1,55 @@
+-- Which of several checks refused.
+-- Assumes nothing.
+use Prim.Native.Nat.{ℕ, _≤_, _<_}
+use mathlib.Core.Path.{_≡_, refl, sym, _∙_, ap}
+use mathlib.Core.Bool.{Bool, true, false, false≢true}
+use mathlib.Core.List.{List}
+use mathlib.Core.Logic.{_↔_}
+use native.Mathlib.Omega.{arith}
+use Rattle.refusal.specs.declared.Refusal.{Refusal}
+use Rattle.refusal.specs.declared.Outcome.the-variants.{Done, Refused}
+use Rattle.refusal.specs.Table.{numberOf}
+use Rattle.refusal.specs.Answer.{Answer, given, refused, onward, refuseIf, outcomeOf}
+use Rattle.book.specs.Book.{Book, bookOf}
+use Rattle.book.proofs.Stops.{book-stops}
+
+pub outcome-refused : {A : Type 0} (a : Answer A) (f : Refusal) → (outcomeOf a ≡ Refused f) ↔ (a ≡ refused f)
+outcome-refused a f = (to a, λ e. ap outcomeOf e)
+  where
+    to : {A : Type 0} (a : Answer A) → outcomeOf a ≡ Refused f → a ≡ refused f
+    to (given x) e = absurd (let z : _≡_ {A = ℕ} 0 1 = cc in omega arith)
+    to (refused g) e = cc
+
+-- a number above 7 is given once the bytes are a book
+pub late : {A : Type 0} (s : List ℕ) (next : Book → Answer A) (f : Refusal) → 7 < numberOf f → onward (bookOf s) next ≡ refused f →
+    (b : Book) × (bookOf s ≡ given b) × (next b ≡ refused f)
+late {A} s next f l e = go (bookOf s) refl e
+  where
+    go : (a : Answer Book) → bookOf s ≡ a → onward a next ≡ refused f → (b : Book) × (bookOf s ≡ given b) × (next b ≡ refused f)
+    go (given b) q h = (b, q, h)
+    go (refused g) q h = let z : g ≡ f = cc in absurd (omega (arith, book-stops s f (q ∙ ap refused z)))
+
+-- a test and what it means
+pub fails : {P : Type 0} (t : Bool) → (t ≡ true) ↔ P → (t ≡ false) ↔ (¬ P)
+fails true h = (λ e. absurd (false≢true (sym e)), λ n. absurd (n (h .0 refl)))
+fails false h = (λ e p. absurd (false≢true (h .1 p)), λ n. refl)
+
+-- of three checks in order, with three numbers
+module _ {A : Type 0} (r₁ r₂ r₃ : Refusal) (d₁₂ : numberOf r₁ < numberOf r₂) (d₂₃ : numberOf r₂ < numberOf r₃) (a : A) where
+  pub first-stops : (t₁ t₂ t₃ : Bool) → (refuseIf t₁ r₁ (refuseIf t₂ r₂ (refuseIf t₃ r₃ (given a))) ≡ refused r₁) ↔ (t₁ ≡ true)
+  first-stops true t₂ t₃ = (λ e. refl, λ e. refl)
+  first-stops false true t₃ = (λ e. let z : r₂ ≡ r₁ = cc in absurd (let k : numberOf r₂ ≡ numberOf r₁ = ap numberOf z in omega arith), λ e. absurd (false≢true e))
+  first-stops false false true = (λ e. let z : r₃ ≡ r₁ = cc in absurd (let k : numberOf r₃ ≡ numberOf r₁ = ap numberOf z in omega arith), λ e. absurd (false≢true e))
+  first-stops false false false = (λ e. absurd (let z : _≡_ {A = ℕ} 0 1 = cc in omega arith), λ e. absurd (false≢true e))
+
+  pub second-stops : (t₁ t₂ t₃ : Bool) → (refuseIf t₁ r₁ (refuseIf t₂ r₂ (refuseIf t₃ r₃ (given a))) ≡ refused r₂) ↔ ((t₁ ≡ false) × (t₂ ≡ true))
+  second-stops true t₂ t₃ = (λ e. let z : r₁ ≡ r₂ = cc in absurd (let k : numberOf r₁ ≡ numberOf r₂ = ap numberOf z in omega arith), λ e. absurd (false≢true (sym (e .0))))
+  second-stops false true t₃ = (λ e. (refl, refl), λ e. refl)
+  second-stops false false true = (λ e. let z : r₃ ≡ r₂ = cc in absurd (let k : numberOf r₃ ≡ numberOf r₂ = ap numberOf z in omega arith), λ e. absurd (false≢true (e .1)))
+  second-stops false false false = (λ e. absurd (let z : _≡_ {A = ℕ} 0 1 = cc in omega arith), λ e. absurd (false≢true (e .1)))
+
+  pub third-stops : (t₁ t₂ t₃ : Bool) → (refuseIf t₁ r₁ (refuseIf t₂ r₂ (refuseIf t₃ r₃ (given a))) ≡ refused r₃) ↔ ((t₁ ≡ false) × (t₂ ≡ false) × (t₃ ≡ true))
+  third-stops true t₂ t₃ = (λ e. let z : r₁ ≡ r₃ = cc in absurd (let k : numberOf r₁ ≡ numberOf r₃ = ap numberOf z in omega arith), λ e. absurd (false≢true (sym (e .0))))
+  third-stops false true t₃ = (λ e. let z : r₂ ≡ r₃ = cc in absurd (let k : numberOf r₂ ≡ numberOf r₃ = ap numberOf z in omega arith), λ e. absurd (false≢true (sym (e .1))))
+  third-stops false false true = (λ e. (refl, refl, refl), λ e. refl)
+  third-stops false false false = (λ e. absurd (let z : _≡_ {A = ℕ} 0 1 = cc in omega arith), λ e. absurd (false≢true (e .2)))

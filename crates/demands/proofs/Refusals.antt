@@ -1,0 +1,221 @@
+-- Demand 1: each refusal is given for its condition and for no other. One law for each number of each call; those of reading a declaration stand in
+-- crates/reading/proofs/Theorem.antt, and 1 to 7 are told by the definition of a book.
+-- Assumes nothing.
+use Prim.Native.Nat.{ℕ, _≤_, _<_}
+use mathlib.Core.Path.{_≡_, refl, sym, _∙_, ap}
+use mathlib.Core.Bool.{Bool, true, false, not, false≢true}
+use mathlib.Core.List.{List, [], _∷_}
+use mathlib.Core.Logic.{_↔_}
+use native.Mathlib.Omega.{arith}
+use lib.Dec.{ltb}
+use lib.ListN.{length}
+use borrow.Author.Tests.{lt-ltb, le-ltb, ltb-true, ltb-false, not-true, not-false}
+use Rattle.refusal.specs.declared.Refusal.{Refusal}
+use Rattle.refusal.specs.declared.Refusal.the-variants.{BadNameCount, BadParent, NoBlock, NotAChain, BadWord, BufferTooShort}
+use Rattle.refusal.specs.declared.Outcome.the-variants.{Refused}
+use Rattle.refusal.specs.Answer.{Answer, given, refused, onward, refuseIf, outcomeOf}
+use Rattle.nameset.specs.Places.{places, goodCount}
+use Rattle.nameset.proofs.Count.{count-bounds, bounds-count}
+use Rattle.book.specs.Book.{Book, bookOf}
+use Rattle.model.specs.declared.Model.{Model}
+use Rattle.model.specs.Record.{IsChain}
+use Rattle.model.specs.Check.{isChain}
+use Rattle.model.specs.Accept.{Names}
+use Rattle.model.specs.Run.{accepts}
+use Rattle.model.proofs.Chain.{chain-law}
+use Rattle.spelling.specs.House.{declaration}
+use Rattle.declaration.specs.declared.Written.{Written}
+use Rattle.declaration.specs.Write.{fitted, writeAnswer, written}
+use Rattle.intake.specs.declared.Acceptance.{Acceptance}
+use Rattle.intake.specs.declared.Acceptance.the-variants.{Refused as Stopped}
+use Rattle.intake.specs.declared.Inferred.{Inferred}
+use Rattle.intake.specs.Acceptance.{badModel, longest, badWord, answerOf, acceptance, AcceptsWord}
+use Rattle.intake.specs.Inference.{sampleOf, noWord, badParent, chainIn, modelIn, modelAnswer, inferred}
+use Rattle.intake.specs.Writing.{sampleText}
+use Rattle.intake.proofs.Theorem.{good-word, word-good}
+use Rattle.intake.proofs.Writing.{has-word}
+use Rattle.demands.proofs.Checks.{outcome-refused, late, fails, first-stops, second-stops, third-stops}
+
+-- ---- what the tests mean
+
+below-law : (p n : ℕ) → (ltb p n ≡ true) ↔ (p < n)
+below-law p n = (ltb-true p n, lt-ltb p n)
+
+above-law : (p n : ℕ) → (not (ltb p n) ≡ true) ↔ (n ≤ p)
+above-law p n = (λ e. ltb-false p n (not-true (ltb p n) e), λ h. rw (le-ltb p n h))
+
+not-above : (p n : ℕ) → (not (ltb p n) ≡ false) ↔ (p < n)
+not-above p n = (λ e. ltb-true p n (not-false (ltb p n) e), λ h. rw (lt-ltb p n h))
+
+no-word-law : (ws : List (List ℕ)) → (noWord ws ≡ true) ↔ (ws ≡ [])
+unfolding noWord
+no-word-law [] = (λ e. refl, λ e. refl)
+no-word-law (w ∷ ws) = (λ e. absurd (let z : _≡_ {A = ℕ} 0 1 = cc in omega arith), λ e. absurd (has-word (w ∷ ws) refl e))
+
+not-chain : (n : ℕ) (m : Model) → (not (isChain places n m) ≡ true) ↔ (¬ IsChain places n m)
+not-chain n m = let h = fails (isChain places n m) (chain-law places n m) in (λ e. h .0 (not-true (isChain places n m) e), λ d. ap not (h .1 d))
+
+is-chain : (n : ℕ) (m : Model) → (not (isChain places n m) ≡ false) ↔ IsChain places n m
+is-chain n m = (λ e. chain-law places n m .0 (not-false (isChain places n m) e), λ c. ap not (chain-law places n m .1 c))
+
+-- ---- the model of a parent
+
+-- The bytes are this book.
+abbrev pub Read : List ℕ → Book → Type 0
+Read bytes b = bookOf bytes ≡ given b
+
+module _ (bytes : List ℕ) (parent : ℕ) (r : Inferred) (call : r ≡ inferred (modelAnswer bytes parent)) where
+  stops : (f : Refusal) → (r .outcome ≡ Refused f) ↔ (modelAnswer bytes parent ≡ refused f)
+  unfolding inferred
+  stops f =
+      let o : r .outcome ≡ outcomeOf (modelAnswer bytes parent) = ap (λ (x : Inferred). x .outcome) call in
+      let h = outcome-refused (modelAnswer bytes parent) f in
+      (λ e. h .0 (sym o ∙ e), λ e. o ∙ h .1 e)
+
+  -- 8: the bytes are a book, and the parent is not below N.
+  pub model-8 : (r .outcome ≡ Refused BadParent) ↔ ((b : Book) × Read bytes b × (length (b .names) ≤ parent))
+  unfolding modelAnswer modelIn badParent
+  model-8 = (λ e. to (stops BadParent .0 e), λ h. stops BadParent .1 (from h))
+    where
+      to : modelAnswer bytes parent ≡ refused BadParent → (b : Book) × Read bytes b × (length (b .names) ≤ parent)
+      to e =
+          let k = late bytes (λ b. modelIn b parent) BadParent (omega arith) e in
+          (k .0, k .1, above-law parent (length (k .0 .names)) .0
+          (first-stops BadParent NoBlock NotAChain (omega arith) (omega arith) (chainIn (k .0) parent) (not (ltb parent (length (k .0 .names)))) (noWord (sampleOf (k .0) parent)) false .0 (k .2)))
+
+      from : (b : Book) × Read bytes b × (length (b .names) ≤ parent) → modelAnswer bytes parent ≡ refused BadParent
+      from (b, q, h) = rw (q, le-ltb parent (length (b .names)) h)
+
+  -- 9: the bytes are a book, the parent is below N, and no block has it.
+  pub model-9 : (r .outcome ≡ Refused NoBlock) ↔ ((b : Book) × Read bytes b × (parent < length (b .names)) × (sampleOf b parent ≡ []))
+  unfolding modelAnswer modelIn badParent
+  model-9 = (λ e. to (stops NoBlock .0 e), λ h. stops NoBlock .1 (from h))
+    where
+      to : modelAnswer bytes parent ≡ refused NoBlock → (b : Book) × Read bytes b × (parent < length (b .names)) × (sampleOf b parent ≡ [])
+      to e =
+          let k = late bytes (λ b. modelIn b parent) NoBlock (omega arith) e in
+          let h = second-stops BadParent NoBlock NotAChain (omega arith) (omega arith) (chainIn (k .0) parent) (not (ltb parent (length (k .0 .names)))) (noWord (sampleOf (k .0) parent)) false .0 (k .2) in
+          (k .0, k .1, not-above parent (length (k .0 .names)) .0 (h .0), no-word-law (sampleOf (k .0) parent) .0 (h .1))
+
+      from : (b : Book) × Read bytes b × (parent < length (b .names)) × (sampleOf b parent ≡ []) → modelAnswer bytes parent ≡ refused NoBlock
+      from (b, q, h, z) = rw (q, lt-ltb parent (length (b .names)) h, no-word-law (sampleOf b parent) .1 z)
+
+-- ---- a declaration written
+
+module _ (bytes : List ℕ) (parent : ℕ) (m : Model) (room : ℕ) (r : Written) (call : r ≡ written (writeAnswer bytes parent m room)) where
+  halts : (f : Refusal) → (r .outcome ≡ Refused f) ↔ (writeAnswer bytes parent m room ≡ refused f)
+  unfolding written
+  halts f =
+      let o : r .outcome ≡ outcomeOf (writeAnswer bytes parent m room) = ap (λ (x : Written). x .outcome) call in
+      let h = outcome-refused (writeAnswer bytes parent m room) f in
+      (λ e. h .0 (sym o ∙ e), λ e. o ∙ h .1 e)
+
+  -- the text that is due of this book
+  abbrev due : Book → List ℕ
+  due b = declaration (b .names) parent m
+
+  next : Book → Answer (List ℕ)
+  unfolding fitted
+  next b = refuseIf (not (ltb parent (length (b .names)))) BadParent (refuseIf (not (isChain places (length (b .names)) m)) NotAChain (fitted room (declaration (b .names) parent m)))
+
+  -- 8: the bytes are a book, and the parent is not below N.
+  pub write-8 : (r .outcome ≡ Refused BadParent) ↔ ((b : Book) × Read bytes b × (length (b .names) ≤ parent))
+  unfolding writeAnswer next fitted
+  write-8 = (λ e. to (halts BadParent .0 e), λ h. halts BadParent .1 (from h))
+    where
+      to : writeAnswer bytes parent m room ≡ refused BadParent → (b : Book) × Read bytes b × (length (b .names) ≤ parent)
+      to e =
+          let k = late bytes next BadParent (omega arith) e in
+          (k .0, k .1, above-law parent (length (k .0 .names)) .0
+          (first-stops BadParent NotAChain BufferTooShort (omega arith) (omega arith) (due (k .0)) (not (ltb parent (length (k .0 .names)))) (not (isChain places (length (k .0 .names)) m)) (ltb room (length (due (k .0)))) .0 (k .2)))
+
+      from : (b : Book) × Read bytes b × (length (b .names) ≤ parent) → writeAnswer bytes parent m room ≡ refused BadParent
+      from (b, q, h) = rw (q, le-ltb parent (length (b .names)) h)
+
+  -- 10: the parent is below N, and the record is no chain over N names.
+  pub write-10 : (r .outcome ≡ Refused NotAChain) ↔ ((b : Book) × Read bytes b × (parent < length (b .names)) × (¬ IsChain places (length (b .names)) m))
+  unfolding writeAnswer next fitted
+  write-10 = (λ e. to (halts NotAChain .0 e), λ h. halts NotAChain .1 (from h))
+    where
+      to : writeAnswer bytes parent m room ≡ refused NotAChain → (b : Book) × Read bytes b × (parent < length (b .names)) × (¬ IsChain places (length (b .names)) m)
+      to e =
+          let k = late bytes next NotAChain (omega arith) e in
+          let h = second-stops BadParent NotAChain BufferTooShort (omega arith) (omega arith) (due (k .0)) (not (ltb parent (length (k .0 .names)))) (not (isChain places (length (k .0 .names)) m)) (ltb room (length (due (k .0)))) .0 (k .2) in
+          (k .0, k .1, not-above parent (length (k .0 .names)) .0 (h .0), not-chain (length (k .0 .names)) m .0 (h .1))
+
+      from : (b : Book) × Read bytes b × (parent < length (b .names)) × (¬ IsChain places (length (b .names)) m) → writeAnswer bytes parent m room ≡ refused NotAChain
+      from (b, q, h, c) = rw (q, lt-ltb parent (length (b .names)) h, not-chain (length (b .names)) m .1 c)
+
+  -- 12: the record is a chain, and the buffer is shorter than the declaration.
+  pub write-12 : (r .outcome ≡ Refused BufferTooShort) ↔
+      ((b : Book) × Read bytes b × (parent < length (b .names)) × IsChain places (length (b .names)) m × (room < length (due b)))
+  unfolding writeAnswer next fitted
+  write-12 = (λ e. to (halts BufferTooShort .0 e), λ h. halts BufferTooShort .1 (from h))
+    where
+      to : writeAnswer bytes parent m room ≡ refused BufferTooShort → (b : Book) × Read bytes b × (parent < length (b .names)) × IsChain places (length (b .names)) m × (room < length (due b))
+      to e =
+          let k = late bytes next BufferTooShort (omega arith) e in
+          let h = third-stops BadParent NotAChain BufferTooShort (omega arith) (omega arith) (due (k .0)) (not (ltb parent (length (k .0 .names)))) (not (isChain places (length (k .0 .names)) m)) (ltb room (length (due (k .0)))) .0 (k .2) in
+          (k .0, k .1, not-above parent (length (k .0 .names)) .0 (h .0), is-chain (length (k .0 .names)) m .0 (h .1), below-law room (length (due (k .0))) .0 (h .2))
+
+      from : (b : Book) × Read bytes b × (parent < length (b .names)) × IsChain places (length (b .names)) m × (room < length (due b)) → writeAnswer bytes parent m room ≡ refused BufferTooShort
+      from (b, q, h, c, l) = rw (q, lt-ltb parent (length (b .names)) h, is-chain (length (b .names)) m .1 c, lt-ltb room (length (due b)) l)
+
+-- ---- acceptance of a word
+
+count-law : (n : ℕ) → (goodCount n ≡ true) ↔ ((0 < n) × (n ≤ places))
+count-law n = (count-bounds n, λ h. bounds-count n (h .0) (h .1))
+
+word-law : (n : ℕ) (w : List ℕ) → (badWord n w ≡ false) ↔ ((length w ≤ longest) × Names n w)
+word-law n w = (good-word n w, word-good n w)
+
+module _ (n : ℕ) (m : Model) (w : List ℕ) (r : Acceptance) (call : AcceptsWord n m w r) where
+  tells : (f : Refusal) → (r ≡ Stopped f) ↔ (answerOf n m w ≡ refused f)
+  unfolding acceptance
+  tells f = (λ e. said (answerOf n m w) (sym (call .same) ∙ e), λ e. call .same ∙ told e)
+    where
+      said : (a : Answer Bool) → acceptance a ≡ Stopped f → a ≡ refused f
+      said (given true) e = absurd (let z : _≡_ {A = ℕ} 0 1 = cc in omega arith)
+      said (given false) e = absurd (let z : _≡_ {A = ℕ} 0 1 = cc in omega arith)
+      said (refused g) e = cc
+
+      told : answerOf n m w ≡ refused f → acceptance (answerOf n m w) ≡ Stopped f
+      told e = rw e
+
+  -- 3: the count of names is 0 or above 64.
+  pub word-3 : (r ≡ Stopped BadNameCount) ↔ (¬ ((0 < n) × (n ≤ places)))
+  unfolding answerOf
+  word-3 = (
+    λ e. fails (goodCount n) (count-law n) .0 (not-true (goodCount n) (first-stops BadNameCount NotAChain BadWord (omega arith) (omega arith) (accepts m w) (not (goodCount n)) (badModel n m) (badWord n w) .0 (tells BadNameCount .0 e))),
+    λ h. tells BadNameCount .1 (first-stops BadNameCount NotAChain BadWord (omega arith) (omega arith) (accepts m w) (not (goodCount n)) (badModel n m) (badWord n w) .1 (ap not (fails (goodCount n) (count-law n) .1 h))),
+  )
+
+  -- 10: the count is good, and the record is no chain over so many names.
+  pub word-10 : (r ≡ Stopped NotAChain) ↔ ((0 < n) × (n ≤ places) × (¬ IsChain places n m))
+  unfolding answerOf badModel
+  word-10 = (λ e. to (second-stops BadNameCount NotAChain BadWord (omega arith) (omega arith) (accepts m w) (not (goodCount n)) (badModel n m) (badWord n w) .0 (tells NotAChain .0 e)), λ h. tells NotAChain .1 (from h))
+    where
+      to : (not (goodCount n) ≡ false) × (badModel n m ≡ true) → (0 < n) × (n ≤ places) × (¬ IsChain places n m)
+      to (a, b) = let k = count-bounds n (not-false (goodCount n) a) in (k .0, k .1, not-chain n m .0 b)
+
+      from : (0 < n) × (n ≤ places) × (¬ IsChain places n m) → answerOf n m w ≡ refused NotAChain
+      from (a, b, c) =
+          second-stops BadNameCount NotAChain BadWord (omega arith) (omega arith) (accepts m w) (not (goodCount n)) (badModel n m) (badWord n w) .1
+          (ap not (bounds-count n a b), not-chain n m .1 c)
+
+  -- 11: the record is a chain, and the word has more than 255 names or a number not below N.
+  pub word-11 : (r ≡ Stopped BadWord) ↔ ((0 < n) × (n ≤ places) × IsChain places n m × (¬ ((length w ≤ longest) × Names n w)))
+  unfolding answerOf badModel
+  word-11 = (λ e. to (third-stops BadNameCount NotAChain BadWord (omega arith) (omega arith) (accepts m w) (not (goodCount n)) (badModel n m) (badWord n w) .0 (tells BadWord .0 e)), λ h. tells BadWord .1 (from h))
+    where
+      bad : (t : Bool) → ¬ (t ≡ false) → t ≡ true
+      bad true h = refl
+      bad false h = absurd (h refl)
+
+      to : (not (goodCount n) ≡ false) × (badModel n m ≡ false) × (badWord n w ≡ true) → (0 < n) × (n ≤ places) × IsChain places n m × (¬ ((length w ≤ longest) × Names n w))
+      to (a, b, c) = let k = count-bounds n (not-false (goodCount n) a) in (k .0, k .1, is-chain n m .0 b, λ h. absurd (false≢true (sym (word-law n w .1 h) ∙ c)))
+
+      from : (0 < n) × (n ≤ places) × IsChain places n m × (¬ ((length w ≤ longest) × Names n w)) → answerOf n m w ≡ refused BadWord
+      from (a, b, c, d) =
+          third-stops BadNameCount NotAChain BadWord (omega arith) (omega arith) (accepts m w) (not (goodCount n)) (badModel n m) (badWord n w) .1
+          (ap not (bounds-count n a b), is-chain n m .1 c, bad (badWord n w) (λ e. d (word-law n w .0 e)))

@@ -1,0 +1,1 @@
+// The three demands over the contracts of the calls: no function.
