@@ -1,14 +1,13 @@
 -- Each reply is that of the call's definition.
 -- Assumes nothing.
 use Prim.Native.Nat.{ℕ}
-use mathlib.Core.Path.{_≡_, sym, _∙_, ap}
-use mathlib.Core.Bool.{Bool, true, false}
+use mathlib.Core.Path.{_≡_, _∙_, ap}
+use mathlib.Core.Bool.{true, false}
 use mathlib.Core.List.{List}
 use Rattle.refusal.specs.declared.Refusal.{Refusal}
 use Rattle.refusal.specs.Table.{numberOf}
-use Rattle.refusal.specs.Answer.{Answer, outcomeOf, outcomeNumber}
+use Rattle.refusal.specs.Answer.{Answer, outcomeNumber}
 use Rattle.model.specs.declared.Model.{Model}
-use Rattle.spelling.specs.Read.{Declared}
 use Rattle.declaration.specs.declared.Written.{Written}
 use Rattle.declaration.specs.Write.{written}
 use Rattle.reading.specs.declared.Declaration.{Declaration}
@@ -18,10 +17,8 @@ use Rattle.intake.specs.declared.Acceptance.the-variants.{Yes, No, Refused}
 use Rattle.intake.specs.declared.Inferred.{Inferred}
 use Rattle.intake.specs.Acceptance.{answerOf, acceptanceNumber, acceptanceYes, AcceptsWord}
 use Rattle.intake.specs.Inference.{inferred}
-use Rattle.curlewsong.specs.declared.ModelReply.{ModelReply}
 use Rattle.curlewsong.specs.declared.Verdict.{Verdict}
 use Rattle.curlewsong.specs.declared.LengthReply.{LengthReply}
-use Rattle.curlewsong.specs.declared.TextReply.{TextReply}
 use Rattle.curlewsong.specs.Reply.{refusalIn, modelReply, verdict, verdictOf, lengthReply, lengthOf, textReply}
 
 -- ---- a verdict for each case

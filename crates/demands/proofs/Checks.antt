@@ -7,7 +7,7 @@ use mathlib.Core.List.{List}
 use mathlib.Core.Logic.{_↔_}
 use native.Mathlib.Omega.{arith}
 use Rattle.refusal.specs.declared.Refusal.{Refusal}
-use Rattle.refusal.specs.declared.Outcome.the-variants.{Done, Refused}
+use Rattle.refusal.specs.declared.Outcome.the-variants.{Refused}
 use Rattle.refusal.specs.Table.{numberOf}
 use Rattle.refusal.specs.Answer.{Answer, given, refused, onward, refuseIf, outcomeOf}
 use Rattle.book.specs.Book.{Book, bookOf}
@@ -53,3 +53,19 @@ module _ {A : Type 0} (r₁ r₂ r₃ : Refusal) (d₁₂ : numberOf r₁ < numb
   third-stops false true t₃ = (λ e. let z : r₂ ≡ r₃ = cc in absurd (let k : numberOf r₂ ≡ numberOf r₃ = ap numberOf z in omega arith), λ e. absurd (false≢true (sym (e .1))))
   third-stops false false true = (λ e. (refl, refl, refl), λ e. refl)
   third-stops false false false = (λ e. absurd (let z : _≡_ {A = ℕ} 0 1 = cc in omega arith), λ e. absurd (false≢true (e .2)))
+
+  -- no number below the first is given
+  pub above-first : (t₁ t₂ t₃ : Bool) (f : Refusal) → refuseIf t₁ r₁ (refuseIf t₂ r₂ (refuseIf t₃ r₃ (given a))) ≡ refused f → numberOf r₁ ≤ numberOf f
+  above-first true t₂ t₃ f e = let z : r₁ ≡ f = cc in let k : numberOf r₁ ≡ numberOf f = ap numberOf z in omega arith
+  above-first false true t₃ f e = let z : r₂ ≡ f = cc in let k : numberOf r₂ ≡ numberOf f = ap numberOf z in omega arith
+  above-first false false true f e = let z : r₃ ≡ f = cc in let k : numberOf r₃ ≡ numberOf f = ap numberOf z in omega arith
+  above-first false false false f e = absurd (let z : _≡_ {A = ℕ} 0 1 = cc in omega arith)
+
+-- a number up to 7 is given exactly where the bytes are no book, for the book's reason
+pub early : {A : Type 0} (s : List ℕ) (next : Book → Answer A) (f : Refusal) → numberOf f ≤ 7 → ((b : Book) → next b ≡ refused f → 7 < numberOf f) →
+    (onward (bookOf s) next ≡ refused f) ↔ (bookOf s ≡ refused f)
+early {A} s next f l above = (λ e. go (bookOf s) refl e, λ q. rw q)
+  where
+    go : (a : Answer Book) → bookOf s ≡ a → onward a next ≡ refused f → bookOf s ≡ refused f
+    go (given b) q e = absurd (omega (arith, above b e))
+    go (refused g) q e = let z : g ≡ f = cc in q ∙ ap refused z

@@ -9,7 +9,7 @@ use native.Mathlib.Omega.{arith}
 use lib.ListN.{length, take}
 use borrow.Author.Tests.{lt-ltb}
 use Rattle.refusal.specs.declared.Outcome.the-variants.{Done}
-use Rattle.refusal.specs.Answer.{Answer, given, refused, onward, refuseIf, valueOr, outcomeOf}
+use Rattle.refusal.specs.Answer.{Answer, given, refused, valueOr, outcomeOf}
 use Rattle.nameset.specs.Places.{places}
 use Rattle.book.specs.Book.{Book, bookOf}
 use Rattle.model.specs.declared.Model.{Model}
@@ -18,7 +18,6 @@ use Rattle.model.specs.Accept.{Accepts, Names}
 use Rattle.model.proofs.Chain.{chain-law}
 use Rattle.language.specs.Word.{AcceptsAll}
 use Rattle.declaration.specs.declared.Written.{Written}
-use Rattle.declaration.specs.Put.{wrote}
 use Rattle.declaration.specs.Write.{writeAnswer, written, bufferAfter}
 use Rattle.declaration.proofs.Puts.{wrote-back}
 use Rattle.declaration.proofs.Back.{text-due}

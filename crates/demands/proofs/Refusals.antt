@@ -1,10 +1,10 @@
--- Demand 1: each refusal is given for its condition and for no other. One law for each number of each call; those of reading a declaration stand in
--- crates/reading/proofs/Theorem.antt, and 1 to 7 are told by the definition of a book.
+-- Demand 1: each refusal is given for its condition and for no other. One law for each number of each call, and one for 1 to 7, which are those of `bookOf`;
+-- the laws of reading a declaration stand in crates/reading/proofs/Theorem.antt.
 -- Assumes nothing.
 use Prim.Native.Nat.{ℕ, _≤_, _<_}
 use mathlib.Core.Path.{_≡_, refl, sym, _∙_, ap}
 use mathlib.Core.Bool.{Bool, true, false, not, false≢true}
-use mathlib.Core.List.{List, [], _∷_}
+use mathlib.Core.List.{List, []}
 use mathlib.Core.Logic.{_↔_}
 use native.Mathlib.Omega.{arith}
 use lib.Dec.{ltb}
@@ -13,6 +13,7 @@ use borrow.Author.Tests.{lt-ltb, le-ltb, ltb-true, ltb-false, not-true, not-fals
 use Rattle.refusal.specs.declared.Refusal.{Refusal}
 use Rattle.refusal.specs.declared.Refusal.the-variants.{BadNameCount, BadParent, NoBlock, NotAChain, BadWord, BufferTooShort}
 use Rattle.refusal.specs.declared.Outcome.the-variants.{Refused}
+use Rattle.refusal.specs.Table.{numberOf}
 use Rattle.refusal.specs.Answer.{Answer, given, refused, onward, refuseIf, outcomeOf}
 use Rattle.nameset.specs.Places.{places, goodCount}
 use Rattle.nameset.proofs.Count.{count-bounds, bounds-count}
@@ -33,8 +34,8 @@ use Rattle.intake.specs.Acceptance.{badModel, longest, badWord, answerOf, accep
 use Rattle.intake.specs.Inference.{sampleOf, noWord, badParent, chainIn, modelIn, modelAnswer, inferred}
 use Rattle.intake.specs.Writing.{sampleText}
 use Rattle.intake.proofs.Theorem.{good-word, word-good}
-use Rattle.intake.proofs.Writing.{has-word}
-use Rattle.demands.proofs.Checks.{outcome-refused, late, fails, first-stops, second-stops, third-stops}
+use Rattle.intake.proofs.Samples.{no-word, some-word}
+use Rattle.demands.proofs.Checks.{outcome-refused, late, early, fails, first-stops, second-stops, third-stops, above-first}
 
 -- ---- what the tests mean
 
@@ -46,11 +47,6 @@ above-law p n = (λ e. ltb-false p n (not-true (ltb p n) e), λ h. rw (le-ltb p 
 
 not-above : (p n : ℕ) → (not (ltb p n) ≡ false) ↔ (p < n)
 not-above p n = (λ e. ltb-true p n (not-false (ltb p n) e), λ h. rw (lt-ltb p n h))
-
-no-word-law : (ws : List (List ℕ)) → (noWord ws ≡ true) ↔ (ws ≡ [])
-unfolding noWord
-no-word-law [] = (λ e. refl, λ e. refl)
-no-word-law (w ∷ ws) = (λ e. absurd (let z : _≡_ {A = ℕ} 0 1 = cc in omega arith), λ e. absurd (has-word (w ∷ ws) refl e))
 
 not-chain : (n : ℕ) (m : Model) → (not (isChain places n m) ≡ true) ↔ (¬ IsChain places n m)
 not-chain n m = let h = fails (isChain places n m) (chain-law places n m) in (λ e. h .0 (not-true (isChain places n m) e), λ d. ap not (h .1 d))
@@ -71,6 +67,19 @@ module _ (bytes : List ℕ) (parent : ℕ) (r : Inferred) (call : r ≡ inferred
       let o : r .outcome ≡ outcomeOf (modelAnswer bytes parent) = ap (λ (x : Inferred). x .outcome) call in
       let h = outcome-refused (modelAnswer bytes parent) f in
       (λ e. h .0 (sym o ∙ e), λ e. o ∙ h .1 e)
+
+  -- 1 to 7: the bytes are no book, for this reason.
+  pub model-1-7 : (f : Refusal) → numberOf f ≤ 7 → (r .outcome ≡ Refused f) ↔ (bookOf bytes ≡ refused f)
+  unfolding modelAnswer modelIn
+  model-1-7 f l = (λ e. h .0 (stops f .0 e), λ q. stops f .1 (h .1 q))
+    where
+      above : (b : Book) → modelIn b parent ≡ refused f → 7 < numberOf f
+      above b e =
+          let k = above-first BadParent NoBlock NotAChain (omega arith) (omega arith) (chainIn b parent) (badParent b parent) (noWord (sampleOf b parent)) false f e in
+          omega arith
+
+      h : (modelAnswer bytes parent ≡ refused f) ↔ (bookOf bytes ≡ refused f)
+      h = early bytes (λ b. modelIn b parent) f l above
 
   -- 8: the bytes are a book, and the parent is not below N.
   pub model-8 : (r .outcome ≡ Refused BadParent) ↔ ((b : Book) × Read bytes b × (length (b .names) ≤ parent))
@@ -95,10 +104,10 @@ module _ (bytes : List ℕ) (parent : ℕ) (r : Inferred) (call : r ≡ inferred
       to e =
           let k = late bytes (λ b. modelIn b parent) NoBlock (omega arith) e in
           let h = second-stops BadParent NoBlock NotAChain (omega arith) (omega arith) (chainIn (k .0) parent) (not (ltb parent (length (k .0 .names)))) (noWord (sampleOf (k .0) parent)) false .0 (k .2) in
-          (k .0, k .1, not-above parent (length (k .0 .names)) .0 (h .0), no-word-law (sampleOf (k .0) parent) .0 (h .1))
+          (k .0, k .1, not-above parent (length (k .0 .names)) .0 (h .0), no-word (sampleOf (k .0) parent) .0 (h .1))
 
       from : (b : Book) × Read bytes b × (parent < length (b .names)) × (sampleOf b parent ≡ []) → modelAnswer bytes parent ≡ refused NoBlock
-      from (b, q, h, z) = rw (q, lt-ltb parent (length (b .names)) h, no-word-law (sampleOf b parent) .1 z)
+      from (b, q, h, z) = rw (q, lt-ltb parent (length (b .names)) h, no-word (sampleOf b parent) .1 z)
 
 -- ---- a declaration written
 
@@ -117,6 +126,19 @@ module _ (bytes : List ℕ) (parent : ℕ) (m : Model) (room : ℕ) (r : Written
   next : Book → Answer (List ℕ)
   unfolding fitted
   next b = refuseIf (not (ltb parent (length (b .names)))) BadParent (refuseIf (not (isChain places (length (b .names)) m)) NotAChain (fitted room (declaration (b .names) parent m)))
+
+  -- 1 to 7: the bytes are no book, for this reason.
+  pub write-1-7 : (f : Refusal) → numberOf f ≤ 7 → (r .outcome ≡ Refused f) ↔ (bookOf bytes ≡ refused f)
+  unfolding writeAnswer next fitted
+  write-1-7 f l = (λ e. h .0 (halts f .0 e), λ q. halts f .1 (h .1 q))
+    where
+      above : (b : Book) → next b ≡ refused f → 7 < numberOf f
+      above b e =
+          let k = above-first BadParent NotAChain BufferTooShort (omega arith) (omega arith) (due b) (not (ltb parent (length (b .names)))) (not (isChain places (length (b .names)) m)) (ltb room (length (due b))) f e in
+          omega arith
+
+      h : (writeAnswer bytes parent m room ≡ refused f) ↔ (bookOf bytes ≡ refused f)
+      h = early bytes next f l above
 
   -- 8: the bytes are a book, and the parent is not below N.
   pub write-8 : (r .outcome ≡ Refused BadParent) ↔ ((b : Book) × Read bytes b × (length (b .names) ≤ parent))
@@ -160,6 +182,95 @@ module _ (bytes : List ℕ) (parent : ℕ) (m : Model) (room : ℕ) (r : Written
 
       from : (b : Book) × Read bytes b × (parent < length (b .names)) × IsChain places (length (b .names)) m × (room < length (due b)) → writeAnswer bytes parent m room ≡ refused BufferTooShort
       from (b, q, h, c, l) = rw (q, lt-ltb parent (length (b .names)) h, is-chain (length (b .names)) m .1 c, lt-ltb room (length (due b)) l)
+
+-- ---- a declaration written from the sample
+
+-- the model's two checks and the buffer's, in one row
+in-row : {A B : Type 0} (r₁ r₂ : Refusal) (a : A) (f : A → Answer B) (t₁ t₂ : Bool) → onward (refuseIf t₁ r₁ (refuseIf t₂ r₂ (given a))) f ≡ refuseIf t₁ r₁ (refuseIf t₂ r₂ (f a))
+in-row r₁ r₂ a f true t₂ = refl
+in-row r₁ r₂ a f false true = refl
+in-row r₁ r₂ a f false false = refl
+
+module _ (bytes : List ℕ) (parent room : ℕ) (r : Written) (call : r ≡ written (sampleText bytes parent room)) where
+  ends : (f : Refusal) → (r .outcome ≡ Refused f) ↔ (sampleText bytes parent room ≡ refused f)
+  unfolding written
+  ends f =
+      let o : r .outcome ≡ outcomeOf (sampleText bytes parent room) = ap (λ (x : Written). x .outcome) call in
+      let h = outcome-refused (sampleText bytes parent room) f in
+      (λ e. h .0 (sym o ∙ e), λ e. o ∙ h .1 e)
+
+  -- the text that is due of this book
+  abbrev sampled : Book → List ℕ
+  sampled b = declaration (b .names) parent (chainIn b parent)
+
+  row : Book → Answer (List ℕ)
+  row b = onward (modelIn b parent) (λ m. fitted room (declaration (b .names) parent m))
+
+  row-is : (b : Book) → row b ≡ refuseIf (not (ltb parent (length (b .names)))) BadParent (refuseIf (noWord (sampleOf b parent)) NoBlock (refuseIf (ltb room (length (sampled b))) BufferTooShort (given (sampled b))))
+  unfolding row modelIn badParent fitted
+  row-is b = in-row BadParent NoBlock (chainIn b parent) (λ m. fitted room (declaration (b .names) parent m)) (not (ltb parent (length (b .names)))) (noWord (sampleOf b parent))
+
+  -- 1 to 7: the bytes are no book, for this reason.
+  pub sample-1-7 : (f : Refusal) → numberOf f ≤ 7 → (r .outcome ≡ Refused f) ↔ (bookOf bytes ≡ refused f)
+  unfolding sampleText row
+  sample-1-7 f l = (λ e. h .0 (ends f .0 e), λ q. ends f .1 (h .1 q))
+    where
+      above : (b : Book) → row b ≡ refused f → 7 < numberOf f
+      above b e =
+          let k = above-first BadParent NoBlock BufferTooShort (omega arith) (omega arith) (sampled b) (not (ltb parent (length (b .names)))) (noWord (sampleOf b parent)) (ltb room (length (sampled b))) f (sym (row-is b) ∙ e) in
+          omega arith
+
+      h : (sampleText bytes parent room ≡ refused f) ↔ (bookOf bytes ≡ refused f)
+      h = early bytes row f l above
+
+  -- 8: the bytes are a book, and the parent is not below N.
+  pub sample-8 : (r .outcome ≡ Refused BadParent) ↔ ((b : Book) × Read bytes b × (length (b .names) ≤ parent))
+  unfolding sampleText row
+  sample-8 = (λ e. to (ends BadParent .0 e), λ h. ends BadParent .1 (from h))
+    where
+      stop : (b : Book) → (row b ≡ refused BadParent) ↔ (not (ltb parent (length (b .names))) ≡ true)
+      stop b = let h = first-stops BadParent NoBlock BufferTooShort (omega arith) (omega arith) (sampled b) (not (ltb parent (length (b .names)))) (noWord (sampleOf b parent)) (ltb room (length (sampled b))) in (λ e. h .0 (sym (row-is b) ∙ e), λ e. row-is b ∙ h .1 e)
+
+      to : sampleText bytes parent room ≡ refused BadParent → (b : Book) × Read bytes b × (length (b .names) ≤ parent)
+      to e = let k = late bytes row BadParent (omega arith) e in (k .0, k .1, above-law parent (length (k .0 .names)) .0 (stop (k .0) .0 (k .2)))
+
+      from : (b : Book) × Read bytes b × (length (b .names) ≤ parent) → sampleText bytes parent room ≡ refused BadParent
+      from (b, q, h) = rw q (stop b .1 (above-law parent (length (b .names)) .1 h))
+
+  -- 9: the parent is below N, and no block has it.
+  pub sample-9 : (r .outcome ≡ Refused NoBlock) ↔ ((b : Book) × Read bytes b × (parent < length (b .names)) × (sampleOf b parent ≡ []))
+  unfolding sampleText row
+  sample-9 = (λ e. to (ends NoBlock .0 e), λ h. ends NoBlock .1 (from h))
+    where
+      stop : (b : Book) → (row b ≡ refused NoBlock) ↔ ((not (ltb parent (length (b .names))) ≡ false) × (noWord (sampleOf b parent) ≡ true))
+      stop b = let h = second-stops BadParent NoBlock BufferTooShort (omega arith) (omega arith) (sampled b) (not (ltb parent (length (b .names)))) (noWord (sampleOf b parent)) (ltb room (length (sampled b))) in (λ e. h .0 (sym (row-is b) ∙ e), λ e. row-is b ∙ h .1 e)
+
+      to : sampleText bytes parent room ≡ refused NoBlock → (b : Book) × Read bytes b × (parent < length (b .names)) × (sampleOf b parent ≡ [])
+      to e =
+          let k = late bytes row NoBlock (omega arith) e in
+          let h = stop (k .0) .0 (k .2) in
+          (k .0, k .1, not-above parent (length (k .0 .names)) .0 (h .0), no-word (sampleOf (k .0) parent) .0 (h .1))
+
+      from : (b : Book) × Read bytes b × (parent < length (b .names)) × (sampleOf b parent ≡ []) → sampleText bytes parent room ≡ refused NoBlock
+      from (b, q, h, z) = rw q (stop b .1 (not-above parent (length (b .names)) .1 h, no-word (sampleOf b parent) .1 z))
+
+  -- 12: a block has the parent, and the buffer is shorter than the declaration.
+  pub sample-12 : (r .outcome ≡ Refused BufferTooShort) ↔
+      ((b : Book) × Read bytes b × (parent < length (b .names)) × (¬ (sampleOf b parent ≡ [])) × (room < length (sampled b)))
+  unfolding sampleText row
+  sample-12 = (λ e. to (ends BufferTooShort .0 e), λ h. ends BufferTooShort .1 (from h))
+    where
+      stop : (b : Book) → (row b ≡ refused BufferTooShort) ↔ ((not (ltb parent (length (b .names))) ≡ false) × (noWord (sampleOf b parent) ≡ false) × (ltb room (length (sampled b)) ≡ true))
+      stop b = let h = third-stops BadParent NoBlock BufferTooShort (omega arith) (omega arith) (sampled b) (not (ltb parent (length (b .names)))) (noWord (sampleOf b parent)) (ltb room (length (sampled b))) in (λ e. h .0 (sym (row-is b) ∙ e), λ e. row-is b ∙ h .1 e)
+
+      to : sampleText bytes parent room ≡ refused BufferTooShort → (b : Book) × Read bytes b × (parent < length (b .names)) × (¬ (sampleOf b parent ≡ [])) × (room < length (sampled b))
+      to e =
+          let k = late bytes row BufferTooShort (omega arith) e in
+          let h = stop (k .0) .0 (k .2) in
+          (k .0, k .1, not-above parent (length (k .0 .names)) .0 (h .0), some-word (sampleOf (k .0) parent) .0 (h .1), below-law room (length (sampled (k .0))) .0 (h .2))
+
+      from : (b : Book) × Read bytes b × (parent < length (b .names)) × (¬ (sampleOf b parent ≡ [])) × (room < length (sampled b)) → sampleText bytes parent room ≡ refused BufferTooShort
+      from (b, q, h, d, l) = rw q (stop b .1 (not-above parent (length (b .names)) .1 h, some-word (sampleOf b parent) .1 d, below-law room (length (sampled b)) .1 l))
 
 -- ---- acceptance of a word
 

@@ -30,7 +30,7 @@ use Rattle.spelling.proofs.Theorem.{form-sound}
 use Rattle.walk.specs.Walk.{isWord}
 use Rattle.walk.proofs.Runs.{found}
 use Rattle.walk.proofs.Formed.{form-found}
-use Rattle.gather.specs.Gather.{Rows, startRows, andThen, modelOf, factorsAnswer, beginsWithWord, modelAnswer, tokensAnswer, textAnswer}
+use Rattle.gather.specs.Gather.{Rows, startRows, andThen, modelOf, factorsAnswer, beginsWithWord, contentAnswer, tokensAnswer, textAnswer}
 use Rattle.gather.proofs.Rows.{placeFactor, placeOthers, row}
 use Rattle.gather.proofs.Factors.{mark, Filled, all-filled, all-place}
 use Rattle.gather.proofs.Tokens.{byNumber, model-taken, model-known}
@@ -136,8 +136,8 @@ module _ (size : ℕ) (names : List (List ℕ)) (fits : size ≤ 255) (some-plac
   empty-answer p = rw (none-twice-nil (length names)) (ap (λ (m : Model). given (declared p m)) (sym (empty-record size)))
 
   model-answer : (p : ℕ) (fs : List (Factor (List ℕ))) → Full fs → Small fs →
-      modelAnswer size names p (bodyTokens fs) ≡ refuseIf (not (allFactors (known names) fs)) UnknownName (Single p fs)
-  unfolding modelAnswer bodyTokens beginsWithWord isWord
+      contentAnswer size names p (bodyTokens fs) ≡ refuseIf (not (allFactors (known names) fs)) UnknownName (Single p fs)
+  unfolding contentAnswer bodyTokens beginsWithWord isWord
   model-answer p [] full small = empty-answer p
   model-answer p (f ∷ fs) full small = factors-answer p f fs full small
 
@@ -150,7 +150,7 @@ module _ (size : ℕ) (names : List (List ℕ)) (fits : size ≤ 255) (some-plac
   unfolding tokensAnswer judged allForm
   tokens-answer d full small =
       first-unknown (known names (d .parent)) (allFactors (known names) (d .factors)) (Single (numberFor names (d .parent)) (d .factors))
-      (modelAnswer size names (numberFor names (d .parent)) (bodyTokens (d .factors))) (model-answer (numberFor names (d .parent)) (d .factors) full small)
+      (contentAnswer size names (numberFor names (d .parent)) (bodyTokens (d .factors))) (model-answer (numberFor names (d .parent)) (d .factors) full small)
 
   behind-opening : (s t : List ℕ) → s ≡ opening ++ t → drop 9 s ≡ t
   unfolding opening

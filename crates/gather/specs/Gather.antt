@@ -98,13 +98,13 @@ beginsWithWord [] = false
 beginsWithWord (t ∷ ts) = isWord t
 
 -- The model: a word is `EMPTY`, for the text has the form.
-unfoldable pub modelAnswer : ℕ → List (List ℕ) → ℕ → List Token → Answer Declared
-modelAnswer size names p ts = cond (beginsWithWord ts) (given (declared p (emptyModel size))) (factorsAnswer size names p ts)
+unfoldable pub contentAnswer : ℕ → List (List ℕ) → ℕ → List Token → Answer Declared
+contentAnswer size names p ts = cond (beginsWithWord ts) (given (declared p (emptyModel size))) (factorsAnswer size names p ts)
 
 -- The parent, which is a name of the book, and the model.
 unfoldable pub tokensAnswer : ℕ → List (List ℕ) → List Token → Answer Declared
 tokensAnswer size names [] = refused NotADeclaration
-tokensAnswer size names (word x ∷ ts) = refuseIf (not (known names x)) UnknownName (modelAnswer size names (numberFor names x) ts)
+tokensAnswer size names (word x ∷ ts) = refuseIf (not (known names x)) UnknownName (contentAnswer size names (numberFor names x) ts)
 tokensAnswer size names (lpar ∷ ts) = refused NotADeclaration
 tokensAnswer size names (rpar ∷ ts) = refused NotADeclaration
 tokensAnswer size names (comma ∷ ts) = refused NotADeclaration

@@ -1,8 +1,8 @@
 -- The answer of each way through the call for a model.
 -- Assumes nothing.
-use Prim.Native.Nat.{ℕ, zero, suc, _≤_, _<_}
+use Prim.Native.Nat.{ℕ, suc, _≤_, _<_}
 use mathlib.Core.Path.{_≡_, refl, sym, _∙_, ap}
-use mathlib.Core.Bool.{Bool, true, false}
+use mathlib.Core.Bool.{true, false}
 use mathlib.Core.List.{List, [], _∷_}
 use native.Mathlib.Omega.{arith}
 use lib.ListN.{length}
@@ -10,7 +10,7 @@ use borrow.Author.Tests.{lt-ltb, le-ltb}
 use Rattle.refusal.specs.declared.Refusal.{Refusal}
 use Rattle.refusal.specs.declared.Refusal.the-variants.{BadParent, NoBlock}
 use Rattle.refusal.specs.declared.Outcome.the-variants.{Done, Refused}
-use Rattle.refusal.specs.Answer.{Answer, given, refused}
+use Rattle.refusal.specs.Answer.{Answer}
 use Rattle.book.specs.declared.Layout.{Layout}
 use Rattle.book.specs.declared.Reading.{Reading}
 use Rattle.book.specs.Book.{bookOf, blocksIn}
@@ -21,18 +21,19 @@ use Rattle.model.specs.declared.Model.{Model}
 use Rattle.follow.specs.Sample.{wordsOf}
 use Rattle.sample.specs.Sample.{chainOfWords}
 use Rattle.intake.specs.declared.Found.{Found}
-use Rattle.intake.specs.declared.Inferred.{Inferred}
 use Rattle.intake.specs.Inference.{sampleOf, noWord, badParent, chainIn, modelIn, modelAnswer, noModel, inferred, found}
+use Rattle.intake.proofs.Samples.{no-word, some-word}
 
+-- the same by the number of words
 pub none-there : (ws : List (List ℕ)) → length ws ≡ 0 → noWord ws ≡ true
-unfolding noWord
-none-there [] e = refl
-none-there (w ∷ ws) e = absurd (let z : _≡_ {A = ℕ} (suc (length ws)) 0 = e in omega arith)
+none-there ws e = no-word ws .1 (nothing ws e)
+  where
+    nothing : (ws : List (List ℕ)) → length ws ≡ 0 → ws ≡ []
+    nothing [] e = refl
+    nothing (w ∷ ws) e = absurd (let z : _≡_ {A = ℕ} (suc (length ws)) 0 = e in omega arith)
 
 pub some-there : (ws : List (List ℕ)) → (length ws ≡ 0 → ⊥) → noWord ws ≡ false
-unfolding noWord
-some-there [] d = absurd (d refl)
-some-there (w ∷ ws) d = refl
+some-there ws d = some-word ws .1 (λ z. d (ap length z))
 
 module _ (s : List ℕ) (p : ℕ) (r : Reading) (read : r ≡ readingOf (bookOf s)) where
   pub stopped-book : (x : Found) (f : Refusal) → r .outcome ≡ Refused f → x ≡ found r (noModel f) → x ≡ found (readingOf (bookOf s)) (modelAnswer s p)

@@ -2,8 +2,7 @@
 -- Assumes nothing.
 use Prim.Native.Nat.{ℕ, _≤_, _<_}
 use mathlib.Core.Path.{_≡_, refl, sym, _∙_, ap, subst}
-use mathlib.Core.Bool.{Bool, true, false, not}
-use mathlib.Core.List.{List, [], _∷_}
+use mathlib.Core.List.{List, []}
 use native.Mathlib.Omega.{arith}
 use lib.Dec.{ltb}
 use lib.ListN.{length}
@@ -11,10 +10,9 @@ use borrow.Author.Tests.{ltb-true, not-false}
 use Rattle.refusal.specs.declared.Refusal.{Refusal}
 use Rattle.refusal.specs.declared.Refusal.the-variants.{BadParent, NoBlock}
 use Rattle.refusal.specs.declared.Outcome.the-variants.{Done, Refused}
-use Rattle.refusal.specs.Answer.{Answer, given, refused, onward, refuseIf, valueOr, outcomeOf}
+use Rattle.refusal.specs.Answer.{Answer, given, refused, onward, valueOr, outcomeOf}
 use Rattle.refusal.proofs.Answers.{onward-given, check-given, given-same}
 use Rattle.nameset.specs.Places.{places}
-use Rattle.book.specs.declared.Reading.{Reading}
 use Rattle.book.specs.declared.Layout.{Layout}
 use Rattle.book.specs.Book.{Book, bookOf, namesIn}
 use Rattle.book.specs.Layout.{readingOf, layoutOf}
@@ -31,7 +29,7 @@ use Rattle.sample.specs.Sample.{chainOfWords}
 use Rattle.intake.specs.declared.Found.{Found}
 use Rattle.intake.specs.Inference.{sampleOf, noWord, badParent, chainIn, modelIn, modelAnswer, found}
 use Rattle.intake.specs.Writing.{sampleText}
-use Rattle.intake.proofs.Samples.{few, sample-names}
+use Rattle.intake.proofs.Samples.{some-word, few, sample-names}
 
 -- what a model that is given tells of the book and the parent
 pub record Given (s : List ℕ) (p : ℕ) (m : Model) : Type 0 where
@@ -41,11 +39,6 @@ pub record Given (s : List ℕ) (p : ℕ) (m : Model) : Type 0 where
   pub some : ¬ (sampleOf book p ≡ [])
   pub due : modelIn book p ≡ given m
   pub is : chainIn book p ≡ m
-
-pub has-word : (ws : List (List ℕ)) → noWord ws ≡ false → ¬ (ws ≡ [])
-unfolding noWord
-has-word [] e z = absurd (let z : _≡_ {A = ℕ} 0 1 = cc in omega arith)
-has-word (w ∷ ws) e z = absurd (let q : _≡_ {A = ℕ} (length (w ∷ ws)) 0 = ap length z in omega arith)
 
 pub model-given : (s : List ℕ) (p : ℕ) (m : Model) → modelAnswer s p ≡ given m → Given s p m
 unfolding modelAnswer modelIn badParent
@@ -57,7 +50,7 @@ model-given s p m e =
       book = b .0;
       read = b .1;
       below = ltb-true p (length (b .0 .names)) (not-false (ltb p (length (b .0 .names))) (x .0));
-      some = has-word (sampleOf (b .0) p) (y .0);
+      some = some-word (sampleOf (b .0) p) .0 (y .0);
       due = b .2;
       is = given-same (chainIn (b .0) p) m (y .1);
     }

@@ -1,17 +1,15 @@
 -- The lines of a book: put one after the other, and how long they can be.
 -- Assumes nothing.
-use Prim.Native.Nat.{ℕ, zero, suc, _+_, _-_, _*_, _/_, _%_, _≤_, _<_}
-use mathlib.Core.Path.{_≡_, refl, sym, _∙_, ap, subst}
+use Prim.Native.Nat.{ℕ, zero, suc, _+_, _-_, _*_, _≤_, _<_}
+use mathlib.Core.Path.{_≡_, refl, sym, _∙_, ap}
 use mathlib.Core.Bool.{Bool, true, false, cond}
 use mathlib.Core.List.{List, [], _∷_, _++_}
 use native.Mathlib.Omega.{arith}
-use lib.Dec.{ltb}
 use lib.ListN.{length, length-append}
-use borrow.Author.Tests.{lt-ltb, le-ltb}
 use Rattle.refusal.specs.Answer.{given}
 use Rattle.nameset.specs.Places.{places}
 use Rattle.book.specs.declared.Layout.{Layout}
-use Rattle.book.specs.Book.{Block, Book, bookOf, namesIn, blocksIn}
+use Rattle.book.specs.Book.{bookOf, namesIn, blocksIn}
 use Rattle.book.specs.Access.{LaidOut}
 use Rattle.book.proofs.Laws.{names-in, blocks-in, name-count, few-names}
 use Rattle.model.specs.declared.Model.{Model}
@@ -25,10 +23,9 @@ use Rattle.declaration.specs.Put.{Put, shown}
 use Rattle.declaration.proofs.Puts.{Left, left-start, left-is, left-put, left-room, left-fits, left-last, left-done, put-nothing, put-is}
 use Rattle.declaration.proofs.Calls.{declaration-short}
 use Rattle.intake.specs.Inference.{sampleOf, noWord, chainIn}
-use Rattle.intake.proofs.Samples.{few, sample-names}
+use Rattle.intake.proofs.Samples.{some-word, few, sample-names}
 use Rattle.intake.proofs.Inferring.{none-there, some-there}
-use Rattle.intake.proofs.Writing.{has-word}
-use Rattle.output.specs.Output.{lineOf, linesFrom, decimal, refusedWord, refusedText, longestOutput, bookIn}
+use Rattle.output.specs.Output.{lineOf, linesFrom, longestOutput, bookIn}
 
 -- ---- one parent
 
@@ -91,7 +88,7 @@ module _ (s : List ℕ) (l : Layout) (laid : LaidOut s l) where
       go : (b : Bool) → noWord (sampleOf (bookIn s) p) ≡ b → length (cond b [] (declaration (namesIn s) p (chainIn (bookIn s) p) ++ (10 ∷ []))) ≤ 2254
       go true e = omega arith
       go false e =
-          let good : IsChain places (l .names) (chainIn (bookIn s) p) = rw (name-count s l laid) (sample-good s l laid p (has-word (sampleOf (bookIn s) p) e)) in
+          let good : IsChain places (l .names) (chainIn (bookIn s) p) = rw (name-count s l laid) (sample-good s l laid p (some-word (sampleOf (bookIn s) p) .0 e)) in
           let h : length (declaration (namesIn s) p (chainIn (bookIn s) p)) ≤ longestDeclaration = declaration-short s l laid p below (chainIn (bookIn s) p) good in
           let k : length (declaration (namesIn s) p (chainIn (bookIn s) p) ++ (10 ∷ [])) ≡ length (declaration (namesIn s) p (chainIn (bookIn s) p)) + 1 =
           length-append (declaration (namesIn s) p (chainIn (bookIn s) p)) (10 ∷ []) in

@@ -1,7 +1,7 @@
 -- All output: the lines, or the text for a refused book.
 -- Assumes nothing.
 use Prim.Native.Nat.{ℕ, _+_, _/_, _≤_}
-use mathlib.Core.Path.{_≡_, refl, sym, _∙_, ap}
+use mathlib.Core.Path.{_≡_, refl, ap}
 use mathlib.Core.Bool.{cond}
 use mathlib.Core.List.{List}
 use native.Mathlib.Omega.{arith}
@@ -10,9 +10,8 @@ use lib.ListN.{length}
 use Rattle.refusal.specs.declared.Refusal.{Refusal}
 use Rattle.refusal.specs.declared.Outcome.the-variants.{Done, Refused}
 use Rattle.refusal.specs.Table.{numberOf}
-use Rattle.refusal.specs.Answer.{Answer, given, refused}
 use Rattle.book.specs.declared.Reading.{Reading}
-use Rattle.book.specs.Book.{Book, bookOf}
+use Rattle.book.specs.Book.{bookOf}
 use Rattle.book.specs.Layout.{readingOf}
 use Rattle.book.specs.Access.{LaidOut}
 use Rattle.book.proofs.Laws.{laid-out, book-refused, name-count}

@@ -24,7 +24,7 @@ use Rattle.scan.specs.Unread.{nextOf, runOf, kindOf}
 use Rattle.scan.specs.Piece.{tokenLength, wordEnd, spaceEnd, pieceAt, tokenOf}
 use Rattle.scan.proofs.Runs.{end-kind}
 use Rattle.scan.proofs.Pieces.{piece-over, piece-first}
-use Rattle.gather.specs.Gather.{knownToken, knownTokens, Rows, isFree, withName, nextFactor, withMode, takeToken, andThen, gatherFrom, beginsWithWord, modelAnswer, tokensAnswer}
+use Rattle.gather.specs.Gather.{knownToken, knownTokens, Rows, isFree, withName, nextFactor, withMode, takeToken, andThen, gatherFrom, beginsWithWord, contentAnswer, tokensAnswer}
 use Rattle.reading.specs.Place.{tokensAt, partOf, knownKind, kindMode, takeKind, freeAt, freeKind, factorAfter, modeAfter, indexAfter}
 use Rattle.reading.proofs.ByKind.{Agree, token-kind}
 
@@ -151,7 +151,7 @@ word-next s at = go (next-is s at)
 
 -- the first token of a declaration: its parent
 answer-agrees : (size : ℕ) (names : List (List ℕ)) (ts : List Token) →
-    Agree (λ t. tokensAnswer size names (t ∷ ts)) (λ kind w. cond (eqb kind 1) (refuseIf (not (known names w)) UnknownName (modelAnswer size names (numberFor names w) ts)) (refused NotADeclaration))
+    Agree (λ t. tokensAnswer size names (t ∷ ts)) (λ kind w. cond (eqb kind 1) (refuseIf (not (known names w)) UnknownName (contentAnswer size names (numberFor names w) ts)) (refused NotADeclaration))
 unfolding tokensAnswer
 answer-agrees size names ts = record {
   words = λ w. refl; lpars = λ w. refl; rpars = λ w. refl; commas = λ w. refl; bars = λ w. refl; ends = λ w. refl;
@@ -166,14 +166,14 @@ pub answer-next : (size : ℕ) (names : List (List ℕ)) (s : List ℕ) (at : �
     tokensAnswer size names (tokensAt s at)
     ≡ cond (eqb (pieceAt s at .kind) 1)
         (refuseIf (not (known names (partOf s (pieceAt s at .from) (pieceAt s at .to)))) UnknownName
-          (modelAnswer size names (numberFor names (partOf s (pieceAt s at .from) (pieceAt s at .to))) (tokensAt s (pieceAt s at .to))))
+          (contentAnswer size names (numberFor names (partOf s (pieceAt s at .from) (pieceAt s at .to))) (tokensAt s (pieceAt s at .to))))
         (refused NotADeclaration)
 answer-next size names s at = go (next-is s at)
   where
     go : Next s at → tokensAnswer size names (tokensAt s at)
         ≡ cond (eqb (pieceAt s at .kind) 1)
             (refuseIf (not (known names (partOf s (pieceAt s at .from) (pieceAt s at .to)))) UnknownName
-              (modelAnswer size names (numberFor names (partOf s (pieceAt s at .from) (pieceAt s at .to))) (tokensAt s (pieceAt s at .to))))
+              (contentAnswer size names (numberFor names (partOf s (pieceAt s at .from) (pieceAt s at .to))) (tokensAt s (pieceAt s at .to))))
             (refused NotADeclaration)
     go (inl (k, e, f)) = rw (k, e) (answer-end size names)
     go (inr (b, bs, k, e, f)) = rw (k, e, f) (token-kind (λ t. tokensAnswer size names (t ∷ tokensAt s (pieceAt s at .to))) _ (answer-agrees size names (tokensAt s (pieceAt s at .to))) b bs)

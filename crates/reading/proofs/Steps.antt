@@ -28,7 +28,7 @@ use Rattle.scan.specs.Piece.{pieceAt}
 use Rattle.spelling.specs.Read.{known, numberFor}
 use Rattle.spelling.proofs.Names.{number-is}
 use Rattle.spelling.proofs.Books.{few}
-use Rattle.gather.specs.Gather.{knownTokens, Rows, startRows, andThen, gatherFrom, modelOf, factorsAnswer, beginsWithWord, modelAnswer, tokensAnswer}
+use Rattle.gather.specs.Gather.{knownTokens, Rows, startRows, andThen, gatherFrom, modelOf, factorsAnswer, beginsWithWord, contentAnswer, tokensAnswer}
 use Rattle.reading.specs.declared.Declaration.{Declaration}
 use Rattle.reading.specs.Place.{tokensAt, partOf, knownKind, kindMode, takeKind, freeAt, freeKind, factorAfter, modeAfter, indexAfter}
 use Rattle.reading.specs.Read.{parentDue, modelDue, declarationOf, noDeclaration, gathered}
@@ -194,17 +194,17 @@ module _ (names : List (List ℕ)) (s : List ℕ) (at parent : ℕ) (p : Piece) 
   word-at : beginsWithWord (tokensAt s at) ≡ eqb (p .kind) 1
   word-at = rw is (word-next s at)
 
-  pub model-empty : (m : Model) → p .kind ≡ 1 → m ≡ emptyModel places → record { outcome = Done; parent = parent; model = m } ≡ declarationOf (modelAnswer places names parent (tokensAt s at))
-  unfolding modelAnswer declarationOf parentDue modelDue
+  pub model-empty : (m : Model) → p .kind ≡ 1 → m ≡ emptyModel places → record { outcome = Done; parent = parent; model = m } ≡ declarationOf (contentAnswer places names parent (tokensAt s at))
+  unfolding contentAnswer declarationOf parentDue modelDue
   model-empty m e q = rw (word-at, e, q) refl
 
   module _ (d : p .kind ≡ 1 → ⊥) where
-    pub model-unknown : (b : Bool) (r : Declaration) → b ≡ knownTokens names (tokensAt s at) → b ≡ false → r ≡ declarationOf (noDeclaration UnknownName) → r ≡ declarationOf (modelAnswer places names parent (tokensAt s at))
-    unfolding modelAnswer factorsAnswer noDeclaration
+    pub model-unknown : (b : Bool) (r : Declaration) → b ≡ knownTokens names (tokensAt s at) → b ≡ false → r ≡ declarationOf (noDeclaration UnknownName) → r ≡ declarationOf (contentAnswer places names parent (tokensAt s at))
+    unfolding contentAnswer factorsAnswer noDeclaration
     model-unknown b r k e q = rw (word-at, ne-eqb (p .kind) 1 d, ← k, e) q
 
-    pub model-factors : (b : Bool) (r : Declaration) → b ≡ knownTokens names (tokensAt s at) → b ≡ true → r ≡ declarationOf (gathered places names parent (tokensAt s at)) → r ≡ declarationOf (modelAnswer places names parent (tokensAt s at))
-    unfolding modelAnswer factorsAnswer gathered
+    pub model-factors : (b : Bool) (r : Declaration) → b ≡ knownTokens names (tokensAt s at) → b ≡ true → r ≡ declarationOf (gathered places names parent (tokensAt s at)) → r ≡ declarationOf (contentAnswer places names parent (tokensAt s at))
+    unfolding contentAnswer factorsAnswer gathered
     model-factors b r k e q = rw (word-at, ne-eqb (p .kind) 1 d, ← k, e) q
 
 -- ---- the parent
@@ -212,7 +212,7 @@ module _ (names : List (List ℕ)) (s : List ℕ) (at parent : ℕ) (p : Piece) 
 module _ (names : List (List ℕ)) (s : List ℕ) (at : ℕ) (p : Piece) (is : p ≡ pieceAt s at) where
   answer-at : tokensAnswer places names (tokensAt s at)
       ≡ cond (eqb (p .kind) 1)
-          (refuseIf (not (known names (partOf s (p .from) (p .to)))) UnknownName (modelAnswer places names (numberFor names (partOf s (p .from) (p .to))) (tokensAt s (p .to))))
+          (refuseIf (not (known names (partOf s (p .from) (p .to)))) UnknownName (contentAnswer places names (numberFor names (partOf s (p .from) (p .to))) (tokensAt s (p .to))))
           (refused NotADeclaration)
   answer-at = rw is (answer-next places names s at)
 
@@ -229,5 +229,5 @@ module _ (names : List (List ℕ)) (s : List ℕ) (at : ℕ) (p : Piece) (is : p
     unfolding noDeclaration
     tokens-unknown r n q = rw (answer-at, e, ← part-is, ← known-missing names part o found n) q
 
-    pub tokens-model : (x : ℕ) (r : Declaration) → o ≡ At x → r ≡ declarationOf (modelAnswer places names x (tokensAt s (p .to))) → r ≡ declarationOf (tokensAnswer places names (tokensAt s at))
+    pub tokens-model : (x : ℕ) (r : Declaration) → o ≡ At x → r ≡ declarationOf (contentAnswer places names x (tokensAt s (p .to))) → r ≡ declarationOf (tokensAnswer places names (tokensAt s at))
     tokens-model x r n q = rw (answer-at, e, ← part-is, ← known-found names part o found x n, ← number-found names part o found x n) q

@@ -12,7 +12,7 @@ ghost use lib.ListN.{length};
 ghost use Rattle.nameset.specs.Places.{places};
 ghost use Rattle.book.specs.Book.{namesIn};
 ghost use Rattle.book.specs.Access.{LaidOut};
-ghost use Rattle.gather.specs.Gather.{modelAnswer, tokensAnswer};
+ghost use Rattle.gather.specs.Gather.{contentAnswer, tokensAnswer};
 ghost use Rattle.reading.specs.Place.{tokensAt};
 ghost use Rattle.reading.specs.Read.{gathered, declarationOf, noDeclaration, ReadsDeclaration};
 
@@ -76,7 +76,7 @@ fn read_factors(bytes: &[u8], layout: Layout, text: &[u8], at: usize, parent: us
 // The model from a place on: `EMPTY`, or factors.
 fn read_model(bytes: &[u8], layout: Layout, text: &[u8], at: usize, parent: usize) -> Declaration
     requires { ⌜ LaidOut (now bytes) layout × (at ≤ length (now text)) ⌝ }
-    ensures { λ r. ⌜ r ≡ declarationOf (modelAnswer places (namesIn (now (bytes .entry))) parent (tokensAt (now (text .entry)) at)) ⌝ }
+    ensures { λ r. ⌜ r ≡ declarationOf (contentAnswer places (namesIn (now (bytes .entry))) parent (tokensAt (now (text .entry)) at)) ⌝ }
 {
     let piece = scan::piece_at(text, at);
     if piece.kind == WORD {

@@ -10,9 +10,20 @@ use second::declaration::written;
 use second::facts::{Facts, Point};
 use second::record::{Record, EMPTY, NONE};
 
-#[derive(Clone, Copy, PartialEq, Debug)]
-enum Fault {
-    None,
+/// The faults, each named once: `Fault`, with `None` for the right program, and `FAULTS`.
+macro_rules! faults {
+    ($($fault:ident,)*) => {
+        #[derive(Clone, Copy, PartialEq, Debug)]
+        enum Fault {
+            None,
+            $($fault,)*
+        }
+
+        const FAULTS: &[Fault] = &[$(Fault::$fault,)*];
+    };
+}
+
+faults! {
     // Of the chain.
     SinglesAfterGroups,
     ShortestLevels,
@@ -291,48 +302,7 @@ fn no_fault_is_found_in_the_second_implementation() {
 
 #[test]
 fn every_fault_is_found() {
-    for fault in [
-        SinglesAfterGroups,
-        ShortestLevels,
-        SkipsFromStartOnly,
-        LoneLoopIsSingle,
-        FactorForEachSingle,
-        GroupsByLargest,
-        GroupsInOneFactor,
-        OneStarredGroup,
-        AlwaysEmpty,
-        ModelOfAllParents,
-        RefusedModelNotEmpty,
-        ParentCut,
-        NamesCut,
-        CountCut,
-        ParentEqualToN,
-        NoBlockIsEmpty,
-        LengthBeforeMissing,
-        OrderOfNamesUnchecked,
-        LeftOverTaken,
-        SixtyThousandRefused,
-        AlwaysYes,
-        LongWordTaken,
-        LongestWordRefused,
-        PlusIsStar,
-        QuestionIsStar,
-        YesWhereRefused,
-        OneByteShortTaken,
-        ExactRefused,
-        RestCleared,
-        RefusedWrites,
-        LengthOneMore,
-        NothingWritten,
-        LineFeedTaken,
-        TabTaken,
-        SpaceBeforeMark,
-        RepeatBeforeUnknown,
-        GroupsMustRise,
-        NoSpaceBeforeEnd,
-        RefusedParent,
-        SixtyFourFactors,
-    ] {
+    for &fault in FAULTS {
         // Without the first kind, which has the samples of paper 01 written out: chance has to find it too.
         let found = run_kinds(&KINDS[1..], SEED, 1, &mut Wrong(fault), &mut Reached::default());
         let said = found.expect_err(&format!("{fault:?} is not found"));

@@ -4,7 +4,6 @@ use mathlib.Core.Path.{ap}
 use borrow.Author.Needs.{needs}
 use Rattle.refusal.specs.declared.Outcome.the-variants.{Refused}
 use Rattle.model.specs.declared.Model.{Model}
-use Rattle.intake.specs.declared.Found.{Found}
 use Rattle.intake.specs.Inference.{noModel, found}
 use Rattle.intake.proofs.infer.stopped.Statement.{statement}
 use Rattle.intake.proofs.infer.stopped.Tie as tie
