@@ -1,7 +1,8 @@
 -- Paper 01, "The book": "A name starts with A-Z, a-z or `_`; later bytes may also be 0-9, `-` or `.`."
 -- Assumes nothing.
-use Prim.Native.Nat.{ℕ}
+use Prim.Native.Nat.{ℕ, zero, suc}
 use mathlib.Core.Bool.{Bool, cond, _&&_, _||_}
+use mathlib.Core.List.{List, [], _∷_}
 use lib.Dec.{leb, eqb}
 
 -- low and high included
@@ -22,3 +23,14 @@ laterByte byte = startByte byte || (between 48 57 byte || (eqb byte 45 || eqb by
 unfoldable pub classOf : ℕ → ℕ
 unfolding laterByte
 classOf byte = cond (startByte byte) 2 (cond (laterByte byte) 1 0)
+
+-- the classes of n byte values from one on, by rising value
+unfoldable pub classesFrom : ℕ → ℕ → List ℕ
+unfolding classOf
+classesFrom byte zero = []
+classesFrom byte (suc n) = classOf byte ∷ classesFrom (suc byte) n
+
+-- "A table of 256 classes, one for each byte value".
+unfoldable pub classTable : List ℕ
+unfolding classesFrom
+classTable = classesFrom 0 256

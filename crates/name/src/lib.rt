@@ -1,6 +1,6 @@
 // The rule for a name's bytes, and the order of names.
 ghost use mathlib.Core.Path.{_≡_};
-ghost use Rattle.name.specs.Class.{classOf};
+ghost use Rattle.name.specs.Class.{classOf, classTable};
 ghost use Rattle.name.specs.Rule.{goodLength, goodBytes};
 ghost use Rattle.name.specs.Order.{orderOf, rises};
 
@@ -38,10 +38,26 @@ pub enum Order {
     Above,
 }
 
+// The whole table. It is made anew wherever it is asked for, so a loop asks once and lends it.
+pub fn class_table() -> [u8; 256]
+    ensures { λ r. ⌜ r ≡ classTable ⌝ }
+{
+    CLASSES
+}
+
+// The class of a byte by the table.
+pub fn class_in(classes: &[u8], byte: u8) -> u8
+    requires { ⌜ now classes ≡ classTable ⌝ }
+    ensures { λ r. ⌜ r ≡ classOf byte ⌝ }
+{
+    classes[byte as usize]
+}
+
+// The class of one byte.
 pub fn class_of(byte: u8) -> u8
     ensures { λ r. ⌜ r ≡ classOf byte ⌝ }
 {
-    CLASSES[byte as usize]
+    class_in(&class_table(), byte)
 }
 
 // Whether a name may have this many bytes.
@@ -61,12 +77,13 @@ pub fn good_bytes(bytes: &[u8]) -> bool
     if bytes.len() == 0 {
         return false;
     }
-    if class_of(bytes[0]) != START {
+    let classes = class_table();
+    if class_in(&classes, bytes[0]) != START {
         return false;
     }
     let mut i = 1;
     while i < bytes.len() {
-        if class_of(bytes[i]) == NEITHER {
+        if class_in(&classes, bytes[i]) == NEITHER {
             return false;
         }
         i += 1;

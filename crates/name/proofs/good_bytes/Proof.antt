@@ -9,14 +9,16 @@ use native.Mathlib.Numerals.{add-one}
 use lib.ListN.{length, getD, drop, drop-of-length-le}
 use lib.Seq.{drop-cons}
 use borrow.Author.Needs.{needs}
-use Rattle.name.specs.Class.{classOf, startByte, laterByte}
+use Rattle.name.specs.Class.{classOf, classTable, startByte, laterByte}
 use Rattle.name.specs.Rule.{allLater, goodBytes}
+use Rattle.name.proofs.Table.{table-length}
 use Rattle.name.proofs.Classes.{class-start, class-not-start, class-neither, class-later}
 use Rattle.name.proofs.good_bytes.Statement.{statement}
 use Rattle.name.proofs.good_bytes.Tie as tie
 use Rattle.name.proofs.good_bytes.Reads as reads
 use Rattle.name.proofs.good_bytes.Lts as lts
-use Rattle.name.proofs.class_of.Reads as class-of-reads
+use Rattle.name.proofs.class_in.Reads as class-in-reads
+use Rattle.name.proofs.class_table.Reads as class-table-reads
 
 rest : List ℕ → ℕ → Bool
 rest s i = allLater (drop i s)
@@ -48,35 +50,47 @@ done : (s : List ℕ) (i : ℕ) → length s ≤ i → rest s i ≡ true
 unfolding rest allLater
 done s i h = rw (drop-of-length-le s h)
 
+whole : (table : List ℕ) → table ≡ classTable → 256 ≡ length table
+whole table e = sym (ap length e ∙ table-length)
+
 abbrev Inv-loop : tie.InvT-loop
-Inv-loop bytes i₀ i = (i ≤ length bytes) × (goodBytes bytes ≡ rest bytes i)
+Inv-loop bytes classes i₀ i = (classes ≡ classTable) × (i ≤ length bytes) × (goodBytes bytes ≡ rest bytes i)
 
 abbrev μ-loop : tie.MeasureT-loop
-μ-loop bytes i₀ i = length bytes - i
+μ-loop bytes classes i₀ i = length bytes - i
 
 returns : tie.Need-returns Inv-loop μ-loop
 returns c = sym (none _ (c .if1 .taken))
 
-shared-slice-read-class-of : tie.Need-shared-slice-read-class-of Inv-loop μ-loop
-shared-slice-read-class-of c = omega arith
+class-table-requires : tie.Need-class-table-requires Inv-loop μ-loop
+class-table-requires c κs = search needs
 
-class-of-requires : tie.Need-class-of-requires Inv-loop μ-loop
-class-of-requires c κs = search needs
+slice-aggregate-class-in : tie.Need-slice-aggregate-class-in Inv-loop μ-loop
+slice-aggregate-class-in c = whole _ (c .before .class-table .ensures)
+
+shared-slice-read-class-in : tie.Need-shared-slice-read-class-in Inv-loop μ-loop
+shared-slice-read-class-in c = omega arith
+
+class-in-requires : tie.Need-class-in-requires Inv-loop μ-loop
+class-in-requires c κs = c .before .before .class-table .ensures
 
 returns-2 : tie.Need-returns-2 Inv-loop μ-loop
-returns-2 c = sym (bad-first _ _ (c .before .class-of .ensures) (c .if2 .taken))
+returns-2 c = sym (bad-first _ _ (c .before .class-in .ensures) (c .if2 .taken))
 
 loop-holds : tie.Need-loop-holds Inv-loop μ-loop
-loop-holds c = (omega arith, first _ _ (omega arith) (c .before .class-of .ensures) (c .if2 .left))
+loop-holds c = (c .before .before .before .before .class-table .ensures, omega arith, first _ _ (omega arith) (c .before .class-in .ensures) (c .if2 .left))
 
-shared-slice-read-class-of-2 : tie.Need-shared-slice-read-class-of-2 Inv-loop μ-loop
-shared-slice-read-class-of-2 c = omega arith
+slice-aggregate-class-in-2 : tie.Need-slice-aggregate-class-in-2 Inv-loop μ-loop
+slice-aggregate-class-in-2 c = whole _ (c .before .before .loop .inv .0)
 
-class-of-requires-2 : tie.Need-class-of-requires-2 Inv-loop μ-loop
-class-of-requires-2 c κs = search needs
+shared-slice-read-class-in-2 : tie.Need-shared-slice-read-class-in-2 Inv-loop μ-loop
+shared-slice-read-class-in-2 c = omega arith
+
+class-in-requires-2 : tie.Need-class-in-requires-2 Inv-loop μ-loop
+class-in-requires-2 c κs = c .before .before .before .loop .inv .0
 
 returns-3 : tie.Need-returns-3 Inv-loop μ-loop
-returns-3 c = sym (c .before .before .before .before .loop .inv .1 ∙ stopped _ _ _ (omega arith) (c .before .class-of2 .ensures) (c .if3 .taken))
+returns-3 c = sym (c .before .before .before .before .before .loop .inv .2 ∙ stopped _ _ _ (omega arith) (c .before .class-in2 .ensures) (c .if3 .taken))
 
 add-i : tie.Need-add-i Inv-loop μ-loop
 add-i c = omega arith
@@ -85,10 +99,10 @@ loop-less : tie.Need-loop-less Inv-loop μ-loop
 loop-less c = omega arith
 
 loop-again : tie.Need-loop-again Inv-loop μ-loop
-loop-again c = (omega arith, c .before .before .before .before .loop .inv .1 ∙ passed _ _ _ (omega arith) (c .before .class-of2 .ensures) (c .if3 .left))
+loop-again c = (c .before .before .before .before .before .loop .inv .0, omega arith, c .before .before .before .before .before .loop .inv .2 ∙ passed _ _ _ (omega arith) (c .before .class-in2 .ensures) (c .if3 .left))
 
 returns-4 : tie.Need-returns-4 Inv-loop μ-loop
-returns-4 c = sym (c .before .loop .inv .1 ∙ done _ _ (c .loop-test .left))
+returns-4 c = sym (c .before .loop .inv .2 ∙ done _ _ (c .loop-test .left))
 
 pub good-bytes-spec : {M : Type 1} → statement M
 good-bytes-spec =
@@ -97,12 +111,15 @@ good-bytes-spec =
     Inv-loop
     μ-loop
     returns
-    shared-slice-read-class-of
-    class-of-requires
+    class-table-requires
+    slice-aggregate-class-in
+    shared-slice-read-class-in
+    class-in-requires
     returns-2
     loop-holds
-    shared-slice-read-class-of-2
-    class-of-requires-2
+    slice-aggregate-class-in-2
+    shared-slice-read-class-in-2
+    class-in-requires-2
     returns-3
     add-i
     loop-less
