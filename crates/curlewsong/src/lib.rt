@@ -97,7 +97,7 @@ pub extern "C" fn curlewsong_write_declaration(book: &[u8], parent: usize, model
     ensures { λ r. ⌜ (r ≡ lengthReply (writeAnswer (now (book .entry)) parent model (length (now (buffer .entry)))))
         × (now (buffer .exit) ≡ bufferAfter (now (buffer .entry)) (writeAnswer (now (book .entry)) parent model (length (now (buffer .entry))))) ⌝ }
 {
-    length_of(declaration::write_declaration(book, parent, model, buffer))
+    length_of(intake::write_declaration(book, parent, model, buffer))
 }
 
 // Writes the declaration of a parent with the model from its blocks: 1 to 7, 8, 9, 12.
@@ -114,7 +114,7 @@ pub extern "C" fn curlewsong_write_from_sample(book: &[u8], parent: usize, buffe
 pub extern "C" fn curlewsong_read_declaration(book: &[u8], text: &[u8]) -> TextReply
     ensures { λ r. ⌜ r ≡ textReply (readAnswer (now (book .entry)) (now (text .entry))) ⌝ }
 {
-    let answer = reading::read_declaration(book, text);
+    let answer = intake::read_declaration(book, text);
     let outcome = answer.outcome;
     let model = answer.model;
     TextReply {

@@ -10,7 +10,7 @@ use native.Mathlib.Numerals.{add-one}
 use native.Mathlib.Nat.{le-of-suc-le-suc}
 use lib.Dec.{eqb, ltb}
 use lib.ListN.{length, getD, set, take, drop, replicate, length-set}
-use borrow.Author.Tests.{ne-eqb, ltb-true}
+use borrow.Author.Tests.{ne-eqb, eqb-true, ltb-true}
 use Rattle.refusal.specs.declared.Refusal.{Refusal}
 use Rattle.refusal.specs.declared.Refusal.the-variants.{NotADeclaration, UnknownName, NameTwice}
 use Rattle.refusal.specs.declared.Outcome.the-variants.{Done, Refused}
@@ -30,8 +30,8 @@ use Rattle.spelling.proofs.Names.{number-is}
 use Rattle.spelling.proofs.Books.{few}
 use Rattle.gather.specs.Gather.{knownTokens, Rows, startRows, andThen, gatherFrom, modelOf, factorsAnswer, beginsWithWord, contentAnswer, tokensAnswer}
 use Rattle.reading.specs.declared.Declaration.{Declaration}
-use Rattle.reading.specs.Place.{tokensAt, partOf, knownKind, kindMode, takeKind, freeAt, freeKind, factorAfter, modeAfter, indexAfter}
-use Rattle.reading.specs.Read.{parentDue, modelDue, declarationOf, noDeclaration, gathered}
+use Rattle.reading.specs.Place.{tokensAt, partOf, knownKind, numberAt, kindMode, takeKind, freeAt, freeKind, factorAfter, modeAfter, indexAfter}
+use Rattle.reading.specs.Read.{parentDue, modelDue, declarationOf, noDeclaration, twiceOrUnknown}
 use Rattle.reading.proofs.Places.{tokens-over, piece-order, piece-onward, known-next, take-next, word-next, answer-next, take-rows}
 
 -- ---- names by the book
@@ -49,24 +49,54 @@ module _ (names : List (List ℕ)) (w : List ℕ) (o : Found) (is : o ≡ number
   unfolding numberFor
   number-found x e = rw (← is, e)
 
-  pub number-missing : o ≡ Nothing → 0 ≡ numberFor names w
-  unfolding numberFor
-  number-missing e = rw (← is, e)
-
-pub number-below : (s : List ℕ) (l : Layout) → LaidOut s l → (w : List ℕ) (o : Found) → o ≡ numberIn (namesIn s) w → (x : ℕ) → o ≡ At x → x < places
-number-below s l laid w o is x e =
-    omega (arith, number-is (namesIn s) w (sym (known-found (namesIn s) w o is x e)) .0, number-found (namesIn s) w o is x e, few s l laid)
-
 -- ---- a piece by its kind
 
-pub known-sign : (names : List (List ℕ)) (kind : ℕ) (w : List ℕ) → (kind ≡ 1 → ⊥) → true ≡ knownKind names kind w
-unfolding knownKind
-known-sign names kind w d = rw (ne-eqb kind 1 d)
+pub number-sign : (names : List (List ℕ)) (kind : ℕ) (w : List ℕ) → (kind ≡ 1 → ⊥) → 0 ≡ numberAt names kind w
+unfolding numberAt
+number-sign names kind w d = rw (ne-eqb kind 1 d)
 
-pub known-word : (names : List (List ℕ)) (kind : ℕ) (s : List ℕ) (from to : ℕ) (part : List ℕ) (r : Bool) → kind ≡ 1 → part ≡ take (to - from) (drop from s) → r ≡ known names part →
-    r ≡ knownKind names kind (partOf s from to)
-unfolding knownKind partOf
-known-word names kind s from to part r e p q = q ∙ ap (known names) p ∙ rw e refl
+-- a word, looked up in the book s
+module _ (s : List ℕ) (l : Layout) (laid : LaidOut s l) (kind : ℕ) (e : kind ≡ 1) (text : List ℕ) (from to : ℕ) (part : List ℕ) (p : part ≡ take (to - from) (drop from text))
+    (o : Found) (is : o ≡ numberIn (namesIn s) part) where
+  pub number-word : (x : ℕ) → o ≡ At x → (x ≡ numberAt (namesIn s) kind (partOf text from to)) × (x ≤ places)
+  unfolding numberAt partOf
+  number-word x q =
+      let k : true ≡ known (namesIn s) part = known-found (namesIn s) part o is x q in
+      let v : x ≡ numberFor (namesIn s) part = number-found (namesIn s) part o is x q in
+      (rw (e, ← p, ← k) v, omega (arith, number-is (namesIn s) part (sym k) .0, v, few s l laid))
+
+  pub number-none : o ≡ Nothing → (places ≡ numberAt (namesIn s) kind (partOf text from to)) × (places ≤ places)
+  unfolding numberAt partOf
+  number-none q = (rw (e, ← p, ← known-missing (namesIn s) part o is q) refl, omega arith)
+
+-- what the number tells of the piece
+module _ (s : List ℕ) (l : Layout) (laid : LaidOut s l) (kind : ℕ) (w : List ℕ) (r : ℕ) (is : r ≡ numberAt (namesIn s) kind w) where
+  pub unknown-kind : r ≡ places → false ≡ knownKind (namesIn s) kind w
+  unfolding numberAt knownKind
+  unknown-kind e = go (eqb kind 1) (known (namesIn s) w) refl (sym e ∙ is)
+    where
+      go : (k b : Bool) → known (namesIn s) w ≡ b → places ≡ cond k (cond b (numberFor (namesIn s) w) places) 0 → false ≡ cond k b true
+      go true true q v = absurd (omega (arith, number-is (namesIn s) w q .0, v, few s l laid))
+      go true false q v = refl
+      go false b q v = absurd (omega arith)
+
+  module _ (d : r ≡ places → ⊥) where
+    pub known-kind : true ≡ knownKind (namesIn s) kind w
+    unfolding numberAt knownKind
+    known-kind = go (eqb kind 1) (known (namesIn s) w) is
+      where
+        go : (k b : Bool) → r ≡ cond k (cond b (numberFor (namesIn s) w) places) 0 → true ≡ cond k b true
+        go true true v = refl
+        go true false v = absurd (d v)
+        go false b v = refl
+
+    pub number-same : kind ≡ 1 → r ≡ numberFor (namesIn s) w
+    unfolding numberAt
+    number-same e = go (known (namesIn s) w) (is ∙ rw e refl)
+      where
+        go : (b : Bool) → r ≡ cond b (numberFor (namesIn s) w) places → r ≡ numberFor (namesIn s) w
+        go true v = v
+        go false v = absurd (d v)
 
 -- a row's entry, whatever stands for an entry that is not there
 entry-any : (l : List ℕ) (i d e : ℕ) → i < length l → getD l i d ≡ getD l i e
@@ -83,13 +113,21 @@ pub free-sign : (kind : ℕ) (factor : List ℕ) (x index : ℕ) → (kind ≡ 1
 unfolding freeKind factorAfter
 free-sign kind factor x index d = (rw (ne-eqb kind 1 d), rw (ne-eqb kind 1 d), refl)
 
-pub free-word : (names : List (List ℕ)) (kind : ℕ) (factor : List ℕ) (s : List ℕ) (from to index : ℕ) (part : List ℕ) (x : ℕ) (r : Bool) (after : List ℕ) → kind ≡ 1 → part ≡ take (to - from) (drop from s) → x ≡ numberFor names part →
-    (r ≡ freeAt factor x) × (after ≡ set factor x index) × (length after ≡ length factor) →
-    (r ≡ freeKind kind factor (numberFor names (partOf s from to))) × (after ≡ factorAfter kind factor (numberFor names (partOf s from to)) index) × (length after ≡ length factor)
-unfolding freeKind factorAfter partOf
-free-word names kind factor s from to index part x r after e p q (a, b, c) =
-    let z : x ≡ numberFor names (take (to - from) (drop from s)) = q ∙ ap (numberFor names) p in
-    (a ∙ ap (freeAt factor) z ∙ rw e refl, b ∙ ap (λ (y : ℕ). set factor y index) z ∙ rw e refl, c)
+pub free-word : (kind : ℕ) (factor : List ℕ) (x index : ℕ) (r : Bool) (after : List ℕ) → kind ≡ 1 → (r ≡ freeAt factor x) × (after ≡ set factor x index) × (length after ≡ length factor) →
+    (r ≡ freeKind kind factor x) × (after ≡ factorAfter kind factor x index) × (length after ≡ length factor)
+unfolding freeKind factorAfter
+free-word kind factor x index r after e (a, b, c) = (a ∙ rw e refl, b ∙ rw e refl, c)
+
+-- the number matters for a word alone
+pub placed-same : (kind : ℕ) (factor : List ℕ) (x y index : ℕ) (r : Bool) (after : List ℕ) → (kind ≡ 1 → x ≡ y) →
+    (r ≡ freeKind kind factor x) × (after ≡ factorAfter kind factor x index) × (length after ≡ length factor) →
+    (r ≡ freeKind kind factor y) × (after ≡ factorAfter kind factor y index) × (length after ≡ length factor)
+unfolding freeKind factorAfter
+placed-same kind factor x y index r after same (a, b, c) = (a ∙ go (eqb kind 1) refl .0, b ∙ go (eqb kind 1) refl .1, c)
+  where
+    go : (k : Bool) → eqb kind 1 ≡ k → (cond k (freeAt factor x) true ≡ cond k (freeAt factor y) true) × (cond k (set factor x index) factor ≡ cond k (set factor y index) factor)
+    go true q = (ap (freeAt factor) (same (eqb-true kind 1 q)), ap (λ (z : ℕ). set factor z index) (same (eqb-true kind 1 q)))
+    go false q = (refl, refl)
 
 pub mode-put : (m : ℕ) (mode : List ℕ) (index : ℕ) → (m ≡ 0 → ⊥) → (set mode index m ≡ modeAfter m mode index) × (length (set mode index m) ≡ length mode)
 unfolding modeAfter
@@ -174,15 +212,21 @@ pub left-over : (names : List (List ℕ)) (s : List ℕ) (i index : ℕ) (factor
 unfolding left gatherFrom
 left-over names s i index factor mode h = rw (tokens-over s i h)
 
-module _ (names : List (List ℕ)) (s : List ℕ) (at parent i index : ℕ) (factor mode : List ℕ)
+-- what the walk has come to at i: the words passed are known, and the rows are filled
+module _ (names : List (List ℕ)) (s : List ℕ) (at parent i index : ℕ) (factor mode : List ℕ) (knowns : knownTokens names (tokensAt s at) ≡ knownTokens names (tokensAt s i))
     (inv : gatherFrom places names (tokensAt s at) (startRows places) ≡ left names s i index factor mode) where
-  pub factors-done : length s ≤ i → record { outcome = Done; parent = parent; model = record { count = index + 1; factor = factor; mode = mode } } ≡ declarationOf (gathered places names parent (tokensAt s at))
-  unfolding gathered declarationOf parentDue modelDue modelOf
-  factors-done h = rw (inv ∙ left-over names s i index factor mode h, add-one) refl
+  pub factors-done : length s ≤ i → record { outcome = Done; parent = parent; model = record { count = index + 1; factor = factor; mode = mode } } ≡ declarationOf (factorsAnswer places names parent (tokensAt s at))
+  unfolding factorsAnswer declarationOf parentDue modelDue modelOf
+  factors-done h = rw (knowns ∙ sym (known-over names s i h), inv ∙ left-over names s i index factor mode h, add-one) refl
 
-  pub factors-twice : (r : Declaration) → left names s i index factor mode ≡ none → r ≡ declarationOf (noDeclaration NameTwice) → r ≡ declarationOf (gathered places names parent (tokensAt s at))
-  unfolding gathered noDeclaration
-  factors-twice r e q = rw (inv ∙ e) q
+  pub factors-unknown : (r : Declaration) → false ≡ knownTokens names (tokensAt s i) → r ≡ declarationOf (noDeclaration UnknownName) → r ≡ declarationOf (factorsAnswer places names parent (tokensAt s at))
+  unfolding factorsAnswer noDeclaration
+  factors-unknown r e q = rw (knowns ∙ sym e) q
+
+  pub factors-twice : (r : Declaration) (b : Bool) → knownTokens names (tokensAt s i) ≡ b → left names s i index factor mode ≡ none → r ≡ declarationOf (noDeclaration (twiceOrUnknown b)) → r ≡ declarationOf (factorsAnswer places names parent (tokensAt s at))
+  unfolding factorsAnswer noDeclaration twiceOrUnknown
+  factors-twice r true e n q = rw (knowns ∙ e, inv ∙ n) q
+  factors-twice r false e n q = rw (knowns ∙ e) q
 
 -- ---- the model
 
@@ -198,14 +242,9 @@ module _ (names : List (List ℕ)) (s : List ℕ) (at parent : ℕ) (p : Piece) 
   unfolding contentAnswer declarationOf parentDue modelDue
   model-empty m e q = rw (word-at, e, q) refl
 
-  module _ (d : p .kind ≡ 1 → ⊥) where
-    pub model-unknown : (b : Bool) (r : Declaration) → b ≡ knownTokens names (tokensAt s at) → b ≡ false → r ≡ declarationOf (noDeclaration UnknownName) → r ≡ declarationOf (contentAnswer places names parent (tokensAt s at))
-    unfolding contentAnswer factorsAnswer noDeclaration
-    model-unknown b r k e q = rw (word-at, ne-eqb (p .kind) 1 d, ← k, e) q
-
-    pub model-factors : (b : Bool) (r : Declaration) → b ≡ knownTokens names (tokensAt s at) → b ≡ true → r ≡ declarationOf (gathered places names parent (tokensAt s at)) → r ≡ declarationOf (contentAnswer places names parent (tokensAt s at))
-    unfolding contentAnswer factorsAnswer gathered
-    model-factors b r k e q = rw (word-at, ne-eqb (p .kind) 1 d, ← k, e) q
+  pub model-factors : (p .kind ≡ 1 → ⊥) → (r : Declaration) → r ≡ declarationOf (factorsAnswer places names parent (tokensAt s at)) → r ≡ declarationOf (contentAnswer places names parent (tokensAt s at))
+  unfolding contentAnswer
+  model-factors d r q = rw (word-at, ne-eqb (p .kind) 1 d) q
 
 -- ---- the parent
 

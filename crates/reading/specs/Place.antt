@@ -6,10 +6,11 @@ use mathlib.Core.List.{List}
 use mathlib.Core.Option.{Option, some}
 use lib.Dec.{eqb}
 use lib.ListN.{getD, set, take, drop}
+use Rattle.nameset.specs.Places.{places}
 use Rattle.model.specs.Record.{none as noFactor}
 use Rattle.spelling.specs.Token.{Token}
 use Rattle.spelling.specs.Form.{cut, tokens}
-use Rattle.spelling.specs.Read.{known}
+use Rattle.spelling.specs.Read.{known, numberFor}
 use Rattle.gather.specs.Gather.{Rows, withName, nextFactor, withMode}
 
 -- The tokens from a place on.
@@ -25,6 +26,10 @@ partOf text from to = take (to - from) (drop from text)
 -- No word, or a name of the book.
 unfoldable pub knownKind : List (List ℕ) → ℕ → List ℕ → Bool
 knownKind names kind bytes = cond (eqb kind 1) (known names bytes) true
+
+-- The number of a word by the book, `places` where it is no name of it; 0 for what is no word.
+unfoldable pub numberAt : List (List ℕ) → ℕ → List ℕ → ℕ
+numberAt names kind bytes = cond (eqb kind 1) (cond (known names bytes) (numberFor names bytes) places) 0
 
 -- The mode that a mark stands for, 0 for what is no mark.
 unfoldable pub kindMode : ℕ → ℕ

@@ -2,18 +2,17 @@
 -- Assumes nothing.
 use Prim.Native.Nat.{ℕ}
 use mathlib.Core.Path.{_≡_}
+use mathlib.Core.Bool.{Bool, cond}
 use mathlib.Core.List.{List}
 use Rattle.refusal.specs.declared.Refusal.{Refusal}
-use Rattle.refusal.specs.declared.Refusal.the-variants.{NameTwice}
+use Rattle.refusal.specs.declared.Refusal.the-variants.{UnknownName, NameTwice}
 use Rattle.refusal.specs.Table.{stoppedBy}
 use Rattle.refusal.specs.Answer.{Answer, given, refused, onward, outcomeOf}
 use Rattle.nameset.specs.Places.{places}
 use Rattle.book.specs.Book.{bookOf}
 use Rattle.model.specs.declared.Model.{Model}
 use Rattle.model.specs.Record.{emptyModel}
-use Rattle.spelling.specs.Token.{Token}
-use Rattle.spelling.specs.Read.{Declared, declared, orRefuse, readText}
-use Rattle.gather.specs.Gather.{startRows, gatherFrom, modelOf}
+use Rattle.spelling.specs.Read.{Declared, readText}
 use Rattle.reading.specs.declared.Declaration.{Declaration}
 
 -- The answer for any bytes as the book and any text.
@@ -38,9 +37,9 @@ declarationOf a = record { outcome = outcomeOf a; parent = parentDue a; model = 
 unfoldable pub noDeclaration : Refusal → Answer Declared
 noDeclaration r = refused r
 
--- 15, else the record that these tokens fill, for the parent p.
-unfoldable pub gathered : ℕ → List (List ℕ) → ℕ → List Token → Answer Declared
-gathered size names p ts = onward (orRefuse NameTwice (gatherFrom size names ts (startRows size))) (λ g. given (declared p (modelOf g)))
+-- Once a name came twice: 15 where every name behind it is known, else 14, which comes first.
+unfoldable pub twiceOrUnknown : Bool → Refusal
+twiceOrUnknown known = cond known NameTwice UnknownName
 
 -- What the call promises of its answer r.
 pub record ReadsDeclaration (bytes text : List ℕ) (r : Declaration) : Type 0 where

@@ -12,9 +12,9 @@ ghost use lib.ListN.{length};
 ghost use Rattle.nameset.specs.Places.{places};
 ghost use Rattle.book.specs.Book.{namesIn};
 ghost use Rattle.book.specs.Access.{LaidOut};
-ghost use Rattle.gather.specs.Gather.{contentAnswer, tokensAnswer};
+ghost use Rattle.gather.specs.Gather.{knownTokens, factorsAnswer, contentAnswer, tokensAnswer};
 ghost use Rattle.reading.specs.Place.{tokensAt};
-ghost use Rattle.reading.specs.Read.{gathered, declarationOf, noDeclaration, ReadsDeclaration};
+ghost use Rattle.reading.specs.Read.{declarationOf, noDeclaration, twiceOrUnknown, ReadsDeclaration};
 
 mod lookup; // lookup.rt: names of a text by the book
 mod rows; // rows.rt: the rows of the record under way
@@ -43,10 +43,18 @@ fn refused(refusal: Refusal) -> Declaration
     }
 }
 
-// The factors from a place on, all of whose names are known: one token after the other, into the rows of the record.
+// A name came twice before a place: 14 where a name from there on is not known, else 15.
+fn twice(bytes: &[u8], layout: Layout, text: &[u8], at: usize) -> Declaration
+    requires { ⌜ LaidOut (now bytes) layout × (at ≤ length (now text)) ⌝ }
+    ensures { λ r. ⌜ r ≡ declarationOf (noDeclaration (twiceOrUnknown (knownTokens (namesIn (now (bytes .entry))) (tokensAt (now (text .entry)) at)))) ⌝ }
+{
+    if lookup::all_known(bytes, layout, text, at) { refused(Refusal::NameTwice) } else { refused(Refusal::UnknownName) }
+}
+
+// The factors from a place on: one token after the other, into the rows of the record.
 fn read_factors(bytes: &[u8], layout: Layout, text: &[u8], at: usize, parent: usize) -> Declaration
     requires { ⌜ LaidOut (now bytes) layout × (at ≤ length (now text)) ⌝ }
-    ensures { λ r. ⌜ r ≡ declarationOf (gathered places (namesIn (now (bytes .entry))) parent (tokensAt (now (text .entry)) at)) ⌝ }
+    ensures { λ r. ⌜ r ≡ declarationOf (factorsAnswer places (namesIn (now (bytes .entry))) parent (tokensAt (now (text .entry)) at)) ⌝ }
 {
     let mut factor = [NONE; PLACES];
     let mut mode = [0u8; PLACES];
@@ -54,11 +62,15 @@ fn read_factors(bytes: &[u8], layout: Layout, text: &[u8], at: usize, parent: us
     let mut i = at;
     while i < text.len() {
         let piece = scan::piece_at(text, i);
-        let free = rows::place_piece(&mut factor, bytes, layout, text, piece, index);
+        let x = lookup::number_at(bytes, layout, text, piece);
+        if x == PLACES {
+            return refused(Refusal::UnknownName);
+        }
+        let free = rows::place_piece(&mut factor, piece.kind, x, index);
         rows::put_mode(&mut mode, index, rows::mode_of(piece.kind));
         index = rows::next_index(piece.kind, index);
         if !rows::fine(free, index) {
-            return refused(Refusal::NameTwice);
+            return twice(bytes, layout, text, piece.to);
         }
         i = piece.to;
     }
@@ -85,9 +97,6 @@ fn read_model(bytes: &[u8], layout: Layout, text: &[u8], at: usize, parent: usiz
             parent,
             model: Model::empty(),
         };
-    }
-    if !lookup::all_known(bytes, layout, text, at) {
-        return refused(Refusal::UnknownName);
     }
     read_factors(bytes, layout, text, at, parent)
 }

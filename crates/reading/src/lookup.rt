@@ -2,48 +2,29 @@
 use super::WORD;
 use book::Found;
 use book::Layout;
+use nameset::PLACES;
 use scan::Piece;
 ghost use mathlib.Core.Path.{_≡_};
-ghost use Prim.Native.Nat.{_≤_, _<_};
+ghost use Prim.Native.Nat.{_≤_};
 ghost use lib.ListN.{length};
 ghost use Rattle.nameset.specs.Places.{places};
 ghost use Rattle.book.specs.Book.{namesIn};
 ghost use Rattle.book.specs.Access.{LaidOut};
-ghost use Rattle.spelling.specs.Read.{known, numberFor};
 ghost use Rattle.gather.specs.Gather.{knownTokens};
-ghost use Rattle.reading.specs.Place.{tokensAt, partOf, knownKind};
+ghost use Rattle.reading.specs.Place.{tokensAt, partOf, numberAt};
 
-// The number of a name that the book has.
-pub fn number_of(bytes: &[u8], layout: Layout, name: &[u8]) -> usize
-    requires { ⌜ LaidOut (now bytes) layout ⌝ }
-    ensures { λ r. ⌜ (r ≡ numberFor (namesIn (now (bytes .entry))) (now (name .entry))) × (r < places) ⌝ }
-{
-    match book::find_name(bytes, layout, name) {
-        Found::At(x) => x,
-        Found::Nothing => 0,
-    }
-}
-
-// Whether the book has the name.
-fn is_known(bytes: &[u8], layout: Layout, name: &[u8]) -> bool
-    requires { ⌜ LaidOut (now bytes) layout ⌝ }
-    ensures { λ r. ⌜ r ≡ known (namesIn (now (bytes .entry))) (now (name .entry)) ⌝ }
-{
-    match book::find_name(bytes, layout, name) {
-        Found::At(_) => true,
-        Found::Nothing => false,
-    }
-}
-
-// Whether a piece of the text is no word, or a name of the book.
-fn known_piece(bytes: &[u8], layout: Layout, text: &[u8], piece: Piece) -> bool
+// The number of a word by the book, PLACES where it is no name of it; 0 for a piece that is no word.
+pub fn number_at(bytes: &[u8], layout: Layout, text: &[u8], piece: Piece) -> usize
     requires { ⌜ LaidOut (now bytes) layout × (piece .from ≤ piece .to) × (piece .to ≤ length (now text)) ⌝ }
-    ensures { λ r. ⌜ r ≡ knownKind (namesIn (now (bytes .entry))) (piece .kind) (partOf (now (text .entry)) (piece .from) (piece .to)) ⌝ }
+    ensures { λ r. ⌜ (r ≡ numberAt (namesIn (now (bytes .entry))) (piece .kind) (partOf (now (text .entry)) (piece .from) (piece .to))) × (r ≤ places) ⌝ }
 {
     if piece.kind != WORD {
-        return true;
+        return 0;
     }
-    is_known(bytes, layout, book::part(text, piece.from, piece.to))
+    match book::find_name(bytes, layout, book::part(text, piece.from, piece.to)) {
+        Found::At(x) => x,
+        Found::Nothing => PLACES,
+    }
 }
 
 // Whether every word from a place on is a name of the book.
@@ -54,7 +35,7 @@ pub fn all_known(bytes: &[u8], layout: Layout, text: &[u8], at: usize) -> bool
     let mut i = at;
     while i < text.len() {
         let piece = scan::piece_at(text, i);
-        if !known_piece(bytes, layout, text, piece) {
+        if number_at(bytes, layout, text, piece) == PLACES {
             return false;
         }
         i = piece.to;

@@ -1,20 +1,14 @@
 // The rows of the record under way: the factor of each name, and the mode of each factor.
 use super::WORD;
-use super::lookup::number_of;
-use book::Layout;
 use model::NONE;
 use nameset::PLACES;
-use scan::Piece;
 ghost use mathlib.Core.Path.{_≡_};
 ghost use mathlib.Core.Bool.{_&&_};
-ghost use Prim.Native.Nat.{_≤_, _<_};
+ghost use Prim.Native.Nat.{_<_};
 ghost use lib.Dec.{ltb};
 ghost use lib.ListN.{length, set};
 ghost use Rattle.nameset.specs.Places.{places};
-ghost use Rattle.book.specs.Book.{namesIn};
-ghost use Rattle.book.specs.Access.{LaidOut};
-ghost use Rattle.spelling.specs.Read.{numberFor};
-ghost use Rattle.reading.specs.Place.{partOf, freeAt, freeKind, factorAfter, kindMode, modeAfter, indexAfter};
+ghost use Rattle.reading.specs.Place.{freeAt, freeKind, factorAfter, kindMode, modeAfter, indexAfter};
 
 // The kind of a comma.
 const COMMA: u8 = 4;
@@ -29,17 +23,14 @@ fn place_name(factor: &mut [u8], x: usize, index: usize) -> bool
     free
 }
 
-// A word's name into the factor under way; false where a factor held it before.
-pub fn place_piece(factor: &mut [u8], bytes: &[u8], layout: Layout, text: &[u8], piece: Piece, index: usize) -> bool
-    requires { ⌜ LaidOut (now bytes) layout × (piece .from ≤ piece .to) × (piece .to ≤ length (now text)) × (length (now factor) ≡ places) × (index < places) ⌝ }
-    ensures { λ r. ⌜ (r ≡ freeKind (piece .kind) (now (factor .entry)) (numberFor (namesIn (now (bytes .entry))) (partOf (now (text .entry)) (piece .from) (piece .to))))
-        × (now (factor .exit) ≡ factorAfter (piece .kind) (now (factor .entry)) (numberFor (namesIn (now (bytes .entry))) (partOf (now (text .entry)) (piece .from) (piece .to))) index)
-        × (length (now (factor .exit)) ≡ length (now (factor .entry))) ⌝ }
+// The number x of a word into the factor under way; false where a factor held it before.
+pub fn place_piece(factor: &mut [u8], kind: u8, x: usize, index: usize) -> bool
+    requires { ⌜ (x < length (now factor)) × (index < places) ⌝ }
+    ensures { λ r. ⌜ (r ≡ freeKind kind (now (factor .entry)) x) × (now (factor .exit) ≡ factorAfter kind (now (factor .entry)) x index) × (length (now (factor .exit)) ≡ length (now (factor .entry))) ⌝ }
 {
-    if piece.kind != WORD {
+    if kind != WORD {
         return true;
     }
-    let x = number_of(bytes, layout, book::part(text, piece.from, piece.to));
     place_name(factor, x, index)
 }
 

@@ -1,7 +1,6 @@
--- `read_model` meets its contract: `EMPTY`, a name that is not known, factors.
+-- `read_model` meets its contract: `EMPTY`, factors.
 -- Assumes nothing.
-use borrow.Author.Tests.{not-true, not-false}
-use Rattle.reading.proofs.Steps.{model-empty, model-unknown, model-factors}
+use Rattle.reading.proofs.Steps.{model-empty, model-factors}
 use borrow.Author.Needs.{needs}
 use Rattle.reading.proofs.read_model.Statement.{statement}
 use Rattle.reading.proofs.read_model.Tie as tie
@@ -15,20 +14,11 @@ empty-requires c κs = search needs
 returns : tie.Need-returns
 returns c = model-empty _ _ _ _ _ (c .before .before .before .piece-at .ensures .0) _ (c .before .if1 .taken) (c .empty .ensures)
 
-all-known-requires : tie.Need-all-known-requires
-all-known-requires c κs = search needs
-
-refused-requires : tie.Need-refused-requires
-refused-requires c κs = search needs
-
-returns-2 : tie.Need-returns-2
-returns-2 c = model-unknown _ _ _ _ _ (c .before .before .before .before .before .piece-at .ensures .0) (c .before .before .before .if1 .left) _ _ (c .before .before .all-known .ensures) (not-true _ (c .before .if2 .taken)) (c .refused .ensures)
-
 read-factors-requires : tie.Need-read-factors-requires
 read-factors-requires c κs = search needs
 
-returns-3 : tie.Need-returns-3
-returns-3 c = model-factors _ _ _ _ _ (c .before .before .before .before .before .piece-at .ensures .0) (c .before .before .before .if1 .left) _ _ (c .before .before .all-known .ensures) (not-false _ (c .before .if2 .left)) (c .read-factors .ensures)
+returns-2 : tie.Need-returns-2
+returns-2 c = model-factors _ _ _ _ _ (c .before .before .before .piece-at .ensures .0) (c .before .if1 .left) _ (c .read-factors .ensures)
 
 pub read-model-spec : {M : Type 1} → statement M
 read-model-spec =
@@ -37,8 +27,5 @@ read-model-spec =
     piece-at-requires
     empty-requires
     returns
-    all-known-requires
-    refused-requires
-    returns-2
     read-factors-requires
-    returns-3)
+    returns-2)

@@ -4,11 +4,10 @@ use Prim.Native.Nat.{_-_, _≤_}
 use mathlib.Core.Path.{_≡_, refl, sym, _∙_}
 use native.Mathlib.Omega.{arith}
 use lib.ListN.{length}
-use borrow.Author.Tests.{not-true, not-false}
 use Rattle.book.specs.Book.{namesIn}
 use Rattle.gather.specs.Gather.{knownTokens}
 use Rattle.reading.specs.Place.{tokensAt}
-use Rattle.reading.proofs.Steps.{in-order, onward-to, known-stop, known-on, known-over}
+use Rattle.reading.proofs.Steps.{in-order, onward-to, unknown-kind, known-kind, known-stop, known-on, known-over}
 use Rattle.reading.proofs.lookup.all_known.Statement.{statement}
 use Rattle.reading.proofs.lookup.all_known.Tie as tie
 
@@ -24,17 +23,17 @@ loop-holds c = (omega arith, refl)
 piece-at-requires : tie.Need-piece-at-requires Inv-loop μ-loop
 piece-at-requires c κs = omega arith
 
-known-piece-requires : tie.Need-known-piece-requires Inv-loop μ-loop
-known-piece-requires c κs = (c .before .before .before .before .before .pre .0, in-order _ _ _ (c .piece-at .ensures .0), c .piece-at .ensures .1)
+number-at-requires : tie.Need-number-at-requires Inv-loop μ-loop
+number-at-requires c κs = (c .before .before .before .before .before .pre .0, in-order _ _ _ (c .piece-at .ensures .0), c .piece-at .ensures .1)
 
 returns : tie.Need-returns Inv-loop μ-loop
-returns c = known-stop _ _ _ (c .before .before .piece-at .ensures .0) _ _ (c .before .known-piece .ensures) (not-true _ (c .if1 .taken)) ∙ sym (c .before .before .before .before .loop .inv .1)
+returns c = known-stop _ _ _ (c .before .before .piece-at .ensures .0) _ _ (unknown-kind _ _ (c .before .before .before .before .before .before .before .pre .0) _ _ _ (c .before .number-at .ensures .0) (c .if1 .taken)) refl ∙ sym (c .before .before .before .before .loop .inv .1)
 
 loop-less : tie.Need-loop-less Inv-loop μ-loop
 loop-less c = let h = onward-to _ _ _ (c .before .before .piece-at .ensures .0) (c .before .before .before .loop-test .taken) in omega arith
 
 loop-again : tie.Need-loop-again Inv-loop μ-loop
-loop-again c = (c .before .before .piece-at .ensures .1, c .before .before .before .before .loop .inv .1 ∙ known-on _ _ _ (c .before .before .piece-at .ensures .0) _ _ (c .before .known-piece .ensures) (not-false _ (c .if1 .left)))
+loop-again c = (c .before .before .piece-at .ensures .1, c .before .before .before .before .loop .inv .1 ∙ known-on _ _ _ (c .before .before .piece-at .ensures .0) _ _ (known-kind _ _ (c .before .before .before .before .before .before .before .pre .0) _ _ _ (c .before .number-at .ensures .0) (c .if1 .left)) refl)
 
 returns-2 : tie.Need-returns-2 Inv-loop μ-loop
 returns-2 c = known-over _ _ _ (c .loop-test .left) ∙ sym (c .before .loop .inv .1)
@@ -47,7 +46,7 @@ all-known-spec =
     μ-loop
     loop-holds
     piece-at-requires
-    known-piece-requires
+    number-at-requires
     returns
     loop-less
     loop-again

@@ -8,12 +8,6 @@ use Rattle.reading.proofs.rows.place_piece.Tie as tie
 returns : tie.Need-returns
 returns c = free-sign _ _ _ _ (c .if1 .taken)
 
-part-requires : tie.Need-part-requires
-part-requires c κs = search needs
-
-number-of-requires : tie.Need-number-of-requires
-number-of-requires c κs = search needs
-
 place-name-requires : tie.Need-place-name-requires
 place-name-requires c κs = search needs
 
@@ -21,9 +15,7 @@ same-length : tie.Need-same-length
 same-length c = search needs
 
 returns-2 : tie.Need-returns-2
-returns-2 c = free-word _ _ _ _ _ _ _ _ _ _ _ (c .before .before .before .before .before .before .if1 .left) (c .before .before .before .before .before .part .ensures) (c .before .before .before .before .number-of .ensures .0) (c .before .before .place-name .ensures)
+returns-2 c = free-word _ _ _ _ _ _ (c .before .before .before .before .if1 .left) (c .before .before .place-name .ensures)
 
 pub place-piece-spec : {M : Type 1} → statement M
-place-piece-spec =
-    tie.close
-    (tie.spec returns part-requires number-of-requires place-name-requires same-length returns-2)
+place-piece-spec = tie.close (tie.spec returns place-name-requires same-length returns-2)
