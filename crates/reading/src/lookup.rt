@@ -18,7 +18,7 @@ pub fn number_of(bytes: &[u8], layout: Layout, name: &[u8]) -> usize
     requires { ⌜ LaidOut (now bytes) layout ⌝ }
     ensures { λ r. ⌜ (r ≡ numberFor (namesIn (now (bytes .entry))) (now (name .entry))) × (r < places) ⌝ }
 {
-    match book::find_name(bytes, layout, name) {
+    match book_access::find_name(bytes, layout, name) {
         Found::At(x) => x,
         Found::Nothing => 0,
     }
@@ -29,7 +29,7 @@ fn is_known(bytes: &[u8], layout: Layout, name: &[u8]) -> bool
     requires { ⌜ LaidOut (now bytes) layout ⌝ }
     ensures { λ r. ⌜ r ≡ known (namesIn (now (bytes .entry))) (now (name .entry)) ⌝ }
 {
-    match book::find_name(bytes, layout, name) {
+    match book_access::find_name(bytes, layout, name) {
         Found::At(_) => true,
         Found::Nothing => false,
     }
