@@ -1,9 +1,10 @@
--- Paper 01's example book, read by the definition.
+-- Paper 01's example book, read by the definition, and a name with two faults.
 -- Assumes nothing.
 use Prim.Native.Nat.{ℕ}
 use mathlib.Core.Path.{_≡_, refl}
 use mathlib.Core.List.{List, [], _∷_, _++_}
-use Rattle.refusal.specs.Answer.{given}
+use Rattle.refusal.specs.declared.Refusal.the-variants.{BadName}
+use Rattle.refusal.specs.Answer.{given, refused}
 use Rattle.nameset.specs.Places.{goodCount}
 use Rattle.name.specs.Class.{startByte, laterByte, between}
 use Rattle.name.specs.Rule.{goodLength, goodBytes, allLater}
@@ -52,3 +53,8 @@ example :
         })
 unfolding contribution entry leaver member reason total bytes block goodCount startByte laterByte between goodLength goodBytes allLater orderOf rises byteOf bytesOf countOf allBelow nameOf namesOf blockOf blocksOf nameSection blockSection bookOf
 example = refl
+
+-- 4 comes before 5: a name of one bad byte, which is not above the name before it
+bad-and-not-above : nameOf leaver (1 ∷ 33 ∷ []) ≡ refused BadName
+unfolding leaver startByte laterByte between goodLength goodBytes allLater orderOf rises byteOf bytesOf nameOf
+bad-and-not-above = refl

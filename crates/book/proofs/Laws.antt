@@ -31,7 +31,7 @@ use Rattle.book.specs.Layout.{placesFrom, endFrom, noPlaces, placeTable,
 use Rattle.book.specs.Access.{LaidOut, BlockFits}
 use Rattle.book.proofs.Parts.{byte-at, reaches}
 use Rattle.book.proofs.Told.{Rising, none, one, Within}
-use Rattle.book.proofs.Steps.{name-placed, BlockPlaced, block-placed}
+use Rattle.book.proofs.Placed.{name-placed, BlockPlaced, block-placed}
 use Rattle.book.proofs.Sections.{NameSectionTold, name-section-told, BlockSectionTold, block-section-told, behind-names}
 
 -- ---- the whole book

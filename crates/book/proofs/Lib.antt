@@ -1,9 +1,8 @@
 pub mod Parts
 pub mod Counts
 pub mod Told
-pub mod Steps
+pub mod Placed
 pub mod Sections
 pub mod Laws
-pub mod Find
 pub mod Example
 pub mod Stops

@@ -9,21 +9,17 @@ use native.Mathlib.Decide.{decLt}
 use lib.Dec.{ltb}
 use lib.ListN.{length, drop}
 use borrow.Author.Tests.{not-false, ltb-false}
-use Rattle.refusal.specs.declared.Refusal.{Refusal}
 use Rattle.refusal.specs.declared.Refusal.the-variants.{BytesMissing, BadNameCount, BytesLeftOver}
-use Rattle.refusal.specs.declared.Outcome.the-variants.{Done, Refused}
-use Rattle.refusal.specs.Answer.{Answer, given, refused, onward, refuseIf}
+use Rattle.refusal.specs.Answer.{given, onward, refuseIf}
 use Rattle.refusal.proofs.Answers.{onward-given, check-given, given-same}
 use Rattle.nameset.specs.Places.{goodCount}
-use Rattle.book.specs.declared.names.NameTable.{NameTable}
 use Rattle.book.specs.Field.{Field, field, countOf}
 use Rattle.book.specs.Book.{Block, namesOf, nameSection, blocksOf, blockSection}
 use Rattle.book.specs.Bytes.{namesBytes, blocksBytes}
-use Rattle.book.specs.Layout.{endFrom, placeTable}
-use Rattle.book.specs.Tables.{nameTable, noNames}
+use Rattle.book.specs.Layout.{endFrom}
 use Rattle.book.proofs.Counts.{countAt, count-missing, count-given}
 use Rattle.book.proofs.Told.{not-refused, Rising, NamesTold, names-told, Within, BlocksTold, blocks-told}
-use Rattle.book.proofs.Steps.{name-placed}
+use Rattle.book.proofs.Placed.{name-placed}
 
 -- where names end, and what stands behind them
 pub behind-names : (s : List ℕ) (at : ℕ) (xs : List (List ℕ)) (after : List ℕ) → at ≤ length s → drop at s ≡ namesBytes xs after →
@@ -108,48 +104,3 @@ block-section-told n s bs e = counted (onward-given (countOf s) _ bs e)
         × (onward (blocksOf n (m .value) (m .rest)) (λ blocks. refuseIf (ltb 0 (length (blocks .rest))) BytesLeftOver (given (blocks .value))) ≡ given bs)) →
         BlockSectionTold n s bs
     counted (m, h, e) = let o = onward-given (blocksOf n (m .value) (m .rest)) _ bs e in ended m (o .0) h (o .1) (o .2)
-
--- a table of names that were read
-pub record TableTold (s : List ℕ) (t : NameTable) : Type 0 where
-  pub names : Field (List (List ℕ))
-  pub read : nameSection s ≡ given names
-  pub many : t .names ≡ length (names .value)
-  pub placed : t .places ≡ placeTable (names .value)
-  pub end : t .end ≡ endFrom 2 (names .value)
-  pub fits : t .end ≤ length s
-  pub rest : drop (t .end) s ≡ names .rest
-
-pub table-told : (s : List ℕ) (t : NameTable) → t ≡ nameTable (nameSection s) → t .outcome ≡ Done → TableTold s t
-unfolding nameTable noNames
-table-told s t e d = go (nameSection s) refl e
-  where
-    go : (a : Answer (Field (List (List ℕ)))) → nameSection s ≡ a → t ≡ nameTable a → TableTold s t
-    go (given names) q e =
-        let k = name-section-told s names q in
-        let b = behind-names s 2 (names .value) (names .rest) (k .enough) (k .bytes) in
-        let z : t .end ≡ endFrom 2 (names .value) = ap (λ (x : NameTable). x .end) e in
-        record {
-          names = names;
-          read = q;
-          many = ap (λ (x : NameTable). x .names) e;
-          placed = ap (λ (x : NameTable). x .places) e;
-          end = z;
-          fits = rw z (b .0);
-          rest = rw z (b .1);
-        }
-    go (refused r) q e =
-        let o : Refused r ≡ Done = sym (ap (λ (x : NameTable). x .outcome) e) ∙ d in
-        absurd (let z : _≡_ {A = ℕ} 0 1 = cc in omega arith)
-
-pub table-refused : (s : List ℕ) (t : NameTable) (r : Refusal) → t ≡ nameTable (nameSection s) → t .outcome ≡ Refused r → nameSection s ≡ refused r
-unfolding nameTable noNames
-table-refused s t r e d = go (nameSection s) refl e
-  where
-    go : (a : Answer (Field (List (List ℕ)))) → nameSection s ≡ a → t ≡ nameTable a → nameSection s ≡ refused r
-    go (given names) q e =
-        let o : Done ≡ Refused r = sym (ap (λ (x : NameTable). x .outcome) e) ∙ d in
-        absurd (let z : _≡_ {A = ℕ} 0 1 = cc in omega arith)
-    go (refused r') q e =
-        let o : Refused r' ≡ Refused r = sym (ap (λ (x : NameTable). x .outcome) e) ∙ d in
-        let z : r' ≡ r = cc in
-        q ∙ ap refused z

@@ -1,6 +1,6 @@
 pub mod Field
 pub mod Book
 pub mod Layout
-pub mod Tables
+pub mod Word
 pub mod Bytes
 pub mod Access

@@ -1,26 +1,14 @@
-// The book: from its bytes to the names and the blocks, and where each of them stands.
-use blocks::BlockCount;
+// The book: where its names and blocks stand, and what a place among its bytes holds.
 use nameset::PLACES;
 use refusal::Outcome;
-use refusal::Refusal;
-ghost use mathlib.Core.Path.{_≡_};
-ghost use Rattle.book.specs.Book.{bookOf};
-ghost use Rattle.book.specs.Layout.{readingOf, noReading};
 
 mod field; // field.rt: bytes, counts and parts of the book
-mod names; // names.rt: section 1
-mod blocks; // blocks.rt: section 2
-mod access; // access.rt: back to a name or a block of a book that was read
+mod word; // word.rt: whether each number of a word is below n
 
-pub use access::block_at_place;
-pub use access::compare_name;
-pub use access::find_name;
-pub use access::name_bytes;
-pub use blocks::all_below;
+pub use field::count_at;
 pub use field::part;
-
-// The most bytes that a book has.
-const LONGEST: usize = 60000;
+pub use field::wide;
+pub use word::all_below;
 
 // Where the parts of a book stand.
 pub struct Layout {
@@ -51,46 +39,4 @@ pub struct BlockPlace {
     pub parent: usize,
     pub from: usize,
     pub to: usize,
-}
-
-fn refused(refusal: Refusal) -> Reading
-    ensures { λ r. ⌜ r ≡ noReading refusal ⌝ }
-{
-    Reading {
-        outcome: Outcome::Refused(refusal),
-        layout: Layout {
-            names: 0,
-            places: [0u16; PLACES],
-            body: 0,
-            blocks: 0,
-        },
-    }
-}
-
-// Reads a book of any bytes whatever, from its first byte to its last.
-pub fn read_book(bytes: &[u8]) -> Reading
-    ensures { λ r. ⌜ r ≡ readingOf (bookOf (now (bytes .entry))) ⌝ }
-{
-    if LONGEST < bytes.len() {
-        return refused(Refusal::BookTooLong);
-    }
-    let table = names::name_section(bytes);
-    let outcome = table.outcome;
-    if let Outcome::Refused(refusal) = outcome {
-        return refused(refusal);
-    }
-    let places = table.places;
-    let end = table.end;
-    match blocks::block_section(bytes, table.names, end) {
-        BlockCount::Blocks(blocks) => Reading {
-            outcome: Outcome::Done,
-            layout: Layout {
-                names: table.names,
-                places,
-                body: end + 2,
-                blocks,
-            },
-        },
-        BlockCount::Stopped(refusal) => refused(refusal),
-    }
 }

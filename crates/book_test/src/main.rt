@@ -31,7 +31,7 @@ fn print_blocks(bytes: &[u8], layout: Layout)
     let mut at = layout.body;
     let mut left = layout.blocks;
     while 0 < left {
-        let block = book::block_at_place(bytes, at);
+        let block = book_access::block_at_place(bytes, at);
         print_block(block.parent, block.from, block.to);
         at = block.to;
         left -= 1;
@@ -58,7 +58,7 @@ fn print_head(label: &[u8], refusal: u8, names: usize, blocks: usize) {
 }
 
 fn print_case(label: &[u8], bytes: &[u8], text: &[u8]) {
-    let reading = book::read_book(bytes);
+    let reading = book_reading::read_book(bytes);
     let outcome = reading.outcome;
     let layout = reading.layout;
     print_head(label, refusal::outcome_number(outcome), layout.names, layout.blocks);
@@ -72,7 +72,7 @@ fn print_rest(bytes: &[u8], layout: Layout, text: &[u8])
     requires { ⌜ LaidOut (now bytes) layout ⌝ }
 {
     io::write_all(OUT, b" ");
-    print_found(book::find_name(bytes, layout, text));
+    print_found(book_access::find_name(bytes, layout, text));
     print_blocks(bytes, layout);
 }
 

@@ -71,7 +71,7 @@ pub fn write_declaration(bytes: &[u8], parent: usize, m: Model, buffer: &mut [u8
     ensures { λ r. ⌜ (r ≡ written (writeAnswer (now (bytes .entry)) parent m (length (now (buffer .entry)))))
         × (now (buffer .exit) ≡ bufferAfter (now (buffer .entry)) (writeAnswer (now (bytes .entry)) parent m (length (now (buffer .entry))))) ⌝ }
 {
-    let reading = book::read_book(bytes);
+    let reading = book_reading::read_book(bytes);
     let outcome = reading.outcome;
     if let Outcome::Refused(refusal) = outcome {
         return refused(refusal);

@@ -81,7 +81,7 @@ pub fn put_name(buffer: &mut [u8], at: usize, bytes: &[u8], layout: Layout, x: u
     requires { ⌜ LaidOut (now bytes) layout × (x < layout .names) × (at + length (nameAt (namesIn (now bytes)) x) ≤ length (now buffer)) ⌝ }
     ensures { λ r. ⌜ Put (now (buffer .entry)) at (nameAt (namesIn (now (bytes .entry))) x) r (now (buffer .exit)) ⌝ }
 {
-    put_all(buffer, at, book::name_bytes(bytes, layout, x))
+    put_all(buffer, at, book_access::name_bytes(bytes, layout, x))
 }
 
 // The name x behind its lead, or nothing where the factor does not hold it.

@@ -1,7 +1,7 @@
 // Follow facts of one parent: which names may start a word, which may end one, which follow which, and whether a word is empty.
 use book::Layout;
-use book::block_at_place;
 use book::part;
+use book_access::block_at_place;
 use nameset::NameSet;
 use nameset::PLACES;
 ghost use mathlib.Core.Path.{_≡_};

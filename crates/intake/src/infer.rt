@@ -26,7 +26,7 @@ fn stopped(reading: Reading, refusal: Refusal) -> Found
 pub fn find_model(bytes: &[u8], parent: usize) -> Found
     ensures { λ r. ⌜ r ≡ found (readingOf (bookOf (now (bytes .entry)))) (modelAnswer (now (bytes .entry)) parent) ⌝ }
 {
-    let reading = book::read_book(bytes);
+    let reading = book_reading::read_book(bytes);
     let outcome = reading.outcome;
     if let Outcome::Refused(refusal) = outcome {
         return stopped(reading, refusal);

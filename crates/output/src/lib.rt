@@ -70,7 +70,7 @@ pub fn put_output(out: &mut [u8], bytes: &[u8]) -> usize
     requires { ⌜ longestOutput ≤ length (now out) ⌝ }
     ensures { λ r. ⌜ Put (now (out .entry)) 0 (outputOf (bookOf (now (bytes .entry)))) r (now (out .exit)) × (r ≤ length (now (out .exit))) ⌝ }
 {
-    let reading = book::read_book(bytes);
+    let reading = book_reading::read_book(bytes);
     let outcome = reading.outcome;
     if let Outcome::Refused(refusal) = outcome {
         return put_refused(out, refusal);

@@ -110,7 +110,7 @@ fn read_tokens(bytes: &[u8], layout: Layout, text: &[u8], at: usize) -> Declarat
     if piece.kind != WORD {
         return refused(Refusal::NotADeclaration);
     }
-    match book::find_name(bytes, layout, book::part(text, piece.from, piece.to)) {
+    match book_access::find_name(bytes, layout, book::part(text, piece.from, piece.to)) {
         Found::At(parent) => read_model(bytes, layout, text, piece.to, parent),
         Found::Nothing => refused(Refusal::UnknownName),
     }
@@ -120,7 +120,7 @@ fn read_tokens(bytes: &[u8], layout: Layout, text: &[u8], at: usize) -> Declarat
 pub fn read_declaration(bytes: &[u8], text: &[u8]) -> Declaration
     ensures { λ r. ⌜ ReadsDeclaration (now (bytes .entry)) (now (text .entry)) r ⌝ }
 {
-    let reading = book::read_book(bytes);
+    let reading = book_reading::read_book(bytes);
     let outcome = reading.outcome;
     if let Outcome::Refused(refusal) = outcome {
         return refused(refusal);

@@ -15,7 +15,7 @@ use Rattle.book_test.proofs.print_blocks.Statement.{statement}
 use Rattle.book_test.proofs.print_blocks.Tie as tie
 use Rattle.book_test.proofs.print_blocks.Reads as reads
 use Rattle.book_test.proofs.print_blocks.Lts as lts
-use Rattle.book.proofs.block_at_place.Reads as block-at-place-reads
+use Rattle.book_access.proofs.block_at_place.Reads as block-at-place-reads
 use Rattle.book_test.proofs.print_block.Reads as print-block-reads
 
 abbrev Left : List ℕ → ℕ → ℕ → Type 0

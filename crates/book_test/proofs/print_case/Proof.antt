@@ -6,7 +6,7 @@ use Rattle.book_test.proofs.print_case.Statement.{statement}
 use Rattle.book_test.proofs.print_case.Tie as tie
 use Rattle.book_test.proofs.print_case.Reads as reads
 use Rattle.book_test.proofs.print_case.Lts as lts
-use Rattle.book.proofs.read_book.Reads as read-book-reads
+use Rattle.book_reading.proofs.read_book.Reads as read-book-reads
 use Rattle.book_test.proofs.print_head.Reads as print-head-reads
 use Rattle.book_test.proofs.print_rest.Reads as print-rest-reads
 use Rattle.io.proofs.write_all.Reads as write-all-reads

@@ -1,0 +1,73 @@
+-- `largest` meets its contract: the answer is the larger of `top` and the numbers from i on.
+-- Assumes nothing.
+use Prim.Native.Nat.{ℕ, suc, _+_, _-_, _≤_, _<_, max}
+use mathlib.Core.Path.{_≡_, refl, sym, _∙_, ap}
+use mathlib.Core.Logic.{⊎-elim}
+use mathlib.Core.List.{List, [], _∷_}
+use native.Mathlib.Omega.{arith}
+use native.Mathlib.Numerals.{add-one}
+use lib.ListN.{length, getD, drop, drop-of-length-le}
+use lib.Seq.{drop-cons}
+use Rattle.book.specs.Word.{largest}
+use Rattle.book.proofs.word.largest.Statement.{statement}
+use Rattle.book.proofs.word.largest.Tie as tie
+use Rattle.book.proofs.word.largest.Reads as reads
+use Rattle.book.proofs.word.largest.Lts as lts
+
+left : List ℕ → ℕ → ℕ
+left s i = largest (drop i s)
+
+begin : (s : List ℕ) → largest s ≡ max 0 (left s 0)
+unfolding left
+begin s = omega arith
+
+next : (s : List ℕ) (i top new : ℕ) → i < length s → new ≡ max top (getD s i 0) → max top (left s i) ≡ max new (left s (i + 1))
+unfolding left largest
+next s i top new h e = rw (add-one i, drop-cons s i 0 h) (omega arith)
+
+done : (s : List ℕ) (i top : ℕ) → length s ≤ i → max top (left s i) ≡ top
+unfolding left largest
+done s i top h = rw (drop-of-length-le s h) (omega arith)
+
+abbrev Inv-loop : tie.InvT-loop
+Inv-loop word top₀ i₀ top i = (i ≤ length word) × (largest word ≡ max top (left word i))
+
+abbrev μ-loop : tie.MeasureT-loop
+μ-loop word top₀ i₀ top i = length word - i
+
+loop-holds : tie.Need-loop-holds Inv-loop μ-loop
+loop-holds c = (omega arith, begin _)
+
+shared-slice-read-if1 : tie.Need-shared-slice-read-if1 Inv-loop μ-loop
+shared-slice-read-if1 c = omega arith
+
+shared-slice-read-top : tie.Need-shared-slice-read-top Inv-loop μ-loop
+shared-slice-read-top c = omega arith
+
+add-i : tie.Need-add-i Inv-loop μ-loop
+add-i c = omega arith
+
+loop-less : tie.Need-loop-less Inv-loop μ-loop
+loop-less c = omega arith
+
+loop-again : tie.Need-loop-again Inv-loop μ-loop
+loop-again c =
+    let l = c .before .before .before .loop in
+    (omega arith, l .inv .1 ∙ next _ _ _ _ (omega arith) (⊎-elim (λ w. omega arith) (λ w. omega arith) (c .if1 .came)))
+
+returns : tie.Need-returns Inv-loop μ-loop
+returns c = sym (c .before .loop .inv .1 ∙ done _ _ _ (c .loop-test .left))
+
+pub largest-spec : {M : Type 1} → statement M
+largest-spec =
+    tie.close
+    (tie.spec
+    Inv-loop
+    μ-loop
+    loop-holds
+    shared-slice-read-if1
+    shared-slice-read-top
+    add-i
+    loop-less
+    loop-again
+    returns)

@@ -1,0 +1,22 @@
+-- `compare_at_place` meets its contract.
+-- Assumes nothing.
+use mathlib.Core.Path.{_≡_, refl, _∙_}
+use borrow.Author.Needs.{needs}
+use Rattle.book_access.proofs.compare_at_place.Statement.{statement}
+use Rattle.book_access.proofs.compare_at_place.Tie as tie
+use Rattle.book_access.proofs.compare_at_place.Reads as reads
+use Rattle.book_access.proofs.compare_at_place.Lts as lts
+use Rattle.book_access.proofs.name_at_place.Reads as name-at-place-reads
+use Rattle.name.proofs.compare.Reads as compare-reads
+
+name-at-place-requires : tie.Need-name-at-place-requires
+name-at-place-requires c κs = search needs
+
+compare-requires : tie.Need-compare-requires
+compare-requires c κs = search needs
+
+returns : tie.Need-returns
+returns c = c .compare .ensures ∙ rw (c .before .name-at-place .ensures)
+
+pub compare-at-place-spec : {M : Type 1} → statement M
+compare-at-place-spec = tie.close (tie.spec name-at-place-requires compare-requires returns)

@@ -1,0 +1,152 @@
+-- `find_name` meets its contract: every name below `low` is below the text, and every name from `high` on is above it.
+-- Assumes nothing.
+use Prim.Native.Nat.{ℕ, _+_, _-_, _/_, _≤_, _<_}
+use mathlib.Core.Path.{_≡_, refl, sym, _∙_, ap, subst}
+use mathlib.Core.List.{List, []}
+use native.Mathlib.Omega.{arith}
+use lib.ListN.{length, getD, take, drop}
+use borrow.Author.Needs.{needs}
+use Rattle.name.specs.declared.Order.the-variants.{Below, Same, Above}
+use Rattle.name.specs.Order.{orderOf}
+use Rattle.book.specs.Book.{namesIn}
+use Rattle.book.proofs.Laws.{few-names, name-laid, name-count, names-rising}
+use Rattle.book_access.proofs.Find.{found, missing, lower, upper}
+use Rattle.name.specs.declared.Order.{Order}
+use Rattle.book.specs.declared.Layout.{Layout}
+use Rattle.book.specs.declared.Found.the-variants.{At, Nothing}
+use Rattle.book.specs.Access.{LaidOut, numberIn}
+use Prim.Native.Nat.{ℕ, _+_, _-_, _≤_, _<_}
+use lib.ListN.{length, getD}
+use Rattle.book_access.proofs.find_name.Statement.{statement}
+use Rattle.book_access.proofs.find_name.Tie as tie
+use Rattle.book_access.proofs.find_name.Reads as reads
+use Rattle.book_access.proofs.find_name.Lts as lts
+use Rattle.book_access.proofs.compare_at_place.Reads as compare-at-place-reads
+
+module _ (s : List ℕ) (l : Layout) (laid : LaidOut s l) (text : List ℕ) where
+  among : (i : ℕ) → i < l .names → i < length (namesIn s)
+  among i h = subst (λ (n : ℕ). i < n) (name-count s l laid) h
+
+  -- what comparing the bytes where name i stands tells of name i
+  told : (i : ℕ) → i < l .names → (o p : Order) →
+      o ≡ orderOf (take (getD s (getD (l .places) i 0) 0) (drop (getD (l .places) i 0 + 1) s)) text → o ≡ p → orderOf (getD (namesIn s) i []) text ≡ p
+  told i h o p e k = ap (λ (x : List ℕ). orderOf x text) (sym (name-laid s l laid i h .bytes)) ∙ sym e ∙ k
+
+  hit : (i : ℕ) → i < l .names → orderOf (getD (namesIn s) i []) text ≡ Same → At i ≡ numberIn (namesIn s) text
+  hit i h e = sym (found (namesIn s) (names-rising s l laid) text i (among i h) e)
+
+  miss : (low high : ℕ) → high ≤ low → ((k : ℕ) → k < low → orderOf (getD (namesIn s) k []) text ≡ Below) →
+      ((k : ℕ) → high ≤ k → k < l .names → orderOf (getD (namesIn s) k []) text ≡ Above) → Nothing ≡ numberIn (namesIn s) text
+  miss low high m b a =
+      sym (missing (namesIn s) (names-rising s l laid) text low high m b (λ k h j. a k h (subst (λ (n : ℕ). k < n) (sym (name-count s l laid)) j)))
+
+  below : (i : ℕ) → i < l .names → orderOf (getD (namesIn s) i []) text ≡ Below → (k : ℕ) → k < i + 1 → orderOf (getD (namesIn s) k []) text ≡ Below
+  below i h = lower (namesIn s) (names-rising s l laid) text i (among i h)
+
+  above : (i : ℕ) → i < l .names → orderOf (getD (namesIn s) i []) text ≡ Above → (k : ℕ) → i ≤ k → k < l .names → orderOf (getD (namesIn s) k []) text ≡ Above
+  above i h e k m j = upper (namesIn s) (names-rising s l laid) text i (among i h) e k m (among k j)
+
+abbrev Inv-loop : tie.InvT-loop
+Inv-loop bytes text places low₀ high₀ low high =
+    (high ≤ high₀)
+    × ((k : ℕ) → k < low → orderOf (getD (namesIn bytes) k []) text ≡ Below)
+    × ((k : ℕ) → high ≤ k → k < high₀ → orderOf (getD (namesIn bytes) k []) text ≡ Above)
+
+abbrev μ-loop : tie.MeasureT-loop
+μ-loop bytes text places low₀ high₀ low high = high - low
+
+loop-holds : tie.Need-loop-holds Inv-loop μ-loop
+loop-holds c = (omega arith, λ k h. absurd (omega arith), λ k h l. absurd (omega arith))
+
+sub-middle : tie.Need-sub-middle Inv-loop μ-loop
+sub-middle c = omega arith
+
+add-middle : tie.Need-add-middle Inv-loop μ-loop
+add-middle c = omega arith
+
+mul-at : tie.Need-mul-at Inv-loop μ-loop
+mul-at c = omega (arith, few-names _ _ (c .before .before .before .before .before .pre))
+
+array-read-at : tie.Need-array-read-at Inv-loop μ-loop
+array-read-at c = omega (arith, few-names _ _ (c .before .before .before .before .before .pre))
+
+cast-at : tie.Need-cast-at Inv-loop μ-loop
+cast-at c = search needs
+
+compare-at-place-requires : tie.Need-compare-at-place-requires Inv-loop μ-loop
+compare-at-place-requires c κs =
+    let w = c .before .before .before .before .before in
+    let h : c .before .loop .low + (c .before .loop .high - c .before .loop .low) / 2 < w .args .layout .names = omega arith in
+    let t = name-laid _ _ (w .pre) _ h in
+    (t .size, t .whole)
+
+enum-told : tie.Need-enum-told Inv-loop μ-loop
+enum-told c = search needs
+
+add-low : tie.Need-add-low Inv-loop μ-loop
+add-low c = omega arith
+
+loop-less : tie.Need-loop-less Inv-loop μ-loop
+loop-less c = omega arith
+
+loop-again : tie.Need-loop-again Inv-loop μ-loop
+loop-again c =
+    let w = c .before .before .before .before .before .before .before .before in
+    let b = c .before .before in
+    let i = b .before .before .loop .inv in
+    let h : b .before .before .loop .low + (b .before .before .loop .high - b .before .before .loop .low) / 2 < w .args .layout .names = omega arith in
+    (i .0, below _ _ (w .pre) _ _ h (told _ _ (w .pre) _ _ h _ _ (b .compare-at-place .ensures) (c .enum-told .given .1)), i .2)
+
+enum-told-2 : tie.Need-enum-told-2 Inv-loop μ-loop
+enum-told-2 c = search needs
+
+returns : tie.Need-returns Inv-loop μ-loop
+returns c =
+    let w = c .before .before .before .before .before .before .before .before in
+    let b = c .before .before in
+    let i = b .before .before .loop .inv in
+    let h : b .before .before .loop .low + (b .before .before .loop .high - b .before .before .loop .low) / 2 < w .args .layout .names = omega arith in
+    hit _ _ (w .pre) _ _ h (told _ _ (w .pre) _ _ h _ _ (b .compare-at-place .ensures) (c .enum-told2 .given .1))
+
+enum-told-3 : tie.Need-enum-told-3 Inv-loop μ-loop
+enum-told-3 c = search needs
+
+loop-less-2 : tie.Need-loop-less-2 Inv-loop μ-loop
+loop-less-2 c = omega arith
+
+loop-again-2 : tie.Need-loop-again-2 Inv-loop μ-loop
+loop-again-2 c =
+    let w = c .before .before .before .before .before .before .before .before in
+    let b = c .before .before in
+    let i = b .before .before .loop .inv in
+    let h : b .before .before .loop .low + (b .before .before .loop .high - b .before .before .loop .low) / 2 < w .args .layout .names = omega arith in
+    (omega arith, i .1, above _ _ (w .pre) _ _ h (told _ _ (w .pre) _ _ h _ _ (b .compare-at-place .ensures) (c .enum-told3 .given .1)))
+
+returns-2 : tie.Need-returns-2 Inv-loop μ-loop
+returns-2 c =
+    let i = c .before .loop .inv in
+    miss _ _ (c .before .before .before .before .before .pre) _ _ _ (c .loop-test .left) (i .1) (i .2)
+
+pub find-name-spec : {M : Type 1} → statement M
+find-name-spec =
+    tie.close
+    (tie.spec
+    Inv-loop
+    μ-loop
+    loop-holds
+    sub-middle
+    add-middle
+    mul-at
+    array-read-at
+    cast-at
+    compare-at-place-requires
+    enum-told
+    add-low
+    loop-less
+    loop-again
+    enum-told-2
+    returns
+    enum-told-3
+    loop-less-2
+    loop-again-2
+    returns-2)

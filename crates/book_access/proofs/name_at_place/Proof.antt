@@ -1,0 +1,40 @@
+-- `name_at_place` meets its contract.
+-- Assumes nothing.
+use Prim.Native.Nat.{ℕ, _+_, _-_}
+use mathlib.Core.Path.{_≡_, refl, sym, _∙_, ap}
+use mathlib.Core.List.{List}
+use native.Mathlib.Omega.{arith}
+use lib.ListN.{take, drop}
+use borrow.Author.Needs.{needs}
+use Rattle.book_access.proofs.name_at_place.Statement.{statement}
+use Rattle.book_access.proofs.name_at_place.Tie as tie
+use Rattle.book_access.proofs.name_at_place.Reads as reads
+use Rattle.book_access.proofs.name_at_place.Lts as lts
+use Rattle.book.proofs.part.Reads as part-reads
+use Rattle.book.proofs.wide.Reads as wide-reads
+
+sized : (s : List ℕ) (at size n : ℕ) → size ≡ n → take (at + 1 + size - (at + 1)) (drop (at + 1) s) ≡ take n (drop (at + 1) s)
+sized s at size n e = let d : at + 1 + size - (at + 1) ≡ n = omega arith in rw d
+
+add-from : tie.Need-add-from
+add-from c = search needs
+
+shared-slice-read-wide : tie.Need-shared-slice-read-wide
+shared-slice-read-wide c = search needs
+
+wide-requires : tie.Need-wide-requires
+wide-requires c κs = search needs
+
+add-part : tie.Need-add-part
+add-part c = search needs
+
+part-requires : tie.Need-part-requires
+part-requires c κs = search needs
+
+returns : tie.Need-returns
+returns c = c .part .ensures ∙ sized _ _ _ _ (c .before .wide .ensures .0)
+
+pub name-at-place-spec : {M : Type 1} → statement M
+name-at-place-spec =
+    tie.close
+    (tie.spec add-from shared-slice-read-wide wide-requires add-part part-requires returns)

@@ -1,0 +1,90 @@
+// Back to a name or a block of a book that was read.
+use book::BlockPlace;
+use book::Found;
+use book::Layout;
+use book::part;
+use book::wide;
+use name::Order;
+ghost use mathlib.Core.Path.{_≡_};
+ghost use mathlib.Core.List.{[]};
+ghost use Prim.Native.Nat.{_+_, _≤_, _<_};
+ghost use lib.ListN.{length, getD, take, drop};
+ghost use Rattle.name.specs.Order.{orderOf};
+ghost use Rattle.book.specs.Book.{namesIn};
+ghost use Rattle.book.specs.Access.{LaidOut, numberIn, BlockFits, blockPlace};
+
+// The name whose length byte stands at a place.
+fn name_at_place(bytes: &[u8], at: usize) -> &[u8]
+    requires { ⌜ (at + 1 ≤ length (now bytes)) × (at + 1 + getD (now bytes) at 0 ≤ length (now bytes)) ⌝ }
+    ensures { λ r. ⌜ now r ≡ take (getD (now (bytes .entry)) at 0) (drop (at + 1) (now (bytes .entry))) ⌝ }
+{
+    let from = at + 1;
+    part(bytes, from, from + wide(bytes[at]))
+}
+
+// How the name whose length byte stands at a place stands to a text.
+fn compare_at_place(bytes: &[u8], at: usize, text: &[u8]) -> Order
+    requires { ⌜ (at + 1 ≤ length (now bytes)) × (at + 1 + getD (now bytes) at 0 ≤ length (now bytes)) ⌝ }
+    ensures { λ r. ⌜ r ≡ orderOf (take (getD (now (bytes .entry)) at 0) (drop (at + 1) (now (bytes .entry)))) (now (text .entry)) ⌝ }
+{
+    name::compare(name_at_place(bytes, at), text)
+}
+
+// The bytes of name i.
+pub fn name_bytes(bytes: &[u8], layout: Layout, i: usize) -> &[u8]
+    requires { ⌜ LaidOut (now bytes) layout × (i < layout .names) ⌝ }
+    ensures { λ r. ⌜ now r ≡ getD (namesIn (now (bytes .entry))) i [] ⌝ }
+{
+    let places = layout.places;
+    let at = places[i] as usize;
+    name_at_place(bytes, at)
+}
+
+// How name i stands to a text.
+pub fn compare_name(bytes: &[u8], layout: Layout, i: usize, text: &[u8]) -> Order
+    requires { ⌜ LaidOut (now bytes) layout × (i < layout .names) ⌝ }
+    ensures { λ r. ⌜ r ≡ orderOf (getD (namesIn (now (bytes .entry))) i []) (now (text .entry)) ⌝ }
+{
+    let places = layout.places;
+    let place = places[i] as usize;
+    compare_at_place(bytes, place, text)
+}
+
+// The number of the name that is the text. Names rise, so the search halves what is left at each step.
+pub fn find_name(bytes: &[u8], layout: Layout, text: &[u8]) -> Found
+    requires { ⌜ LaidOut (now bytes) layout ⌝ }
+    ensures { λ r. ⌜ r ≡ numberIn (namesIn (now (bytes .entry))) (now (text .entry)) ⌝ }
+{
+    let places = layout.places;
+    let mut low = 0;
+    let mut high = layout.names;
+    while low < high {
+        let middle = low + (high - low) / 2;
+        let at = places[middle] as usize;
+        match compare_at_place(bytes, at, text) {
+            Order::Below => {
+                low = middle + 1;
+            }
+            Order::Same => {
+                return Found::At(middle);
+            }
+            Order::Above => {
+                high = middle;
+            }
+        }
+    }
+    Found::Nothing
+}
+
+// The block at a place. That a block of the book stands there is the caller's to know (`next-block` of the laws).
+pub fn block_at_place(bytes: &[u8], at: usize) -> BlockPlace
+    requires { ⌜ BlockFits (now bytes) at ⌝ }
+    ensures { λ r. ⌜ r ≡ blockPlace (now (bytes .entry)) at ⌝ }
+{
+    let from = at + 2;
+    BlockPlace {
+        parent: wide(bytes[at]),
+        from,
+        to: from + wide(bytes[at + 1]),
+    }
+}

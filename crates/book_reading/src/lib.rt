@@ -1,0 +1,57 @@
+// A book read: its length, then its two sections.
+use block_section::BlockCount;
+use block_section::block_section;
+use book::Layout;
+use book::Reading;
+use name_section::name_section;
+use nameset::PLACES;
+use refusal::Outcome;
+use refusal::Refusal;
+ghost use mathlib.Core.Path.{_≡_};
+ghost use Rattle.book.specs.Book.{bookOf};
+ghost use Rattle.book.specs.Layout.{readingOf, noReading};
+
+// The most bytes that a book has.
+const LONGEST: usize = 60000;
+
+fn refused(refusal: Refusal) -> Reading
+    ensures { λ r. ⌜ r ≡ noReading refusal ⌝ }
+{
+    Reading {
+        outcome: Outcome::Refused(refusal),
+        layout: Layout {
+            names: 0,
+            places: [0u16; PLACES],
+            body: 0,
+            blocks: 0,
+        },
+    }
+}
+
+// Reads a book of any bytes whatever, from its first byte to its last.
+pub fn read_book(bytes: &[u8]) -> Reading
+    ensures { λ r. ⌜ r ≡ readingOf (bookOf (now (bytes .entry))) ⌝ }
+{
+    if LONGEST < bytes.len() {
+        return refused(Refusal::BookTooLong);
+    }
+    let table = name_section(bytes);
+    let outcome = table.outcome;
+    if let Outcome::Refused(refusal) = outcome {
+        return refused(refusal);
+    }
+    let places = table.places;
+    let end = table.end;
+    match block_section(bytes, table.names, end) {
+        BlockCount::Blocks(blocks) => Reading {
+            outcome: Outcome::Done,
+            layout: Layout {
+                names: table.names,
+                places,
+                body: end + 2,
+                blocks,
+            },
+        },
+        BlockCount::Stopped(refusal) => refused(refusal),
+    }
+}
