@@ -80,7 +80,7 @@ pub fn write_declaration(bytes: &[u8], parent: usize, m: Model, buffer: &mut [u8
     if layout.names <= parent {
         return refused(Refusal::BadParent);
     }
-    if !model::is_chain(layout.names, m) {
+    if !record_check::is_chain(layout.names, m) {
         return refused(Refusal::NotAChain);
     }
     write_chain(bytes, layout, parent, m, buffer)

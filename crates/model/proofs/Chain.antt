@@ -1,7 +1,7 @@
 -- The test `isChain` says exactly when a record is a chain.
 -- Assumes nothing.
 use Prim.Native.Nat.{ℕ, _≤_, _<_}
-use mathlib.Core.Path.{_≡_, refl, sym, _∙_}
+use mathlib.Core.Path.{_≡_, refl}
 use mathlib.Core.Bool.{Bool, true, false, _&&_, false≢true}
 use mathlib.Core.List.{List}
 use mathlib.Core.Logic.{_⊎_, inl, inr, _↔_}
@@ -12,8 +12,8 @@ use lib.Dec.{eqb, ltb, leb}
 use lib.ListN.{length, getD, List·getD-eq-default}
 use Rattle.model.specs.declared.Model.{Model}
 use Rattle.model.specs.Record.{none, factorOf, modeOf, IsChain}
-use Rattle.model.specs.Check.{allBelow, anyBelow, mayHold, mayBe, allPlaced, allNamed, allKnown, isChain}
-use Rattle.model.proofs.Tests.{or-split, or-right, same-test, all-law, any-law}
+use Rattle.model.specs.Check.{anyBelow, mayHold, mayBe, allPlaced, allNamed, allKnown, isChain}
+use Rattle.model.proofs.Tests.{or-split, or-right, all-law, any-law}
 
 -- ---- one entry, one mode
 
@@ -60,17 +60,17 @@ mode-law count i f = go (decLt i count)
 
 -- ---- all entries, all factors, all modes
 
-placed-law : (size n count : ℕ) (l : List ℕ) → (allPlaced size n count l ≡ true) ↔ ((x : ℕ) → x < size → Entry n count x (getD l x none))
+pub placed-law : (size n count : ℕ) (l : List ℕ) → (allPlaced size n count l ≡ true) ↔ ((x : ℕ) → x < size → Entry n count x (getD l x none))
 unfolding allPlaced
 placed-law size n count l =
     let a = all-law size (λ x. mayHold count (ltb x n) (getD l x none)) in
     (λ e x h. entry-law n count x (getD l x none) .0 (a .0 e x h), λ f. a .1 (λ x h. entry-law n count x (getD l x none) .1 (f x h)))
 
 -- Factor i has a name below n.
-abbrev Named : ℕ → List ℕ → ℕ → Type 0
+abbrev pub Named : ℕ → List ℕ → ℕ → Type 0
 Named n l i = (x : ℕ) × (x < n) × (getD l x none ≡ i)
 
-name-law : (n : ℕ) (l : List ℕ) (i : ℕ) → (anyBelow n (λ x. eqb (getD l x none) i) ≡ true) ↔ Named n l i
+pub name-law : (n : ℕ) (l : List ℕ) (i : ℕ) → (anyBelow n (λ x. eqb (getD l x none) i) ≡ true) ↔ Named n l i
 name-law n l i =
     let a = any-law n (λ x. eqb (getD l x none) i) in
     (λ e. let p = a .0 e in (p .0, p .1, eqb-true (getD l (p .0) none) i (p .2)), λ p. a .1 (p .0, p .1, eq-eqb (getD l (p .0) none) i (p .2)))
@@ -140,36 +140,3 @@ chain-law size n m = (λ e. to (six (eqb (length (m .factor)) size) (eqb (length
       named-law n (m .count) (m .factor) .1 (c .named),
       known-law size (m .count) (m .mode) .1 (λ i l. record { known = c .known i; rest = c .rest i }),
     )
-
--- ---- the test as the code makes it
-
--- Where both rows have `size` places, the four checks are left.
-pub sized : (size n : ℕ) (m : Model) → length (m .factor) ≡ size → length (m .mode) ≡ size
-    → isChain size n m ≡ (leb (m .count) size && (allPlaced size n (m .count) (m .factor) && (allNamed n (m .count) (m .factor) && allKnown size (m .count) (m .mode))))
-unfolding isChain
-sized size n m p q = rw (eq-eqb (length (m .factor)) size p, eq-eqb (length (m .mode)) size q)
-
-all-same : (n : ℕ) (f g : ℕ → Bool) → ((k : ℕ) → k < n → f k ≡ g k) → allBelow n f ≡ allBelow n g
-all-same n f g h =
-    same-test (allBelow n f) (allBelow n g) (λ e. all-law n g .1 (λ k l. sym (h k l) ∙ all-law n f .0 e k l))
-    (λ e. all-law n f .1 (λ k l. h k l ∙ all-law n g .0 e k l))
-
--- Where all entries are right, a factor has a name below n if it stands at any place.
-pub used-named : (size n count : ℕ) (l : List ℕ) (used : ℕ → Bool) → length l ≡ size → size ≤ none → count ≤ size → allPlaced size n count l ≡ true
-    → ((i : ℕ) → i < count → used i ≡ anyBelow size (λ x. eqb (getD l x none) i)) → allBelow count used ≡ allNamed n count l
-unfolding allNamed
-used-named size n count l used q s c p u = all-same count used (λ i. anyBelow n (λ x. eqb (getD l x none) i)) (λ i h. u i h ∙ same i h)
-  where
-    below : (i x : ℕ) → i < count → x < size → getD l x none ≡ i → Dec (x < n) → x < n
-    below i x h k e (yes b) = b
-    below i x h k e (no b) = absurd (omega (arith, placed-law size n count l .0 p x k .other (omega arith)))
-
-    within : (i x : ℕ) → i < count → getD l x none ≡ i → Dec (x < size) → x < size
-    within i x h e (yes b) = b
-    within i x h e (no b) = absurd (omega (arith, List·getD-eq-default l none {n = x} (omega arith)))
-
-    same : (i : ℕ) → i < count → anyBelow size (λ x. eqb (getD l x none) i) ≡ anyBelow n (λ x. eqb (getD l x none) i)
-    same i h =
-        same-test (anyBelow size (λ x. eqb (getD l x none) i)) (anyBelow n (λ x. eqb (getD l x none) i))
-        (λ e. let r = name-law size l i .0 e in name-law n l i .1 (r .0, below i (r .0) h (r .1) (r .2) (decLt (r .0) n), r .2))
-        (λ e. let r = name-law n l i .0 e in name-law size l i .1 (r .0, within i (r .0) h (r .2) (decLt (r .0) size), r .2))

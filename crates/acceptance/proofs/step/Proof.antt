@@ -1,12 +1,12 @@
--- `model::step` meets its contract. The loop keeps what the state leads to.
+-- `acceptance::step` meets its contract. The loop keeps what the state leads to.
 -- Assumes nothing.
 use Prim.Native.Nat.{_-_}
 use mathlib.Core.Path.{_≡_, refl, sym, _∙_}
 use borrow.Author.Needs.{needs}
 use Rattle.model.specs.Run.{state, after, stepFrom}
 use Rattle.model.proofs.Turns.{step-turn, step-past}
-use Rattle.model.proofs.step.Statement.{statement}
-use Rattle.model.proofs.step.Tie as tie
+use Rattle.acceptance.proofs.step.Statement.{statement}
+use Rattle.acceptance.proofs.step.Tie as tie
 
 abbrev Inv-loop : tie.InvT-loop
 Inv-loop count mode own factor₀ taken₀ factor taken = stepFrom mode own (count - factor) (state factor taken) ≡ stepFrom mode own (count - factor₀) (state factor₀ taken₀)

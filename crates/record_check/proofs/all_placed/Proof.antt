@@ -1,4 +1,4 @@
--- `model::all_placed` meets its contract. The entries passed are right.
+-- `record_check::all_placed` meets its contract. The entries passed are right.
 -- Assumes nothing.
 use Prim.Native.Nat.{ℕ, _-_, _≤_}
 use mathlib.Core.Path.{_≡_, sym, _∙_, ap}
@@ -8,11 +8,11 @@ use native.Mathlib.Omega.{arith}
 use borrow.Author.Needs.{needs}
 use lib.Dec.{ltb}
 use lib.ListN.{length, getD}
 use Rattle.model.proofs.Tests.{all-start, all-more, all-done, all-fails}
 use Rattle.model.specs.Record.{none}
 use Rattle.model.specs.Check.{allBelow, mayHold, allPlaced}
-use Rattle.model.proofs.all_placed.Statement.{statement}
-use Rattle.model.proofs.all_placed.Tie as tie
+use Rattle.record_check.proofs.all_placed.Statement.{statement}
+use Rattle.record_check.proofs.all_placed.Tie as tie
 
 abbrev test : ℕ → ℕ → List ℕ → ℕ → Bool
 test n count factor x = mayHold count (ltb x n) (getD factor x none)

@@ -1,9 +1,9 @@
--- `model::may_hold` meets its contract.
+-- `record_check::may_hold` meets its contract.
 -- Assumes nothing.
 use borrow.Author.Tests.{eq-eqb, ne-eqb}
 use Rattle.model.specs.Check.{mayHold}
-use Rattle.model.proofs.may_hold.Statement.{statement}
-use Rattle.model.proofs.may_hold.Tie as tie
+use Rattle.record_check.proofs.may_hold.Statement.{statement}
+use Rattle.record_check.proofs.may_hold.Tie as tie
 
 returns : tie.Need-returns
 unfolding mayHold

@@ -1,12 +1,12 @@
--- `model::may_end` meets its contract. The loop keeps whether the word may end.
+-- `acceptance::may_end` meets its contract. The loop keeps whether the word may end.
 -- Assumes nothing.
 use Prim.Native.Nat.{_-_}
 use mathlib.Core.Path.{_≡_, refl, sym, _∙_}
 use borrow.Author.Needs.{needs}
 use Rattle.model.specs.Run.{state, ifLeft, endFrom}
 use Rattle.model.proofs.Turns.{end-turn, end-past}
-use Rattle.model.proofs.may_end.Statement.{statement}
-use Rattle.model.proofs.may_end.Tie as tie
+use Rattle.acceptance.proofs.may_end.Statement.{statement}
+use Rattle.acceptance.proofs.may_end.Tie as tie
 
 abbrev Inv-loop : tie.InvT-loop
 Inv-loop count mode factor₀ taken₀ factor taken = endFrom mode (count - factor) (state factor taken) ≡ endFrom mode (count - factor₀) (state factor₀ taken₀)

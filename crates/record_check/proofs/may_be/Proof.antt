@@ -1,8 +1,8 @@
--- `model::may_be` meets its contract.
+-- `record_check::may_be` meets its contract.
 -- Assumes nothing.
 use Rattle.model.specs.Check.{mayBe}
-use Rattle.model.proofs.may_be.Statement.{statement}
-use Rattle.model.proofs.may_be.Tie as tie
+use Rattle.record_check.proofs.may_be.Statement.{statement}
+use Rattle.record_check.proofs.may_be.Tie as tie
 
 returns : tie.Need-returns
 unfolding mayBe

@@ -1,4 +1,4 @@
--- `model::all_used` meets its contract. The factors passed are in the set.
+-- `record_check::all_used` meets its contract. The factors passed are in the set.
 -- Assumes nothing.
 use Prim.Native.Nat.{_-_, _≤_}
 use mathlib.Core.Path.{_≡_, sym}
@@ -6,10 +6,10 @@ use mathlib.Core.Bool.{true}
 use native.Mathlib.Omega.{arith}
 use borrow.Author.Needs.{needs}
 use Rattle.nameset.specs.Set.{member}
 use Rattle.model.proofs.Tests.{all-start, all-more, all-done, all-fails}
 use Rattle.model.specs.Check.{allBelow}
-use Rattle.model.proofs.all_used.Statement.{statement}
-use Rattle.model.proofs.all_used.Tie as tie
+use Rattle.record_check.proofs.all_used.Statement.{statement}
+use Rattle.record_check.proofs.all_used.Tie as tie
 
 abbrev Inv-loop : tie.InvT-loop
 Inv-loop count used i₀ i = (i ≤ count) × (allBelow i (member used) ≡ true)

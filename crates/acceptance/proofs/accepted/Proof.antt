@@ -1,4 +1,4 @@
--- `model::accepted` meets its contract. The loop keeps where the rest of the word leads.
+-- `acceptance::accepted` meets its contract. The loop keeps where the rest of the word leads.
 -- Assumes nothing.
 use Prim.Native.Nat.{_+_, _-_, _≤_}
 use mathlib.Core.Path.{_≡_, refl, sym, _∙_, ap}
@@ -6,11 +6,11 @@ use mathlib.Core.Bool.{false}
 use native.Mathlib.Omega.{arith}
 use borrow.Author.Needs.{needs}
 use lib.ListN.{length, drop}
 use Rattle.model.specs.declared.Moved.the-variants.{To}
 use Rattle.model.specs.Run.{state, run, mayEnd, accepts}
 use Rattle.model.proofs.Words.{run-nowhere, run-more, run-done}
-use Rattle.model.proofs.accepted.Statement.{statement}
-use Rattle.model.proofs.accepted.Tie as tie
+use Rattle.acceptance.proofs.accepted.Statement.{statement}
+use Rattle.acceptance.proofs.accepted.Tie as tie
 
 abbrev Inv-loop : tie.InvT-loop
 Inv-loop word m count s₀ i₀ s i = (i ≤ length word) × (run m (To s) (drop i word) ≡ run m (To (state 0 false)) word)

@@ -1,4 +1,4 @@
--- `model::all_known` meets its contract. The modes passed are right.
+-- `record_check::all_known` meets its contract. The modes passed are right.
 -- Assumes nothing.
 use Prim.Native.Nat.{ℕ, _-_, _≤_}
 use mathlib.Core.Path.{_≡_, sym, _∙_, ap}
@@ -8,10 +8,10 @@ use native.Mathlib.Omega.{arith}
 use borrow.Author.Needs.{needs}
 use lib.Dec.{ltb}
 use lib.ListN.{length, getD}
 use Rattle.model.proofs.Tests.{all-start, all-more, all-done, all-fails}
 use Rattle.model.specs.Check.{allBelow, mayBe, allKnown}
-use Rattle.model.proofs.all_known.Statement.{statement}
-use Rattle.model.proofs.all_known.Tie as tie
+use Rattle.record_check.proofs.all_known.Statement.{statement}
+use Rattle.record_check.proofs.all_known.Tie as tie
 
 abbrev test : ℕ → List ℕ → ℕ → Bool
 test count mode i = mayBe (ltb i count) (getD mode i 0)

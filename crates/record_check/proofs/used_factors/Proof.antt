@@ -1,4 +1,4 @@
--- `model::used_factors` meets its contract. The set has the factors of the names passed.
+-- `record_check::used_factors` meets its contract. The set has the factors of the names passed.
 -- Assumes nothing.
 use Prim.Native.Nat.{ℕ, _-_, _≤_, _<_}
 use mathlib.Core.Path.{_≡_, sym, _∙_, ap, ap₂}
@@ -9,11 +9,11 @@ use borrow.Author.Needs.{needs}
 use lib.Dec.{eqb}
 use lib.ListN.{length, getD}
 use Rattle.nameset.specs.Set.{member}
 use Rattle.model.specs.Record.{none}
 use Rattle.model.specs.Check.{anyBelow}
 use Rattle.model.proofs.Tests.{any-start, any-more}
-use Rattle.model.proofs.used_factors.Statement.{statement}
-use Rattle.model.proofs.used_factors.Tie as tie
+use Rattle.record_check.proofs.used_factors.Statement.{statement}
+use Rattle.record_check.proofs.used_factors.Tie as tie
 
 -- Whether factor i holds the name x.
 abbrev holds : List ℕ → ℕ → ℕ → Bool

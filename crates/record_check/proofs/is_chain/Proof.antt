@@ -1,4 +1,4 @@
--- `model::is_chain` meets its contract: one answer for each check.
+-- `record_check::is_chain` meets its contract: one answer for each check.
 -- Assumes nothing.
 use Prim.Native.Nat.{ℕ, _≤_, _<_}
 use mathlib.Core.Path.{_≡_, sym, _∙_}
@@ -9,12 +9,12 @@ use borrow.Author.Needs.{needs}
 use lib.Dec.{eqb}
 use lib.ListN.{length, getD}
 use Rattle.nameset.specs.Places.{places}
 use Rattle.model.specs.declared.Model.{Model}
 use Rattle.model.specs.Record.{none}
 use Rattle.model.specs.Check.{allBelow, anyBelow, allPlaced, allNamed, allKnown, isChain}
-use Rattle.model.proofs.Chain.{sized, used-named}
-use Rattle.model.proofs.is_chain.Statement.{statement}
-use Rattle.model.proofs.is_chain.Tie as tie
+use Rattle.record_check.proofs.Checks.{sized, used-named}
+use Rattle.record_check.proofs.is_chain.Statement.{statement}
+use Rattle.record_check.proofs.is_chain.Tie as tie
 
 module _ (n : ℕ) (m : Model) (f : length (m .factor) ≡ places) (g : length (m .mode) ≡ places) where
   few : places < m .count → isChain places n m ≡ false

@@ -1,0 +1,123 @@
+// Whether a model record is a chain.
+ghost use Prim.Native.Nat.{ℕ, _≤_, _<_};
+ghost use mathlib.Core.Path.{_≡_};
+ghost use mathlib.Core.Bool.{_||_};
+ghost use lib.Dec.{eqb};
+ghost use lib.ListN.{length, getD};
+ghost use Rattle.nameset.specs.Places.{places};
+ghost use Rattle.nameset.specs.Set.{member};
+ghost use Rattle.model.specs.Record.{none};
+ghost use Rattle.model.specs.Check.{allBelow, anyBelow, mayHold, mayBe, allPlaced, allKnown, isChain};
+use model::Model;
+use model::NONE;
+use model::entry;
+use nameset::NameSet;
+use nameset::PLACES;
+
+// Whether v may be the entry of a number, which is a name's or not.
+fn may_hold(count: usize, named: bool, v: u8) -> bool
+    ensures { λ r. ⌜ r ≡ mayHold count named v ⌝ }
+{
+    if named {
+        if v == NONE {
+            true
+        } else {
+            (v as usize) < count
+        }
+    } else {
+        v == NONE
+    }
+}
+
+// Whether each number has an entry that it may have.
+fn all_placed(n: usize, count: usize, factor: &[u8]) -> bool
+    ensures { λ r. ⌜ r ≡ allPlaced (length (now (factor .entry))) n count (now (factor .entry)) ⌝ }
+{
+    let mut x = 0;
+    while x < factor.len() {
+        if !may_hold(count, x < n, entry(factor, x, NONE)) {
+            return false;
+        }
+        x += 1;
+    }
+    true
+}
+
+// The set `used` with the factor v, if there is such a factor.
+fn with_factor(used: NameSet, count: usize, v: u8) -> NameSet
+    requires { ⌜ count ≤ places ⌝ }
+    ensures { λ r. ⌜ ((i : ℕ) → i < count → member r i ≡ (member used i || eqb v i)) ⌝ }
+{
+    if (v as usize) < count {
+        used.with(v as usize)
+    } else {
+        used
+    }
+}
+
+// The factors that hold a name.
+fn used_factors(count: usize, factor: &[u8]) -> NameSet
+    requires { ⌜ count ≤ places ⌝ }
+    ensures { λ r. ⌜ ((i : ℕ) → i < count → member r i ≡ anyBelow (length (now (factor .entry))) (λ x. eqb (getD (now (factor .entry)) x none) i)) ⌝ }
+{
+    let mut used = NameSet::empty();
+    let mut x = 0;
+    while x < factor.len() {
+        used = with_factor(used, count, entry(factor, x, NONE));
+        x += 1;
+    }
+    used
+}
+
+// Whether every factor is in the set.
+fn all_used(count: usize, used: NameSet) -> bool
+    requires { ⌜ count ≤ places ⌝ }
+    ensures { λ r. ⌜ r ≡ allBelow count (member used) ⌝ }
+{
+    let mut i = 0;
+    while i < count {
+        if !used.has(i) {
+            return false;
+        }
+        i += 1;
+    }
+    true
+}
+
+// Whether a mode may be that of a factor, which the record has or not.
+fn may_be(has: bool, mode: u8) -> bool
+    ensures { λ r. ⌜ r ≡ mayBe has mode ⌝ }
+{
+    if has { mode <= 3 } else { mode == 0 }
+}
+
+// Whether each factor has a mode that it may have.
+fn all_known(count: usize, mode: &[u8]) -> bool
+    ensures { λ r. ⌜ r ≡ allKnown (length (now (mode .entry))) count (now (mode .entry)) ⌝ }
+{
+    let mut i = 0;
+    while i < mode.len() {
+        if !may_be(i < count, entry(mode, i, 0)) {
+            return false;
+        }
+        i += 1;
+    }
+    true
+}
+
+// Whether the record is a chain over n names.
+pub fn is_chain(n: usize, m: Model) -> bool
+    ensures { λ r. ⌜ r ≡ isChain places n m ⌝ }
+{
+    let count = m.count;
+    if PLACES < count {
+        return false;
+    }
+    if !all_placed(n, count, &m.factor) {
+        return false;
+    }
+    if !all_used(count, used_factors(count, &m.factor)) {
+        return false;
+    }
+    all_known(count, &m.mode)
+}
