@@ -36,7 +36,7 @@ fn print_parent(bytes: &[u8], layout: Layout, parent: usize)
 }
 
 fn with_pair(facts: Facts) -> Facts {
-    follow::add_word(facts, b"\x02\x00")
+    adding::after_word(facts, b"\x02\x00")
 }
 
 fn print_parents(bytes: &[u8], layout: Layout)

@@ -6,15 +6,15 @@ use Rattle.book.specs.Book.{allBelow}
 use Rattle.follow_test.proofs.with_pair.Statement.{statement}
 use Rattle.follow_test.proofs.with_pair.Tie as tie
 
-slice-aggregate-add-word : tie.Need-slice-aggregate-add-word
-slice-aggregate-add-word c = search needs
+slice-aggregate-after-word : tie.Need-slice-aggregate-after-word
+slice-aggregate-after-word c = search needs
 
-add-word-requires : tie.Need-add-word-requires
+after-word-requires : tie.Need-after-word-requires
 unfolding allBelow
-add-word-requires c κs = refl
+after-word-requires c κs = refl
 
 returns : tie.Need-returns
 returns c = search needs
 
 pub with-pair-spec : {M : Type 1} → statement M
-with-pair-spec = tie.close (tie.spec slice-aggregate-add-word add-word-requires returns)
+with-pair-spec = tie.close (tie.spec slice-aggregate-after-word after-word-requires returns)
