@@ -53,7 +53,7 @@ fn read_factors(bytes: &[u8], layout: Layout, text: &[u8], at: usize, parent: us
     let mut index = 0;
     let mut i = at;
     while i < text.len() {
-        let piece = scan::piece_at(text, i);
+        let piece = cursor::piece_at(text, i);
         let free = rows::place_piece(&mut factor, bytes, layout, text, piece, index);
         rows::put_mode(&mut mode, index, rows::mode_of(piece.kind));
         index = rows::next_index(piece.kind, index);
@@ -78,7 +78,7 @@ fn read_model(bytes: &[u8], layout: Layout, text: &[u8], at: usize, parent: usiz
     requires { ⌜ LaidOut (now bytes) layout × (at ≤ length (now text)) ⌝ }
     ensures { λ r. ⌜ r ≡ declarationOf (contentAnswer places (namesIn (now (bytes .entry))) parent (tokensAt (now (text .entry)) at)) ⌝ }
 {
-    let piece = scan::piece_at(text, at);
+    let piece = cursor::piece_at(text, at);
     if piece.kind == WORD {
         return Declaration {
             outcome: Outcome::Done,
@@ -97,7 +97,7 @@ fn read_tokens(bytes: &[u8], layout: Layout, text: &[u8], at: usize) -> Declarat
     requires { ⌜ LaidOut (now bytes) layout × (at ≤ length (now text)) ⌝ }
     ensures { λ r. ⌜ r ≡ declarationOf (tokensAnswer places (namesIn (now (bytes .entry))) (tokensAt (now (text .entry)) at)) ⌝ }
 {
-    let piece = scan::piece_at(text, at);
+    let piece = cursor::piece_at(text, at);
     if piece.kind != WORD {
         return refused(Refusal::NotADeclaration);
     }

@@ -53,7 +53,7 @@ pub fn all_known(bytes: &[u8], layout: Layout, text: &[u8], at: usize) -> bool
 {
     let mut i = at;
     while i < text.len() {
-        let piece = scan::piece_at(text, i);
+        let piece = cursor::piece_at(text, i);
         if !known_piece(bytes, layout, text, piece) {
             return false;
         }
