@@ -8,8 +8,8 @@ ghost use Rattle.scan.specs.Piece.{spaceEnd, pieceFrom, pieceAt};
 
 // The text, and the place of its next unread byte.
 pub struct Cursor<'a> {
-    pub text: &'a [u8],
-    pub at: usize,
+    text: &'a [u8],
+    at: usize,
 }
 
 // A cursor that stands at a place of a text.
@@ -35,12 +35,12 @@ pub fn past_spaces<'a>(c: Cursor<'a>) -> Cursor<'a>
     Cursor { text: c.text, at }
 }
 
-// The token at the cursor, which begins with this byte; the white space before it begins at `start`.
-pub fn piece_here<'a>(c: Cursor<'a>, start: usize, next: usize) -> Piece
-    requires { ⌜ (c .at ≤ length (now (c .text))) × (next ≡ nextOf (drop (c .at) (now (c .text)))) × (next ≤ endOfText) ⌝ }
+// The token at the cursor, which begins with the byte `first`; the white space before it begins at `start`.
+pub fn piece_here<'a>(c: Cursor<'a>, start: usize, first: usize) -> Piece
+    requires { ⌜ (c .at ≤ length (now (c .text))) × (first ≡ nextOf (drop (c .at) (now (c .text)))) × (first ≤ endOfText) ⌝ }
     ensures { λ r. ⌜ (r ≡ pieceFrom (now (c .entry .text)) start (c .entry .at)) × (r .to ≤ length (now (c .entry .text))) ⌝ }
 {
-    scan::piece_from(c.text, start, c.at, next)
+    scan::piece_from(c.text, start, c.at, first)
 }
 
 // The next token from a place on, and the white space before it.

@@ -103,13 +103,13 @@ fn token_end(text: &[u8], from: usize, next: usize) -> usize
     if from < text.len() { from + 1 } else { from }
 }
 
-// The token that begins at a place with this byte; the white space before it begins at `at`.
-pub fn piece_from(text: &[u8], at: usize, from: usize, next: usize) -> Piece
-    requires { ⌜ (from ≤ length (now text)) × (next ≡ nextOf (drop from (now text))) × (next ≤ endOfText) ⌝ }
+// The token that begins at `from` with the byte `first`, where the white space before it begins at `at`.
+pub fn piece_from(text: &[u8], at: usize, from: usize, first: usize) -> Piece
+    requires { ⌜ (from ≤ length (now text)) × (first ≡ nextOf (drop from (now text))) × (first ≤ endOfText) ⌝ }
     ensures { λ r. ⌜ (r ≡ pieceFrom (now (text .entry)) at from) × (r .to ≤ length (now (text .entry))) ⌝ }
 {
-    let kind = kind_of(next);
-    let to = token_end(text, from, next);
+    let kind = kind_of(first);
+    let to = token_end(text, from, first);
     Piece {
         gap: at < from,
         kind,

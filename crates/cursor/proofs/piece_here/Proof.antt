@@ -57,28 +57,28 @@ module _ {M : Type 1} (𝓤 : URA M) (H : Heap 𝓤) (A : Atoms 𝓤) (mem : Mem
   abbrev PieceFrom : Contract 𝓤
   PieceFrom = tripleOf 𝓤 H A piece.signature (piece.spec 𝓤 H A mem run)
 
-module _ {M : Type 1} (𝓤 : URA M) (H : Heap 𝓤) (A : Atoms 𝓤) (W : Given 𝓤 H A) (mem : Memory → SProp 𝓤) (run : Routine → Fun 𝓤) (κ : Lft) (q : Share) (c : Cursor) (start next : ℕ) (start-fits : start < 2 ^ 64) (next-fits : next < 2 ^ 64) where
+module _ {M : Type 1} (𝓤 : URA M) (H : Heap 𝓤) (A : Atoms 𝓤) (W : Given 𝓤 H A) (mem : Memory → SProp 𝓤) (run : Routine → Fun 𝓤) (κ : Lft) (q : Share) (c : Cursor) (start first : ℕ) (start-fits : start < 2 ^ 64) (first-fits : first < 2 ^ 64) where
   abbrev Own : Fml
   Own = CursorT κ .own c (whole c ∷ [])
 
   -- what both contracts ask, and what both promise of the piece
   abbrev Begins : Type 0
-  Begins = (c .at ≤ length (now (c .text))) × (next ≡ nextOf (skipping (c .at) (now (c .text)))) × (next ≤ endOfText)
+  Begins = (c .at ≤ length (now (c .text))) × (first ≡ nextOf (skipping (c .at) (now (c .text)))) × (first ≤ endOfText)
 
   abbrev Found : Piece → Type 0
   Found p = (p ≡ pieceFrom (now (c .text)) start (c .at)) × (p .to ≤ length (now (c .text)))
 
   abbrev at-entry : Vals f.signature (κ, tt)
-  at-entry = (whole c ∷ [], (vint w64 start ∷ [], (vint w64 next ∷ [], tt)))
+  at-entry = (whole c ∷ [], (vint w64 start ∷ [], (vint w64 first ∷ [], tt)))
 
   abbrev Post : Val → SProp 𝓤
-  Post = walkOf 𝓤 H A f.ended stayed (f.clauses 𝓤 H A mem run) .post (((κ, tt), (q, tt), tt, (c, (start, (next, tt))), at-entry), tt)
+  Post = walkOf 𝓤 H A f.ended stayed (f.clauses 𝓤 H A mem run) .post (((κ, tt), (q, tt), tt, (c, (start, (first, tt))), at-entry), tt)
 
   abbrev passed : Args piece.signature (κ, tt)
-  passed = (c .text, (start, (c .at, (next, tt))))
+  passed = (c .text, (start, (c .at, (first, tt))))
 
   abbrev vals : Vals piece.signature (κ, tt)
-  vals = (bytes (c .text) ∷ [], (vint w64 start ∷ [], (vint w64 (c .at) ∷ [], (vint w64 next ∷ [], tt))))
+  vals = (bytes (c .text) ∷ [], (vint w64 start ∷ [], (vint w64 (c .at) ∷ [], (vint w64 first ∷ [], tt))))
 
   abbrev to : PieceFrom 𝓤 H A mem run .Ghost
   to = (((κ, tt), (q, tt), tt, passed, vals), tt)
@@ -87,11 +87,11 @@ module _ {M : Type 1} (𝓤 : URA M) (H : Heap 𝓤) (A : Atoms 𝓤) (W : Given
     asked : ent 𝓤 (onEntry 𝓤 H A piece.signature (κ, tt) (q, tt) passed vals) (PieceFrom 𝓤 H A mem run .pre to)
     asked = qed W ((‵ (flft κ q) ⊛ ‵ ftrue) ∷ ‵ (owns (Text κ ∷ usize ∷ usize ∷ usize ∷ []) passed vals) ∷ []) ∵ says ! begins $ frame ! $ done !
 
-    apart : c .at < 2 ^ 64 → ent 𝓤 (onEntry 𝓤 H A f.signature (κ, tt) (q, tt) (c, (start, (next, tt))) at-entry) (sep 𝓤 (PieceFrom 𝓤 H A mem run .pre to) (sem 𝓤 H A Own))
+    apart : c .at < 2 ^ 64 → ent 𝓤 (onEntry 𝓤 H A f.signature (κ, tt) (q, tt) (c, (start, (first, tt))) at-entry) (sep 𝓤 (PieceFrom 𝓤 H A mem run .pre to) (sem 𝓤 H A Own))
     apart fits =
-        qed W ((‵ (flft κ q) ⊛ ‵ ftrue) ∷ ‵ (owns (CursorT κ ∷ usize ∷ usize ∷ []) (c, (start, (next, tt))) at-entry) ∷ []) ∵ move ! (1 ∷ []) $ fsplit ! $ move ! (1 ∷ []) $ drop ! $
+        qed W ((‵ (flft κ q) ⊛ ‵ ftrue) ∷ ‵ (owns (CursorT κ ∷ usize ∷ usize ∷ []) (c, (start, (first, tt))) at-entry) ∷ []) ∵ move ! (1 ∷ []) $ fsplit ! $ move ! (1 ∷ []) $ drop ! $
         use1 W (‵ (Text κ .own (c .text) (bytes (c .text) ∷ [])) ⊛ ‵ Own) (text-out 𝓤 H A W κ c) $ split ! $
-        nothing ! $ owned ! usize (Is usize) (uint-makes 𝓤 H A W w64) next _ (refl, next-fits) $ fjoin ! $ owned ! usize (Is usize) (uint-makes 𝓤 H A W w64) (c .at) _ (refl, fits) $ fjoin ! $
+        nothing ! $ owned ! usize (Is usize) (uint-makes 𝓤 H A W w64) first _ (refl, first-fits) $ fjoin ! $ owned ! usize (Is usize) (uint-makes 𝓤 H A W w64) (c .at) _ (refl, fits) $ fjoin ! $
         owned ! usize (Is usize) (uint-makes 𝓤 H A W w64) start _ (refl, start-fits) $ fjoin ! $ move ! (1 ∷ 0 ∷ []) $ fjoin ! $ move ! (2 ∷ 0 ∷ []) $ use2 W (raw (PieceFrom 𝓤 H A mem run .pre to)) asked $ frame ! $ done !
 
   said : (p : Piece) → ent 𝓤 (ensured 𝓤 H A piece.ended (piece.clauses 𝓤 H A mem run) (κ, tt) passed tt p) (fact 𝓤 (Found p))
@@ -100,19 +100,19 @@ module _ {M : Type 1} (𝓤 : URA M) (H : Heap 𝓤) (A : Atoms 𝓤) (W : Given
   exits : (p : Piece) (v : Val) → Found p → ent 𝓤 (⋆ 𝓤 H A (‵ (S.the-row .own p (v ∷ [])) ∷ (‵ (flft κ q) ⊛ ‵ ftrue) ∷ ‵ Own ∷ [])) (Post v)
   exits p v e =
       qed W (‵ (S.the-row .own p (v ∷ [])) ∷ (‵ (flft κ q) ⊛ ‵ ftrue) ∷ ‵ Own ∷ []) ∵
-      suffices ! _ (ends-at 𝓤 H A f.ended stayed (f.clauses 𝓤 H A mem run) W (((κ, tt), (q, tt), tt, (c, (start, (next, tt))), at-entry), tt) v p (tt, (tt, (tt, tt))) (tt, (tt, (tt, tt)))) $ says ! e $ move ! (1 ∷ []) $ frame ! $
-      nothing ! $ owned ! usize (Is usize) (uint-makes 𝓤 H A W w64) next _ (refl, next-fits) $ fjoin ! $ owned ! usize (Is usize) (uint-makes 𝓤 H A W w64) start _ (refl, start-fits) $ fjoin ! $ move ! (2 ∷ 0 ∷ []) $ fjoin ! $ frame ! $ done !
+      suffices ! _ (ends-at 𝓤 H A f.ended stayed (f.clauses 𝓤 H A mem run) W (((κ, tt), (q, tt), tt, (c, (start, (first, tt))), at-entry), tt) v p (tt, (tt, (tt, tt))) (tt, (tt, (tt, tt)))) $ says ! e $ move ! (1 ∷ []) $ frame ! $
+      nothing ! $ owned ! usize (Is usize) (uint-makes 𝓤 H A W w64) first _ (refl, first-fits) $ fjoin ! $ owned ! usize (Is usize) (uint-makes 𝓤 H A W w64) start _ (refl, start-fits) $ fjoin ! $ move ! (2 ∷ 0 ∷ []) $ fjoin ! $ frame ! $ done !
 
   module _ (C : Calls 𝓤 H) (Λ : Loops 𝓤 H) (fm : FmC 𝓤 H (W .laws) C) (known : Triple 𝓤 (C #scan·piece-from) (PieceFrom 𝓤 H A mem run)) where
-    walk : Is (CursorT κ) c (whole c ∷ []) → Begins → ent 𝓤 (onEntry 𝓤 H A f.signature (κ, tt) (q, tt) (c, (start, (next, tt))) at-entry) (WpFn 𝓤 H C Λ code.function (whole c ∷ vint w64 start ∷ vint w64 next ∷ []) Post)
+    walk : Is (CursorT κ) c (whole c ∷ []) → Begins → ent 𝓤 (onEntry 𝓤 H A f.signature (κ, tt) (q, tt) (c, (start, (first, tt))) at-entry) (WpFn 𝓤 H C Λ code.function (whole c ∷ vint w64 start ∷ vint w64 first ∷ []) Post)
     walk is begins =
         let wt = typed 𝓤 H A W κ (named 0) c (whole c) is in
-        qed W (raw (onEntry 𝓤 H A f.signature (κ, tt) (q, tt) (c, (start, (next, tt))) at-entry) ∷ []) ∵ enter ! C Λ code.function (whole c ∷ vint w64 start ∷ vint w64 next ∷ []) _ $
+        qed W (raw (onEntry 𝓤 H A f.signature (κ, tt) (q, tt) (c, (start, (first, tt))) at-entry) ∷ []) ∵ enter ! C Λ code.function (whole c ∷ vint w64 start ∷ vint w64 first ∷ []) _ $
         alloc1 ! (λ l₀. alloc1 ! (λ l₁. alloc1 ! (λ l₂. alloc1 ! (λ l₃. alloc1 ! (λ l₄. alloc1 ! (λ l₅. alloc0 ! $ params1 ! $
-        pass1 ! (init ! 8 refl wt) $ pass1 ! (init ! 6 refl (tt, record { fits = start-fits })) $ pass1 ! (init ! 4 refl (tt, record { fits = next-fits })) $ pass0 ! $
+        pass1 ! (init ! 8 refl wt) $ pass1 ! (init ! 6 refl (tt, record { fits = start-fits })) $ pass1 ! (init ! 4 refl (tt, record { fits = first-fits })) $ pass0 ! $
         assigns ! (of-opd ! (load ! (from ! (fld ! refl (stop !))) (look-in ! 8 (sub ! 0 refl (all !))))) (from ! (stop !)) (init ! 2 refl (tt, wt .1 .0)) $
         assigns ! (of-opd ! (load ! (from ! (fld ! refl (stop !))) (look-in ! 8 (sub ! 1 refl (all !))))) (from ! (stop !)) (init ! 0 refl (tt, wt .1 .1 .0)) $
-        -- [the cursor's place; …; its text; …; next; …; start; …; the cursor; …; room for the piece; …; what stands on entry]
+        -- [the cursor's place; …; its text; …; first; …; start; …; the cursor; …; room for the piece; …; what stands on entry]
         move ! (12 ∷ []) $ use1 W (raw (PieceFrom 𝓤 H A mem run .pre to) ⊛ ‵ Own) (apart begins (wt .1 .1 .0 .fits)) $ split ! $
         calls-at ! fm (PieceFrom 𝓤 H A mem run) known to (and-then ! (load ! (from ! (stop !)) (look ! 4 refl)) (and-then ! (load ! (from ! (stop !)) (look ! 8 refl)) (and-then ! (load ! (from ! (stop !)) (look ! 2 refl)) (and-then ! (load ! (from ! (stop !)) (look ! 6 refl)) (no-more !))))) (λ v.
         use1 W (later (some (λ (p : Piece). ((‵ (flft κ q) ⊛ ‵ ftrue) ⊛ ‵ (S.the-row .own p (v ∷ []))) ⊛ raw (ensured 𝓤 H A piece.ended (piece.clauses 𝓤 H A mem run) (κ, tt) passed tt p)))) (id⊢ 𝓤 _) $ await ! tt $ pick ! (λ p.

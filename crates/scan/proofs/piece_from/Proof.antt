@@ -8,7 +8,7 @@ kind-of-requires : tie.Need-kind-of-requires
 kind-of-requires c κs = c .before .pre .2
 
 token-end-requires : tie.Need-token-end-requires
-token-end-requires c κs = c .before .before .pre
+token-end-requires c κs = (c .before .before .pre .0, c .before .before .pre .1, c .before .before .pre .2)
 
 returns : tie.Need-returns
 returns c = (piece-is (c .before .before .before .args .text .now) _ _ _ _ _ (c .before .before .before .pre .1) (c .before .kind-of .ensures) (c .token-end .ensures .0), c .token-end .ensures .1)
