@@ -138,7 +138,7 @@ fn walks(text: &[u8], at: usize) -> bool
     let mut state = 0;
     let mut behind = true;
     while i < text.len() {
-        let piece = scan::piece_at(text, i);
+        let piece = cursor::piece_at(text, i);
         if text.len() <= piece.from {
             return false;
         }

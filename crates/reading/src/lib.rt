@@ -61,7 +61,7 @@ fn read_factors(bytes: &[u8], layout: Layout, text: &[u8], at: usize, parent: us
     let mut index = 0;
     let mut i = at;
     while i < text.len() {
-        let piece = scan::piece_at(text, i);
+        let piece = cursor::piece_at(text, i);
         let x = lookup::number_at(bytes, layout, text, piece);
         if x == PLACES {
             return refused(Refusal::UnknownName);
@@ -90,7 +90,7 @@ fn read_model(bytes: &[u8], layout: Layout, text: &[u8], at: usize, parent: usiz
     requires { ⌜ LaidOut (now bytes) layout × (at ≤ length (now text)) ⌝ }
     ensures { λ r. ⌜ r ≡ declarationOf (contentAnswer places (namesIn (now (bytes .entry))) parent (tokensAt (now (text .entry)) at)) ⌝ }
 {
-    let piece = scan::piece_at(text, at);
+    let piece = cursor::piece_at(text, at);
     if piece.kind == WORD {
         return Declaration {
             outcome: Outcome::Done,
@@ -106,7 +106,7 @@ fn read_tokens(bytes: &[u8], layout: Layout, text: &[u8], at: usize) -> Declarat
     requires { ⌜ LaidOut (now bytes) layout × (at ≤ length (now text)) ⌝ }
     ensures { λ r. ⌜ r ≡ declarationOf (tokensAnswer places (namesIn (now (bytes .entry))) (tokensAt (now (text .entry)) at)) ⌝ }
 {
-    let piece = scan::piece_at(text, at);
+    let piece = cursor::piece_at(text, at);
     if piece.kind != WORD {
         return refused(Refusal::NotADeclaration);
     }

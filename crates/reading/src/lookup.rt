@@ -34,7 +34,7 @@ pub fn all_known(bytes: &[u8], layout: Layout, text: &[u8], at: usize) -> bool
 {
     let mut i = at;
     while i < text.len() {
-        let piece = scan::piece_at(text, i);
+        let piece = cursor::piece_at(text, i);
         if number_at(bytes, layout, text, piece) == PLACES {
             return false;
         }

@@ -13,7 +13,7 @@ use Rattle.name.specs.Class.{laterByte}
 use Rattle.spelling.specs.Token.{isSpace, word}
 use Rattle.spelling.specs.Form.{Cut, sign, atFront, cut}
 use Rattle.scan.specs.Unread.{nextOf, runOf, kindOf}
-use Rattle.scan.specs.Piece.{tokenLength, wordEnd, spaceEnd, pieceAt, tokenOf}
+use Rattle.scan.specs.Piece.{tokenLength, wordEnd, spaceEnd, pieceFrom, pieceAt, tokenOf}
 use Rattle.scan.proofs.Runs.{next-here, run-there, later-end}
 use Rattle.scan.proofs.Cuts.{some-of, cut-spaces, cut-sign, cut-word}
 
@@ -39,10 +39,9 @@ end-over s from h = rw (drop-of-length-le s h) (omega arith)
 
 -- ---- the next piece
 
-pub piece-is : (s : List ℕ) (at from n kind to : ℕ) → from ≡ at + runOf isSpace (drop at s) → n ≡ nextOf (drop from s) → kind ≡ kindOf n → to ≡ wordEnd s from →
-    record { gap = ltb at from; kind = kind; from = from; to = to } ≡ pieceAt s at
-unfolding pieceAt spaceEnd
-piece-is s at from n kind to a b c d = rw (d, c, b, a)
+pub piece-is : (s : List ℕ) (at from n kind to : ℕ) → n ≡ nextOf (drop from s) → kind ≡ kindOf n → to ≡ wordEnd s from →
+    record { gap = ltb at from; kind = kind; from = from; to = to } ≡ pieceFrom s at from
+piece-is s at from n kind to b c d = rw (d, c, b)
 
 some-gap : (at k : ℕ) → some-of k ≡ ltb at (at + k)
 unfolding some-of

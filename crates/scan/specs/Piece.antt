@@ -24,15 +24,13 @@ wordEnd text from = from + tokenLength (drop from text)
 unfoldable pub spaceEnd : List ℕ → ℕ → ℕ
 spaceEnd text at = at + runOf isSpace (drop at text)
 
+-- The token that begins at `from`, where the white space before it begins at `at`.
+abbrev pub pieceFrom : List ℕ → ℕ → ℕ → Piece
+pieceFrom text at from = record { gap = ltb at from; kind = kindOf (nextOf (drop from text)); from = from; to = wordEnd text from }
+
 -- The next token from a place on.
 unfoldable pub pieceAt : List ℕ → ℕ → Piece
-pieceAt text at =
-    record {
-      gap = ltb at (spaceEnd text at);
-      kind = kindOf (nextOf (drop (spaceEnd text at) text));
-      from = spaceEnd text at;
-      to = wordEnd text (spaceEnd text at);
-    }
+pieceAt text at = pieceFrom text at (spaceEnd text at)
 
 -- The token whose bytes these are: a word, or a sign.
 unfoldable pub tokenOf : List ℕ → Token

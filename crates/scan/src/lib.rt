@@ -6,7 +6,7 @@ ghost use lib.ListN.{length, drop};
 ghost use Rattle.name.specs.Class.{laterByte};
 ghost use Rattle.spelling.specs.Token.{isSpace};
 ghost use Rattle.scan.specs.Unread.{endOfText, nextOf, runOf, kindOf};
-ghost use Rattle.scan.specs.Piece.{wordEnd, pieceAt};
+ghost use Rattle.scan.specs.Piece.{wordEnd, pieceFrom};
 
 // What stands for the next byte at the end of a text.
 const END: usize = 256;
@@ -103,15 +103,13 @@ fn token_end(text: &[u8], from: usize, next: usize) -> usize
     if from < text.len() { from + 1 } else { from }
 }
 
-// The next token, and the white space before it.
-pub fn piece_at(text: &[u8], at: usize) -> Piece
-    requires { ⌜ at ≤ length (now text) ⌝ }
-    ensures { λ r. ⌜ (r ≡ pieceAt (now (text .entry)) at) × (r .to ≤ length (now (text .entry))) ⌝ }
+// The token that begins at `from` with the byte `first`, where the white space before it begins at `at`.
+pub fn piece_from(text: &[u8], at: usize, from: usize, first: usize) -> Piece
+    requires { ⌜ (from ≤ length (now text)) × (first ≡ nextOf (drop from (now text))) × (first ≤ endOfText) ⌝ }
+    ensures { λ r. ⌜ (r ≡ pieceFrom (now (text .entry)) at from) × (r .to ≤ length (now (text .entry))) ⌝ }
 {
-    let from = skip_spaces(text, at);
-    let next = next_unread(text, from);
-    let kind = kind_of(next);
-    let to = token_end(text, from, next);
+    let kind = kind_of(first);
+    let to = token_end(text, from, first);
     Piece {
         gap: at < from,
         kind,
