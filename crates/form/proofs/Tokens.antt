@@ -15,7 +15,7 @@ use Rattle.spelling.specs.Token.{Token, word, lpar, rpar, comma, bar, end, mark
 use Rattle.spelling.specs.Form.{sign}
 use Rattle.walk.specs.Walk.{signalOf, isWord, fitsAfter, goodToken}
 use Rattle.walk.proofs.Formed.{and-true}
-use Rattle.scan.specs.Unread.{nextOf, runOf, kindOf}
+use Rattle.scan.specs.Unread.{nextOf, runOf, signKind, kindOf}
 use Rattle.scan.specs.Piece.{tokenLength, wordEnd, tokenOf}
 use Rattle.scan.proofs.Runs.{next-here}
 use Rattle.form.specs.Step.{signals, kindFits, tokenAt}
@@ -38,7 +38,7 @@ last b true = (refl, λ bw gap. refl, refl, refl, omega arith, refl)
 last b false = (refl, λ bw gap. refl, refl, refl, omega arith, refl)
 
 signs : (b : ℕ) → laterByte b ≡ false → SignOf (kindOf b) (sign b)
-unfolding kindOf sign signals signalOf kindFits between fitsAfter goodToken isWord
+unfolding kindOf signKind sign signals signalOf kindFits between fitsAfter goodToken isWord
 signs b e =
     rw e
     (pick (eqb b 40) 2 _ lpar _ (refl, λ bw gap. refl, refl, refl, omega arith, refl)

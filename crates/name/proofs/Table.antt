@@ -26,3 +26,7 @@ table-length = entries 0 256
 pub table-entry : (byte : ℕ) → byte < 256 → getD classTable byte 0 ≡ classOf byte
 unfolding classTable
 table-entry byte h = entry 0 256 byte h ∙ ap classOf (zero-add byte)
+
+-- a table that is this one has an entry for each byte value
+pub whole-table : (table : List ℕ) → table ≡ classTable → 256 ≡ length table
+whole-table table e = sym (ap length e ∙ table-length)

@@ -9,7 +9,7 @@ use lib.ListN.{take}
 use Rattle.name.specs.Class.{laterByte}
 use Rattle.spelling.specs.Token.{Token, word, lpar, rpar, comma, bar, end, mark, other}
 use Rattle.spelling.specs.Form.{sign}
-use Rattle.scan.specs.Unread.{runOf, kindOf}
+use Rattle.scan.specs.Unread.{runOf, signKind, kindOf}
 use Rattle.scan.specs.Piece.{tokenLength, tokenOf}
 use Rattle.scan.proofs.Runs.{kind-word}
 
@@ -45,7 +45,7 @@ module _ {X : Type 0} (f : Token → X) (F : ℕ → List ℕ → X) (A : Agree 
   last w b false = A .others b w
 
   sign-kind : (w : List ℕ) (b : ℕ) → laterByte b ≡ false → f (sign b) ≡ F (kindOf b) w
-  unfolding sign kindOf
+  unfolding sign kindOf signKind
   sign-kind w b e =
       rw e
       (pick w (eqb b 40) lpar _ 2 _ (A .lpars w)

@@ -12,9 +12,9 @@ use borrow.Author.Tests.{lt-ltb, le-ltb}
 use Rattle.name.specs.Class.{laterByte}
 use Rattle.spelling.specs.Token.{isSpace, word}
 use Rattle.spelling.specs.Form.{Cut, sign, atFront, cut}
-use Rattle.scan.specs.Unread.{nextOf, runOf, kindOf}
+use Rattle.scan.specs.Unread.{nextOf, runOf, signKind, kindOf}
 use Rattle.scan.specs.Piece.{tokenLength, wordEnd, spaceEnd, pieceFrom, pieceAt, tokenOf}
-use Rattle.scan.proofs.Runs.{next-here, run-there, later-end}
+use Rattle.scan.proofs.Runs.{next-here, stop, stop-is, run-there, run-over, run-some, later-end, sign-no-word}
 use Rattle.scan.proofs.Cuts.{some-of, cut-spaces, cut-sign, cut-word}
 
 -- ---- where a token ends
@@ -32,6 +32,26 @@ module _ (s : List ℕ) (from n : ℕ) (is : n ≡ nextOf (drop from s)) where
   end-sign e h =
       let k : laterByte (getD s from 0) ≡ false = ap laterByte (next-here s from h ∙ sym is) ∙ e in
       rw (drop-cons s from 0 h, k)
+
+-- the place e where the run of name bytes at `from` ends tells whether a word begins there
+module _ (s : List ℕ) (from n : ℕ) (is : n ≡ nextOf (drop from s)) (e : ℕ) (ends : e ≡ from + runOf laterByte (drop from s)) where
+  pub word-here : from < e → laterByte n ≡ true
+  word-here h = go (laterByte n) refl
+    where
+      go : (k : Bool) → laterByte n ≡ k → k ≡ true
+      go true q = refl
+      go false q = let z : stop laterByte s from ≡ from = run-over laterByte later-end s from n is q in absurd (omega (arith, stop-is laterByte s from))
+
+  pub no-word-here : e ≤ from → laterByte n ≡ false
+  no-word-here h = go (laterByte n) refl
+    where
+      go : (k : Bool) → laterByte n ≡ k → k ≡ false
+      go true q = absurd (omega (arith, run-some laterByte later-end s from n is q, stop-is laterByte s from))
+      go false q = refl
+
+-- a sign begins no run of name bytes
+pub sign-run : (s : List ℕ) (from k : ℕ) → k ≡ signKind (nextOf (drop from s)) → (k ≡ 10 → ⊥) → from ≡ from + runOf laterByte (drop from s)
+sign-run s from k q d = sym (run-over laterByte later-end s from (nextOf (drop from s)) refl (sign-no-word (nextOf (drop from s)) (λ z. d (q ∙ z)))) ∙ stop-is laterByte s from
 
 pub end-over : (s : List ℕ) (from : ℕ) → length s ≤ from → from ≡ wordEnd s from
 unfolding wordEnd tokenLength

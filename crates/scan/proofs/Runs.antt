@@ -14,7 +14,7 @@ use borrow.Author.Tests.{eq-eqb, ne-eqb}
 use Rattle.name.specs.Class.{between, startByte, laterByte, classOf}
 use Rattle.name.proofs.Classes.{class-neither, class-later}
 use Rattle.spelling.specs.Token.{isSpace}
-use Rattle.scan.specs.Unread.{endOfText, nextOf, runOf, kindOf}
+use Rattle.scan.specs.Unread.{endOfText, nextOf, runOf, signKind, kindOf}
 
 -- ---- the next byte
 
@@ -81,28 +81,55 @@ module _ (test : ℕ → Bool) (none : test endOfText ≡ false) (s : List ℕ) 
           rw (drop-cons s i 0 h, q) (omega arith)
       go (no h) = let k : length s ≤ i = omega arith in rw (drop-of-length-le s k) (omega arith)
 
+  -- the run is not empty where its first byte passes the test
+  pub run-some : test n ≡ true → i < stop test s i
+  unfolding stop
+  run-some e = let q : stop test s i ≡ stop test s (i + 1) = run-on e in omega arith
+
 -- ---- the kind of a token
 
 pub kind-word : (n : ℕ) → laterByte n ≡ true → 1 ≡ kindOf n
 unfolding kindOf
 kind-word n e = rw e
 
+pub kind-sign : (n k : ℕ) → laterByte n ≡ false → k ≡ signKind n → k ≡ kindOf n
+unfolding kindOf
+kind-sign n k e q = rw e q
+
 -- the kinds of the signs and of the end
 abbrev pub Kinds : List ℕ → ℕ → Type 0
 Kinds [] k = Unit {0}
-Kinds (b ∷ bs) k = (k ≡ kindOf b) × Kinds bs (suc k)
+Kinds (b ∷ bs) k = (k ≡ signKind b) × Kinds bs (suc k)
 
 pub sign-kinds : Kinds (40 ∷ 41 ∷ 44 ∷ 124 ∷ 62 ∷ 63 ∷ 43 ∷ 42 ∷ []) 2
-unfolding kindOf laterByte startByte between
+unfolding signKind
 sign-kinds = (refl, (refl, (refl, (refl, (refl, (refl, (refl, (refl, tt))))))))
 
+pub end-sign-kind : 0 ≡ signKind 256
+unfolding signKind
+end-sign-kind = refl
+
 pub end-kind : 0 ≡ kindOf 256
-unfolding kindOf laterByte startByte between
-end-kind = refl
+end-kind = kind-sign 256 0 later-end end-sign-kind
 
-pub kind-at : (n k v : ℕ) → n ≡ k → v ≡ kindOf k → v ≡ kindOf n
-kind-at n k v e q = q ∙ ap kindOf (sym e)
+pub kind-at : (n k v : ℕ) → n ≡ k → v ≡ signKind k → v ≡ signKind n
+kind-at n k v e q = q ∙ ap signKind (sym e)
 
-pub kind-other : (n : ℕ) → laterByte n ≡ false → (n ≡ 40 → ⊥) → (n ≡ 41 → ⊥) → (n ≡ 44 → ⊥) → (n ≡ 124 → ⊥) → (n ≡ 62 → ⊥) → (n ≡ 63 → ⊥) → (n ≡ 43 → ⊥) → (n ≡ 42 → ⊥) → (n ≡ 256 → ⊥) → 10 ≡ kindOf n
-unfolding kindOf
-kind-other n e a b c d f g h i j = rw (e, ne-eqb n 40 a, ne-eqb n 41 b, ne-eqb n 44 c, ne-eqb n 124 d, ne-eqb n 62 f, ne-eqb n 63 g, ne-eqb n 43 h, ne-eqb n 42 i, ne-eqb n 256 j)
+pub kind-other : (n : ℕ) → (n ≡ 40 → ⊥) → (n ≡ 41 → ⊥) → (n ≡ 44 → ⊥) → (n ≡ 124 → ⊥) → (n ≡ 62 → ⊥) → (n ≡ 63 → ⊥) → (n ≡ 43 → ⊥) → (n ≡ 42 → ⊥) → (n ≡ 256 → ⊥) → 10 ≡ signKind n
+unfolding signKind
+kind-other n a b c d f g h i j = rw (ne-eqb n 40 a, ne-eqb n 41 b, ne-eqb n 44 c, ne-eqb n 124 d, ne-eqb n 62 f, ne-eqb n 63 g, ne-eqb n 43 h, ne-eqb n 42 i, ne-eqb n 256 j)
+
+-- no sign is a name byte
+other-byte : (n k : ℕ) → laterByte n ≡ true → laterByte k ≡ false → n ≡ k → ⊥
+other-byte n k e f q = false≢true (sym f ∙ ap laterByte (sym q) ∙ e)
+
+pub word-no-sign : (n : ℕ) → laterByte n ≡ true → 10 ≡ signKind n
+unfolding laterByte startByte between
+word-no-sign n e = kind-other n (other-byte n 40 e refl) (other-byte n 41 e refl) (other-byte n 44 e refl) (other-byte n 124 e refl) (other-byte n 62 e refl) (other-byte n 63 e refl) (other-byte n 43 e refl) (other-byte n 42 e refl) (other-byte n 256 e refl)
+
+pub sign-no-word : (n : ℕ) → (signKind n ≡ 10 → ⊥) → laterByte n ≡ false
+sign-no-word n d = go (laterByte n) refl
+  where
+    go : (k : Bool) → laterByte n ≡ k → k ≡ false
+    go true e = absurd (d (sym (word-no-sign n e)))
+    go false e = refl

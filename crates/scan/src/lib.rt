@@ -1,11 +1,11 @@
 // Steps along a text: its next unread byte, white space, a run of name bytes, a token.
 ghost use mathlib.Core.Path.{_≡_};
-ghost use mathlib.Core.Bool.{Bool};
+ghost use mathlib.Core.Bool.{Bool, false};
 ghost use Prim.Native.Nat.{_+_, _≤_};
 ghost use lib.ListN.{length, drop};
-ghost use Rattle.name.specs.Class.{laterByte};
+ghost use Rattle.name.specs.Class.{laterByte, classTable};
 ghost use Rattle.spelling.specs.Token.{isSpace};
-ghost use Rattle.scan.specs.Unread.{endOfText, nextOf, runOf, kindOf};
+ghost use Rattle.scan.specs.Unread.{endOfText, nextOf, runOf, signKind};
 ghost use Rattle.scan.specs.Piece.{wordEnd, pieceFrom};
 
 // What stands for the next byte at the end of a text.
@@ -38,12 +38,12 @@ fn is_space(next: usize) -> bool
     next == 32
 }
 
-// Whether the next byte may stand in a name.
-fn is_name_byte(next: usize) -> bool
-    requires { ⌜ next ≤ endOfText ⌝ }
+// Whether the next byte may stand in a name, by the table of classes.
+fn is_name_byte(classes: &[u8], next: usize) -> bool
+    requires { ⌜ (now classes ≡ classTable) × (next ≤ endOfText) ⌝ }
     ensures { λ r. ⌜ r ≡ laterByte next ⌝ }
 {
-    if next < END { name::class_of(next as u8) != 0 } else { false }
+    if next < END { name::class_in(classes, next as u8) != 0 } else { false }
 }
 
 // The first place from `at` on that holds no white space.
@@ -63,21 +63,18 @@ pub fn skip_name(text: &[u8], at: usize) -> usize
     requires { ⌜ at ≤ length (now text) ⌝ }
     ensures { λ r. ⌜ (r ≡ at + runOf laterByte (drop at (now (text .entry)))) × (r ≤ length (now (text .entry))) ⌝ }
 {
+    let classes = name::class_table();
     let mut i = at;
-    while is_name_byte(next_unread(text, i)) {
+    while is_name_byte(&classes, next_unread(text, i)) {
         i += 1;
     }
     i
 }
 
-// The kind of the token that begins with a byte.
-pub fn kind_of(next: usize) -> u8
-    requires { ⌜ next ≤ endOfText ⌝ }
-    ensures { λ r. ⌜ r ≡ kindOf next ⌝ }
+// The kind of a token that is no word, by its first byte.
+fn sign_kind(next: usize) -> u8
+    ensures { λ r. ⌜ r ≡ signKind next ⌝ }
 {
-    if is_name_byte(next) {
-        return WORD;
-    }
     match next {
         40 => 2,
         41 => 3,
@@ -92,14 +89,22 @@ pub fn kind_of(next: usize) -> u8
     }
 }
 
-// Where the token ends that begins at a place with this byte.
-fn token_end(text: &[u8], from: usize, next: usize) -> usize
-    requires { ⌜ (from ≤ length (now text)) × (next ≡ nextOf (drop from (now text))) × (next ≤ endOfText) ⌝ }
+// Where the run of name bytes at a place ends. None begins with a sign, so the table of classes is made for the others alone.
+fn run_end(text: &[u8], from: usize, sign: u8) -> usize
+    requires { ⌜ (from ≤ length (now text)) × (sign ≡ signKind (nextOf (drop from (now text)))) ⌝ }
+    ensures { λ r. ⌜ (r ≡ from + runOf laterByte (drop from (now (text .entry)))) × (r ≤ length (now (text .entry))) ⌝ }
+{
+    if sign != OTHER {
+        return from;
+    }
+    skip_name(text, from)
+}
+
+// Where the token at a place ends that is no word.
+fn sign_end(text: &[u8], from: usize) -> usize
+    requires { ⌜ (from ≤ length (now text)) × (laterByte (nextOf (drop from (now text))) ≡ false) ⌝ }
     ensures { λ r. ⌜ (r ≡ wordEnd (now (text .entry)) from) × (r ≤ length (now (text .entry))) ⌝ }
 {
-    if is_name_byte(next) {
-        return skip_name(text, from);
-    }
     if from < text.len() { from + 1 } else { from }
 }
 
@@ -108,11 +113,21 @@ pub fn piece_from(text: &[u8], at: usize, from: usize, first: usize) -> Piece
     requires { ⌜ (from ≤ length (now text)) × (first ≡ nextOf (drop from (now text))) × (first ≤ endOfText) ⌝ }
     ensures { λ r. ⌜ (r ≡ pieceFrom (now (text .entry)) at from) × (r .to ≤ length (now (text .entry))) ⌝ }
 {
-    let kind = kind_of(first);
-    let to = token_end(text, from, first);
+    let gap = at < from;
+    let sign = sign_kind(first);
+    let end = run_end(text, from, sign);
+    if from < end {
+        return Piece {
+            gap,
+            kind: WORD,
+            from,
+            to: end,
+        };
+    }
+    let to = sign_end(text, from);
     Piece {
-        gap: at < from,
-        kind,
+        gap,
+        kind: sign,
         from,
         to,
     }

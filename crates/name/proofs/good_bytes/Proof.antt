@@ -11,7 +11,7 @@ use lib.Seq.{drop-cons}
 use borrow.Author.Needs.{needs}
 use Rattle.name.specs.Class.{classOf, classTable, startByte, laterByte}
 use Rattle.name.specs.Rule.{allLater, goodBytes}
-use Rattle.name.proofs.Table.{table-length}
+use Rattle.name.proofs.Table.{whole-table}
 use Rattle.name.proofs.Classes.{class-start, class-not-start, class-neither, class-later}
 use Rattle.name.proofs.good_bytes.Statement.{statement}
 use Rattle.name.proofs.good_bytes.Tie as tie
@@ -50,9 +50,6 @@ done : (s : List ℕ) (i : ℕ) → length s ≤ i → rest s i ≡ true
 unfolding rest allLater
 done s i h = rw (drop-of-length-le s h)
 
-whole : (table : List ℕ) → table ≡ classTable → 256 ≡ length table
-whole table e = sym (ap length e ∙ table-length)
-
 abbrev Inv-loop : tie.InvT-loop
 Inv-loop bytes classes i₀ i = (classes ≡ classTable) × (i ≤ length bytes) × (goodBytes bytes ≡ rest bytes i)
 
@@ -66,7 +63,7 @@ class-table-requires : tie.Need-class-table-requires Inv-loop μ-loop
 class-table-requires c κs = search needs
 
 slice-aggregate-class-in : tie.Need-slice-aggregate-class-in Inv-loop μ-loop
-slice-aggregate-class-in c = whole _ (c .before .class-table .ensures)
+slice-aggregate-class-in c = whole-table _ (c .before .class-table .ensures)
 
 shared-slice-read-class-in : tie.Need-shared-slice-read-class-in Inv-loop μ-loop
 shared-slice-read-class-in c = omega arith
@@ -81,7 +78,7 @@ loop-holds : tie.Need-loop-holds Inv-loop μ-loop
 loop-holds c = (c .before .before .before .before .class-table .ensures, omega arith, first _ _ (omega arith) (c .before .class-in .ensures) (c .if2 .left))
 
 slice-aggregate-class-in-2 : tie.Need-slice-aggregate-class-in-2 Inv-loop μ-loop
-slice-aggregate-class-in-2 c = whole _ (c .before .before .loop .inv .0)
+slice-aggregate-class-in-2 c = whole-table _ (c .before .before .loop .inv .0)
 
 shared-slice-read-class-in-2 : tie.Need-shared-slice-read-class-in-2 Inv-loop μ-loop
 shared-slice-read-class-in-2 c = omega arith

@@ -1,28 +1,21 @@
 -- `is_name_byte` meets its contract.
 -- Assumes nothing.
-use native.Mathlib.Omega.{arith}
 use Rattle.scan.proofs.Runs.{class-test, class-end}
 use borrow.Author.Needs.{needs}
 use Rattle.scan.proofs.is_name_byte.Statement.{statement}
 use Rattle.scan.proofs.is_name_byte.Tie as tie
 
-cast-class-of : tie.Need-cast-class-of
-cast-class-of c = omega arith
+cast-class-in : tie.Need-cast-class-in
+cast-class-in c = search needs
 
-class-of-requires : tie.Need-class-of-requires
-class-of-requires c κs = search needs
+class-in-requires : tie.Need-class-in-requires
+class-in-requires c κs = search needs
 
 returns : tie.Need-returns
-returns c = class-test _ _ (c .class-of .ensures)
+returns c = class-test _ _ (c .class-in .ensures)
 
 returns-2 : tie.Need-returns-2
-returns-2 c = class-end _ (c .before .pre) (c .if1 .left)
+returns-2 c = class-end _ (c .before .before .pre .1) (c .if1 .left)
 
 pub is-name-byte-spec : {M : Type 1} → statement M
-is-name-byte-spec =
-    tie.close
-    (tie.spec
-    cast-class-of
-    class-of-requires
-    returns
-    returns-2)
+is-name-byte-spec = tie.close (tie.spec cast-class-in class-in-requires returns returns-2)
