@@ -1,5 +1,6 @@
 // Whether a text has the form of a declaration: one walk along its tokens.
 use scan::Piece;
+use scan::WORD;
 ghost use mathlib.Core.Path.{_≡_};
 ghost use mathlib.Core.Bool.{true, cond, _&&_};
 ghost use Prim.Native.Nat.{_-_, _≤_, _<_};
@@ -11,8 +12,7 @@ ghost use Rattle.spelling.specs.Form.{same};
 ghost use Rattle.walk.specs.Walk.{stepOf, hasForm};
 ghost use Rattle.form.specs.Step.{begins, signals, kindFits, tokenAt, advance, Stands, acceptsFrom};
 
-// The kind of a word, and the class of a byte that may start a name.
-const WORD: u8 = 1;
+// The class of a byte that may start a name.
 const START: u8 = 2;
 
 // Behind `>`, and nowhere.

@@ -6,6 +6,7 @@ use model::NONE;
 use nameset::PLACES;
 use refusal::Outcome;
 use refusal::Refusal;
+use scan::WORD;
 ghost use mathlib.Core.Path.{_≡_};
 ghost use Prim.Native.Nat.{_≤_};
 ghost use lib.ListN.{length};
@@ -18,9 +19,6 @@ ghost use Rattle.reading.specs.Read.{declarationOf, noDeclaration, twice
 
 mod lookup; // lookup.rt: names of a text by the book
 mod rows; // rows.rt: the rows of the record under way
-
-// The kind of a word.
-const WORD: u8 = 1;
 
 // How many bytes `<!ELEMENT` has.
 const OPENING: usize = 9;

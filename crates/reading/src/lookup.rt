@@ -1,9 +1,9 @@
 // Names of a text by the book.
-use super::WORD;
 use book::Found;
 use book::Layout;
 use nameset::PLACES;
 use scan::Piece;
+use scan::WORD;
 ghost use mathlib.Core.Path.{_≡_};
 ghost use Prim.Native.Nat.{_≤_};
 ghost use lib.ListN.{length};

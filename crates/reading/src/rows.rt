@@ -1,7 +1,7 @@
 // The rows of the record under way: the factor of each name, and the mode of each factor.
-use super::WORD;
 use model::NONE;
 use nameset::PLACES;
+use scan::WORD;
 ghost use mathlib.Core.Path.{_≡_};
 ghost use mathlib.Core.Bool.{_&&_};
 ghost use Prim.Native.Nat.{_<_};

@@ -4,6 +4,7 @@ use Prim.Native.Nat.{ℕ, _+_, _≤_, _<_}
 use mathlib.Core.Path.{_≡_, refl, sym, _∙_, ap, ap₂}
 use mathlib.Core.Bool.{Bool, true, false, cond, _&&_, _||_, not, or-false, or-assoc, and-true, and-false}
 use mathlib.Core.List.{List}
+use mathlib.Core.Logic.{inl, inr, ⊎-elim}
 use native.Mathlib.Omega.{arith}
 use native.Mathlib.Numerals.{add-one}
 use native.Mathlib.Decide.{ℕ-discrete, decLt}
@@ -18,7 +19,8 @@ use Rattle.nameset.specs.Promise.{Smallest}
 use Rattle.nameset.proofs.Laws.{member-empty, member-minus, member-some, of-word-of, of-zero}
 use Rattle.levels.specs.Below.{anyBelow}
 use Rattle.peel.specs.Sets.{inRows}
-use Rattle.levels.proofs.Tests.{some-is, both-ways, refuted}
+use Rattle.model.proofs.Tests.{same-test}
+use Rattle.levels.proofs.Tests.{some-is, and-is, or-is, both-ways, refuted}
 use Rattle.rows.specs.Rows.{inWord, inRow, Round, OneWay, groupIn, smallestIn, leadsIn, amongRows}
 
 -- ---- words
@@ -94,6 +96,10 @@ turn-more {old} {new} {p} {k} {i} r w h e = record { before = r .before; size = 
         let z : i < length new = rw (r .size) h in
         rw (t, q) (set-same new i w b z ∙ e b ∙ ap₂ (λ (u v : Bool). u || (v && inWord p b)) (own b) (own k))
     at a b (no q) = set-other new i a w b q ∙ r .law a b ∙ rw (below-next a i q)
+
+-- a row without names turns nothing
+pub turn-still : (old : List ℕ) (k : ℕ) → length old ≡ places → getD old k 0 ≡ 0 → Round old old k
+turn-still old k h e = record { size = h; law = λ a b. sym (rw (row-word old k b, e, word-none b, and-false (inRow old a k)) (or-false (inRow old a b))) }
 
 pub turn-all : {old new : List ℕ} {p k i : ℕ} → Turned old new p k i → places ≤ i → p ≡ getD old k 0 → Round old new k
 turn-all {old} {new} {p} {k} {i} r h e = record { size = r .size; law = λ a b. at a b (decLt a places) }
@@ -205,20 +211,62 @@ pub part-word : (rows : List ℕ) (a w : ℕ) (own other rest : NameSet) → own
 part-word rows a w own other rest e f law er b =
     word-law w rest b er ∙ law b ∙ ap₂ (λ (u v : Bool). u && not v) (of-law (getD rows a 0) own b e ∙ sym (row-word rows a b)) (f b)
 
+pub part-none : (rows : List ℕ) (a w : ℕ) → w ≡ getD rows a 0 → w ≡ 0 → (b : ℕ) → inWord 0 b ≡ (inRow rows a b && not (inRow rows b a))
+part-none rows a w e z b = word-none b ∙ sym (rw (row-word rows a b, ← e, z, word-none b))
+
 -- ---- rows joined one after the other
 
-pub rows-none : (rows : List ℕ) (set : NameSet) (b : ℕ) → inRows 0 (inRow rows) (member set) b ≡ false
-unfolding inRows anyBelow
-rows-none rows set b = refl
+-- the row of one name of the set, and those of the others
+pub rows-first : (rows : ℕ → ℕ → Bool) (set others : ℕ → Bool) (a b : ℕ) → a < places → set a ≡ true → ((j : ℕ) → others j ≡ (set j && not (eqb a j))) →
+    inRows places rows set b ≡ (rows a b || inRows places rows others b)
+unfolding inRows
+rows-first rows set others a b h e law = same-test _ _ there back
+  where
+    there : anyBelow places (λ x. set x && rows x b) ≡ true → (rows a b || anyBelow places (λ x. others x && rows x b)) ≡ true
+    there t = let (k, l, q) = some-is places (λ x. set x && rows x b) .0 t in go k l (and-is (set k) (rows k b) .0 q) (ℕ-discrete a k)
+      where
+        go : (k : ℕ) → k < places → (set k ≡ true) × (rows k b ≡ true) → Dec (a ≡ k) → (rows a b || anyBelow places (λ x. others x && rows x b)) ≡ true
+        go k l (p, q) (yes u) = or-is (rows a b) _ .1 (inl (rw u q))
+        go k l (p, q) (no u) =
+            or-is (rows a b) _ .1 (inr (some-is places (λ x. others x && rows x b) .1 (k, l, and-is (others k) (rows k b) .1 (law k ∙ rw (p, ne-eqb a k u), q))))
 
-pub rows-more : (rows : List ℕ) (set s r : NameSet) (a b : ℕ) (more : Bool) → member s b ≡ inRows a (inRow rows) (member set) b → more ≡ member set a →
-    member r b ≡ (member s b || (more && inWord (getD rows a 0) b)) → member r b ≡ inRows (a + 1) (inRow rows) (member set) b
-unfolding inRows anyBelow inRow
-rows-more rows set s r a b more e m law = rw (add-one a, ← e, ← m) law
+    back : (rows a b || anyBelow places (λ x. others x && rows x b)) ≡ true → anyBelow places (λ x. set x && rows x b) ≡ true
+    back t = ⊎-elim own other (or-is (rows a b) _ .0 t)
+      where
+        own : rows a b ≡ true → anyBelow places (λ x. set x && rows x b) ≡ true
+        own q = some-is places (λ x. set x && rows x b) .1 (a, h, and-is (set a) (rows a b) .1 (e, q))
 
-pub rows-all : (rows : List ℕ) (set s : NameSet) (a b : ℕ) → a ≤ places → places ≤ a → member s b ≡ inRows a (inRow rows) (member set) b →
-    member s b ≡ inRows places (inRow rows) (member set) b
-rows-all rows set s a b l h e = let q : a ≡ places = omega arith in e ∙ ap (λ (k : ℕ). inRows k (inRow rows) (member set) b) q
+        other : anyBelow places (λ x. others x && rows x b) ≡ true → anyBelow places (λ x. set x && rows x b) ≡ true
+        other q =
+            let (k, l, r) = some-is places (λ x. others x && rows x b) .0 q in
+            let (o, w) = and-is (others k) (rows k b) .0 r in
+            some-is places (λ x. set x && rows x b) .1 (k, l, and-is (set k) (rows k b) .1 (and-is (set k) (not (eqb a k)) .0 (sym (law k) ∙ o) .0, w))
+
+pub rows-none : (rows : ℕ → ℕ → Bool) (set : ℕ → Bool) (b : ℕ) → ((j : ℕ) → set j ≡ false) → inRows places rows set b ≡ false
+unfolding inRows
+rows-none rows set b none = refuted _ (λ t. let (k, l, q) = some-is places (λ x. set x && rows x b) .0 t in both-ways (set k) (and-is (set k) (rows k b) .0 q .0) (none k))
+
+-- s has the rows of the names of the set that are not left
+pub record Joined (rows : List ℕ) (set left s : NameSet) : Type 0 where
+  pub law : (b : ℕ) → inRows places (inRow rows) (member set) b ≡ (member s b || inRows places (inRow rows) (member left) b)
+
+pub join-start : (rows : List ℕ) (set s : NameSet) → ((j : ℕ) → member s j ≡ false) → Joined rows set set s
+join-start rows set s none = record { law = λ b. sym (rw (none b)) }
+
+pub join-more : {rows : List ℕ} {set left s : NameSet} → Joined rows set left s → (a : ℕ) → a < places → member left a ≡ true →
+    (row r others : NameSet) → row ≡ ofWord (getD rows a 0) → ((j : ℕ) → member r j ≡ (member s j || member row j)) → ((j : ℕ) → member others j ≡ (member left j && not (eqb a j))) →
+    Joined rows set others r
+join-more {rows} {set} {left} {s} p a h e row r others q law rest = record { law = at }
+  where
+    at : (b : ℕ) → inRows places (inRow rows) (member set) b ≡ (member r b || inRows places (inRow rows) (member others) b)
+    at b =
+        p .law b
+        ∙ ap (λ (x : Bool). member s b || x) (rows-first (inRow rows) (member left) (member others) a b h e rest)
+        ∙ sym (or-assoc (member s b) (inRow rows a b) (inRows places (inRow rows) (member others) b))
+        ∙ ap (λ (x : Bool). x || inRows places (inRow rows) (member others) b) (ap (λ (x : Bool). member s b || x) (row-word rows a b ∙ sym (of-law (getD rows a 0) row b q)) ∙ sym (law b))
+
+pub join-all : {rows : List ℕ} {set left s : NameSet} → Joined rows set left s → ((j : ℕ) → member left j ≡ false) → (b : ℕ) → member s b ≡ inRows places (inRow rows) (member set) b
+join-all {rows} {set} {left} {s} p none b = sym (p .law b ∙ ap (λ (x : Bool). member s b || x) (rows-none (inRow rows) (member left) b none) ∙ or-false (member s b))
 
 pub among-none : (rows : List ℕ) (b : ℕ) (x : Bool) → x ≡ (x || amongRows 0 rows b)
 unfolding amongRows anyBelow

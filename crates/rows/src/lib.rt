@@ -1,6 +1,6 @@
 // Tables of names as rows of words, one bit for each name.
 ghost use mathlib.Core.Path.{_≡_};
-ghost use mathlib.Core.Bool.{_&&_, _||_};
+ghost use mathlib.Core.Bool.{_&&_, _||_, not};
 ghost use Prim.Native.Nat.{ℕ, _≤_, _<_};
 ghost use lib.Dec.{eqb};
 ghost use lib.ListN.{length, getD};
@@ -24,12 +24,15 @@ fn joined(x: u64, p: u64, k: usize) -> u64
     }
 }
 
-// One round of reach: k may now stand between two names.
+// One round of reach: k may now stand between two names. A name that leads nowhere stands between none.
 pub fn round(rows: &mut [u64; PLACES], k: usize)
     requires { ⌜ (k < places) × (length (now rows) ≡ places) ⌝ }
     ensures { λ _. ⌜ Round (now (rows .entry)) (now (rows .exit)) k ⌝ }
 {
     let p = rows[k];
+    if p == 0 {
+        return;
+    }
     let mut i = 0;
     while i < PLACES {
         rows[i] = joined(rows[i], p, k);
@@ -43,17 +46,6 @@ fn with_if(s: NameSet, i: usize, more: bool) -> NameSet
     ensures { λ r. ⌜ ((j : ℕ) → member r j ≡ (member s j || (more && eqb i j))) ⌝ }
 {
     if more { s.with(i) } else { s }
-}
-
-// The set s, with the names of the row if `more` says so.
-fn union_if(s: NameSet, row: u64, more: bool) -> NameSet
-    ensures { λ r. ⌜ ((j : ℕ) → member r j ≡ (member s j || (more && inWord row j))) ⌝ }
-{
-    if more {
-        s.union(NameSet::of_word(row))
-    } else {
-        s
-    }
 }
 
 // The names that are related to x.
@@ -70,6 +62,18 @@ fn related(rows: &[u64; PLACES], x: usize) -> NameSet
     s
 }
 
+// The names that a is related to and that are not related to a.
+fn away(rows: &[u64; PLACES], a: usize) -> u64
+    requires { ⌜ (a < places) × (length (now rows) ≡ places) ⌝ }
+    ensures { λ r. ⌜ ((b : ℕ) → inWord r b ≡ (inRow (now (rows .entry)) a b && not (inRow (now (rows .entry)) b a))) ⌝ }
+{
+    let row = rows[a];
+    if row == 0 {
+        return 0;
+    }
+    NameSet::of_word(row).minus(related(rows, a)).word()
+}
+
 // Each row without the names that are related to its own.
 pub fn one_way(rows: &[u64; PLACES]) -> [u64; PLACES]
     requires { ⌜ length (now rows) ≡ places ⌝ }
@@ -78,7 +82,7 @@ pub fn one_way(rows: &[u64; PLACES]) -> [u64; PLACES]
     let mut out = [0u64; PLACES];
     let mut a = 0;
     while a < PLACES {
-        out[a] = NameSet::of_word(rows[a]).minus(related(rows, a)).word();
+        out[a] = away(rows, a);
         a += 1;
     }
     out
@@ -103,10 +107,11 @@ pub fn rows_of(rows: &[u64; PLACES], set: NameSet) -> NameSet
     ensures { λ r. ⌜ ((b : ℕ) → member r b ≡ inRows places (inRow (now (rows .entry))) (member set) b) ⌝ }
 {
     let mut s = NameSet::empty();
-    let mut a = 0;
-    while a < PLACES {
-        s = union_if(s, rows[a], set.has(a));
-        a += 1;
+    let mut left = set;
+    while !left.is_empty() {
+        let a = left.first();
+        s = s.union(NameSet::of_word(rows[a]));
+        left = left.rest();
     }
     s
 }

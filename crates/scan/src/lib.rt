@@ -13,7 +13,7 @@ const END: usize = 256;
 
 // The kinds of a token: the end of the text, a word, and each sign; the marks are 7 to 9.
 const OVER: u8 = 0;
-const WORD: u8 = 1;
+pub const WORD: u8 = 1;
 const OTHER: u8 = 10;
 
 // A token of the text: whether white space stands before it, its kind, and the places where it begins and ends.

@@ -5,7 +5,7 @@ use mathlib.Core.Path.{refl}
 use native.Mathlib.Omega.{arith}
 use borrow.Author.Needs.{needs}
 use Rattle.nameset.specs.Places.{places}
-use Rattle.rows.proofs.Laws.{Turned, turn-none, turn-more, turn-all}
+use Rattle.rows.proofs.Laws.{Turned, turn-none, turn-more, turn-still, turn-all}
 use Rattle.rows.proofs.round.Statement.{statement}
 use Rattle.rows.proofs.round.Tie as tie
 
@@ -21,8 +21,11 @@ mul-p c = search needs
 element-copy-out-p : tie.Need-element-copy-out-p Inv-loop μ-loop
 element-copy-out-p c = search needs
 
+returns : tie.Need-returns Inv-loop μ-loop
+returns c = turn-still _ _ (c .before .before .pre .1) (c .if1 .taken)
+
 loop-holds : tie.Need-loop-holds Inv-loop μ-loop
-loop-holds c = (omega arith, turn-none _ _ _ (c .before .pre .1))
+loop-holds c = (omega arith, turn-none _ _ _ (c .before .before .pre .1))
 
 mul-joined : tie.Need-mul-joined Inv-loop μ-loop
 mul-joined c = search needs
@@ -48,8 +51,8 @@ loop-less c = search needs
 loop-again : tie.Need-loop-again Inv-loop μ-loop
 loop-again c = let inv = c .before .before .before .loop .inv in (omega arith, turn-more (inv .1) _ (omega arith) (c .joined .ensures))
 
-returns : tie.Need-returns Inv-loop μ-loop
-returns c = turn-all (c .before .loop .inv .1) (omega arith) refl
+returns-2 : tie.Need-returns-2 Inv-loop μ-loop
+returns-2 c = turn-all (c .before .loop .inv .1) (omega arith) refl
 
 pub round-spec : {M : Type 1} → statement M
 round-spec =
@@ -59,6 +62,7 @@ round-spec =
     μ-loop
     mul-p
     element-copy-out-p
+    returns
     loop-holds
     mul-joined
     element-copy-out-joined
@@ -68,4 +72,4 @@ round-spec =
     add-i
     loop-less
     loop-again
-    returns)
+    returns-2)

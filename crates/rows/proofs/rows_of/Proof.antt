@@ -1,54 +1,69 @@
--- `rows_of` meets its contract.
+-- `rows_of` meets its contract: the rows of the names passed are joined, those of the names left are to come.
 -- Assumes nothing.
-use Prim.Native.Nat.{ℕ, _-_, _≤_}
-use mathlib.Core.Path.{_≡_, sym, _∙_}
-use native.Mathlib.Omega.{arith}
+use Prim.Native.Nat.{ℕ}
+use mathlib.Core.Path.{_≡_, sym, _∙_, ap}
+use mathlib.Core.Bool.{false, _&&_, not}
+use lib.Dec.{eqb}
 use borrow.Author.Needs.{needs}
-use Rattle.nameset.specs.Places.{places}
-use Rattle.nameset.specs.Set.{member}
-use Rattle.peel.specs.Sets.{inRows}
-use Rattle.rows.specs.Rows.{inRow}
-use Rattle.rows.proofs.Laws.{rows-none, rows-more, rows-all}
+use borrow.Author.Tests.{not-true, not-false}
+use Rattle.nameset.specs.declared.NameSet.{NameSet}
+use Rattle.nameset.specs.Set.{member, isEmpty, first, size}
+use Rattle.rows.proofs.Laws.{Joined, join-start, join-more, join-all}
 use Rattle.rows.proofs.rows_of.Statement.{statement}
 use Rattle.rows.proofs.rows_of.Tie as tie
 
 abbrev Inv-loop : tie.InvT-loop
-Inv-loop rows set s₀ a₀ s a = (a ≤ places) × ((b : ℕ) → member s b ≡ inRows a (inRow rows) (member set) b)
+Inv-loop rows s₀ left₀ s left = Joined rows left₀ left s
 
 abbrev μ-loop : tie.MeasureT-loop
-μ-loop rows set s₀ a₀ s a = places - a
+μ-loop rows s₀ left₀ s left = size left
 
 empty-requires : tie.Need-empty-requires Inv-loop μ-loop
 empty-requires c κs = search needs
 
 loop-holds : tie.Need-loop-holds Inv-loop μ-loop
-loop-holds c = (omega arith, λ b. c .empty .ensures .members b ∙ sym (rows-none _ _ b))
+loop-holds c = join-start _ _ _ (c .empty .ensures .members)
 
-mul-union-if : tie.Need-mul-union-if Inv-loop μ-loop
-mul-union-if c = search needs
+is-empty-requires : tie.Need-is-empty-requires Inv-loop μ-loop
+is-empty-requires c κs = search needs
 
-element-copy-out-union-if : tie.Need-element-copy-out-union-if Inv-loop μ-loop
-element-copy-out-union-if c = search needs
+first-requires : tie.Need-first-requires Inv-loop μ-loop
+first-requires c κs = search needs
 
-has-requires : tie.Need-has-requires Inv-loop μ-loop
-has-requires c κs = search needs
+-- the set that is left has lost its smallest name, which is a
+smallest-out : (s r : NameSet) (a : ℕ) → a ≡ first s → ((j : ℕ) → member r j ≡ (member s j && not (eqb (first s) j))) → (j : ℕ) → member r j ≡ (member s j && not (eqb a j))
+smallest-out s r a e law j = law j ∙ ap (λ (k : ℕ). member s j && not (eqb k j)) (sym e)
 
-union-if-requires : tie.Need-union-if-requires Inv-loop μ-loop
-union-if-requires c κs = search needs
+-- a turn has a name left
+some-left : (c : tie.Then1 Inv-loop μ-loop) → isEmpty (c .before .before .loop .left) ≡ false
+some-left c = sym (c .before .is-empty .ensures .same) ∙ not-true (c .before .is-empty .result) (c .if1 .taken)
 
-add-a : tie.Need-add-a Inv-loop μ-loop
-add-a c = search needs
+mul-of-word : tie.Need-mul-of-word Inv-loop μ-loop
+mul-of-word c = let h = c .first .ensures .found (some-left (c .before)) .0 in search needs
+
+element-copy-out-of-word : tie.Need-element-copy-out-of-word Inv-loop μ-loop
+element-copy-out-of-word c = c .first .ensures .found (some-left (c .before)) .0
+
+of-word-requires : tie.Need-of-word-requires Inv-loop μ-loop
+of-word-requires c κs = search needs
+
+union-requires : tie.Need-union-requires Inv-loop μ-loop
+union-requires c κs = search needs
+
+rest-requires : tie.Need-rest-requires Inv-loop μ-loop
+rest-requires c κs = search needs
 
 loop-less : tie.Need-loop-less Inv-loop μ-loop
-loop-less c = search needs
+loop-less c = c .rest .ensures .smaller (some-left (c .before .before .before .before .before))
 
 loop-again : tie.Need-loop-again Inv-loop μ-loop
 loop-again c =
-    let inv = c .before .before .before .before .loop .inv in
-    (omega arith, λ b. rows-more _ _ _ _ _ b _ (inv .1 b) (c .before .has .ensures) (c .union-if .ensures b))
+    let first = c .before .before .before .before .first in
+    let found = first .ensures .found (some-left (c .before .before .before .before .before)) in
+    join-more (c .before .before .before .before .before .before .before .loop .inv) _ (found .0) (found .1) _ _ _ (c .before .before .of-word .ensures) (c .before .union .ensures .members) (smallest-out _ _ _ (first .ensures .same) (c .rest .ensures .members))
 
 returns : tie.Need-returns Inv-loop μ-loop
-returns c = λ b. let inv = c .before .loop .inv in rows-all _ _ _ _ b (inv .0) (c .loop-test .left) (inv .1 b)
+returns c = join-all (c .before .before .loop .inv) (c .before .is-empty .ensures .none (not-false (c .before .is-empty .result) (c .if1 .left)))
 
 pub rows-of-spec : {M : Type 1} → statement M
 rows-of-spec =
@@ -58,11 +73,13 @@ rows-of-spec =
     μ-loop
     empty-requires
     loop-holds
-    mul-union-if
-    element-copy-out-union-if
-    has-requires
-    union-if-requires
-    add-a
+    is-empty-requires
+    first-requires
+    mul-of-word
+    element-copy-out-of-word
+    of-word-requires
+    union-requires
+    rest-requires
     loop-less
     loop-again
     returns)
