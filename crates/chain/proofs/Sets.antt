@@ -1,8 +1,8 @@
 -- Laws of reach by rounds, and of sets that are empty, meet, or have one name.
 -- Assumes nothing.
 use Prim.Native.Nat.{ℕ, zero, suc, _+_, _≤_, _<_}
-use mathlib.Core.Path.{_≡_, refl, sym, _∙_, ap, fun-ext}
-use mathlib.Core.Bool.{Bool, true, false, cond, _&&_, _||_, not, false≢true}
+use mathlib.Core.Path.{_≡_, refl, sym, _∙_, ap, ap₂, fun-ext}
+use mathlib.Core.Bool.{Bool, true, false, cond, _&&_, _||_, not, or-false, or-assoc, false≢true}
 use mathlib.Core.List.{List}
 use mathlib.Core.Logic.{_⊎_, inl, inr}
 use native.Mathlib.Omega.{arith}
@@ -28,6 +28,7 @@ use Rattle.levels.proofs.Tests.{and-is, or-is, ltb-is, some-is, refuted, both-w
 use Rattle.levels.proofs.Below.{some-count}
 use Rattle.peel.proofs.Reaching.{edge-follows}
 use Rattle.rows.specs.Rows.{inWord, inRow, Round, amongRows}
+use Rattle.rows.proofs.Laws.{rows-none, rows-both}
 use Rattle.chain.specs.Chain.{Reached, factors}
 
 -- ---- reach
@@ -99,24 +100,39 @@ pub meet-law : (a b s : NameSet) (r : Bool) → ((j : ℕ) → member s j ≡ (m
 unfolding meets
 meet-law a b s r law e = some-set s r e ∙ ap (anyBelow places) (fun-ext law)
 
-pub over-empty : (starts ends : ℕ → Bool) (follows : ℕ → ℕ → Bool) (lower higher : ℕ → Bool) (empty : Bool) → empty ≡ true → true ≡ stepsOver places empty starts ends follows lower higher
+-- the three tests of a step over a level, one after the other
+pub over-end : (empty a b r : Bool) → empty ≡ false → r ≡ a → r ≡ true → true ≡ (empty || (a || b))
+over-end empty a b r n e t = rw (n, ← e, t)
+
+pub over-rest : (empty a b r q : Bool) → empty ≡ false → r ≡ a → r ≡ false → q ≡ b → q ≡ (empty || (a || b))
+over-rest empty a b r q n e t f = rw (n, ← e, t) f
+
+-- stepped has the names that start, or a name of the set lower, leads to
+pub record Stepped (starts : NameSet) (follows : List ℕ) (lower stepped : NameSet) : Type 0 where
+  pub law : (b : ℕ) → member stepped b ≡ (member starts b || inRows places (inRow follows) (member lower) b)
+
+pub stepped-none : (starts : NameSet) (follows : List ℕ) (lower : NameSet) → ((x : ℕ) → member lower x ≡ false) → Stepped starts follows lower starts
+stepped-none starts follows lower none = record { law = λ b. sym (rw (rows-none (inRow follows) (member lower) b none) (or-false (member starts b))) }
+
+pub stepped-more : {starts : NameSet} {follows : List ℕ} {lower stepped : NameSet} → Stepped starts follows lower stepped →
+    (level rows more both : NameSet) → ((b : ℕ) → member rows b ≡ inRows places (inRow follows) (member level) b) → ((b : ℕ) → member more b ≡ (member stepped b || member rows b)) →
+    ((x : ℕ) → member both x ≡ (member lower x || member level x)) → Stepped starts follows both more
+stepped-more {starts} {follows} {lower} {stepped} p level rows more both law sum join = record { law = at }
+  where
+    at : (b : ℕ) → member more b ≡ (member starts b || inRows places (inRow follows) (member both) b)
+    at b =
+        sum b ∙ ap₂ _||_ (p .law b) (law b)
+        ∙ or-assoc (member starts b) (inRows places (inRow follows) (member lower) b) (inRows places (inRow follows) (member level) b)
+        ∙ ap (λ (x : Bool). member starts b || x) (sym (rows-both (inRow follows) (member lower) (member level) (member both) b join))
+
+-- so a step that goes over a level starts among them
+pub stepped-over : (empty : Bool) (starts ends : NameSet) (follows : List ℕ) (lower stepped higher : NameSet) (r : Bool) → Stepped starts follows lower stepped →
+    r ≡ (empty || (meets places (member ends) (member lower) || meets places (member stepped) (member higher))) →
+    r ≡ stepsOver places empty (member starts) (member ends) (inRow follows) (member lower) (member higher)
 unfolding stepsOver
-over-empty starts ends follows lower higher empty e = rw e
-
-module _ (empty : Bool) (starts ends : NameSet) (follows : List ℕ) (lower higher : NameSet) (n : empty ≡ false) where
-  pub over-end : (r : Bool) → r ≡ meets places (member ends) (member lower) → r ≡ true →
-      true ≡ stepsOver places empty (member starts) (member ends) (inRow follows) (member lower) (member higher)
-  unfolding stepsOver
-  over-end r e t = rw (n, ← e, t)
-
-  pub over-rest : (r q : Bool) (rows u : NameSet) → r ≡ meets places (member ends) (member lower) → r ≡ false →
-      ((j : ℕ) → member rows j ≡ inRows places (inRow follows) (member lower) j) → ((j : ℕ) → member u j ≡ (member starts j || member rows j)) →
-      q ≡ meets places (member u) (member higher) → q ≡ stepsOver places empty (member starts) (member ends) (inRow follows) (member lower) (member higher)
-  unfolding stepsOver
-  over-rest r q rows u e t law both f =
-      let z : _≡_ {A = ℕ → Bool} (member u) (λ y. member starts y || inRows places (inRow follows) (member lower) y) =
-      fun-ext (λ j. both j ∙ ap (λ (b : Bool). member starts j || b) (law j)) in
-      rw (n, ← e, t, ← z) f
+stepped-over empty starts ends follows lower stepped higher r p e =
+    let z : _≡_ {A = ℕ → Bool} (member stepped) (λ y. member starts y || inRows places (inRow follows) (member lower) y) = fun-ext (p .law) in
+    e ∙ ap (λ (s : ℕ → Bool). empty || (meets places (member ends) (member lower) || meets places s (member higher))) z
 
 -- ---- how many names a set has
 

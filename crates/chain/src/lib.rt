@@ -1,6 +1,6 @@
 // From follow facts to the chain: reach, loop groups, levels, skips and the factors of each level.
 ghost use mathlib.Core.Path.{_≡_};
-ghost use mathlib.Core.Bool.{cond, _&&_, not};
+ghost use mathlib.Core.Bool.{cond, _&&_, _||_, not};
 ghost use Prim.Native.Nat.{ℕ, _+_, _≤_, _<_};
 ghost use lib.Dec.{eqb};
 ghost use lib.ListN.{length};
@@ -11,7 +11,7 @@ ghost use Rattle.levels.specs.Reach.{occurs};
 ghost use Rattle.levels.specs.Chain.{chainOf};
 ghost use Rattle.follow.specs.View.{viewOf};
 ghost use Rattle.peel.specs.Shown.{Shown};
-ghost use Rattle.peel.specs.Sets.{meets, inRows, stepsOver};
+ghost use Rattle.peel.specs.Sets.{meets, inRows};
 ghost use Rattle.rows.specs.Rows.{inRow};
 ghost use Rattle.chain.specs.Chain.{Reached, holdsIn, factors, withAny, withEach, withBoth};
 use follow::Facts;
@@ -47,16 +47,9 @@ fn meets(a: NameSet, b: NameSet) -> bool
     !a.both(b).is_empty()
 }
 
-// Whether some step goes from the lower names, or from start, to the higher names, or to the end.
-fn steps_over(
-    empty: bool,
-    starts: NameSet,
-    ends: NameSet,
-    follows: &[u64; PLACES],
-    lower: NameSet,
-    higher: NameSet,
-) -> bool
-    ensures { λ r. ⌜ r ≡ stepsOver places empty (member starts) (member ends) (inRow (now (follows .entry))) (member lower) (member higher) ⌝ }
+// Whether some step goes from the lower names, or from start, to the higher names, or to the end; `stepped` has the names that a lower one, or start, leads to.
+fn steps_over(empty: bool, ends: NameSet, stepped: NameSet, lower: NameSet, higher: NameSet) -> bool
+    ensures { λ r. ⌜ r ≡ (empty || (meets places (member ends) (member lower) || meets places (member stepped) (member higher))) ⌝ }
 {
     if empty {
         return true;
@@ -64,7 +57,7 @@ fn steps_over(
     if meets(ends, lower) {
         return true;
     }
-    meets(starts.union(rows_of(follows, lower)), higher)
+    meets(stepped, higher)
 }
 
 // Whether the set has just one name.
@@ -180,17 +173,11 @@ pub fn chain(facts: Facts, n: usize) -> Model
     let mut m = Model::empty();
     let mut lower = NameSet::empty();
     let mut higher = occurring(facts, n);
+    let mut stepped = facts.starts;
     while !higher.is_empty() {
         let level = next_level(&behind, higher);
         let above = higher.minus(level);
-        let skipped = steps_over(
-            facts.empty,
-            facts.starts,
-            facts.ends,
-            &facts.follows,
-            lower,
-            above,
-        );
+        let skipped = steps_over(facts.empty, facts.ends, stepped, lower, above);
         let next = with_level(
             m,
             &reach,
@@ -200,6 +187,7 @@ pub fn chain(facts: Facts, n: usize) -> Model
             skipped,
         );
         m = next;
+        stepped = stepped.union(rows_of(&facts.follows, level));
         lower = lower.union(level);
         higher = above;
     }

@@ -246,6 +246,32 @@ pub rows-none : (rows : ℕ → ℕ → Bool) (set : ℕ → Bool) (b : ℕ) →
 unfolding inRows
 rows-none rows set b none = refuted _ (λ t. let (k, l, q) = some-is places (λ x. set x && rows x b) .0 t in both-ways (set k) (and-is (set k) (rows k b) .0 q .0) (none k))
 
+-- the rows of the names of two sets
+pub rows-both : (rows : ℕ → ℕ → Bool) (p q both : ℕ → Bool) (b : ℕ) → ((j : ℕ) → both j ≡ (p j || q j)) → inRows places rows both b ≡ (inRows places rows p b || inRows places rows q b)
+unfolding inRows
+rows-both rows p q both b law = same-test _ _ there back
+  where
+    there : anyBelow places (λ x. both x && rows x b) ≡ true → (anyBelow places (λ x. p x && rows x b) || anyBelow places (λ x. q x && rows x b)) ≡ true
+    there t =
+        let (k, l, e) = some-is places (λ x. both x && rows x b) .0 t in
+        let (u, v) = and-is (both k) (rows k b) .0 e in
+        or-is _ _ .1 (⊎-elim
+          (λ w. inl (some-is places (λ x. p x && rows x b) .1 (k, l, and-is (p k) (rows k b) .1 (w, v))))
+          (λ w. inr (some-is places (λ x. q x && rows x b) .1 (k, l, and-is (q k) (rows k b) .1 (w, v))))
+          (or-is (p k) (q k) .0 (sym (law k) ∙ u)))
+
+    part : (r : ℕ → Bool) → ((j : ℕ) → r j ≡ true → both j ≡ true) → anyBelow places (λ x. r x && rows x b) ≡ true → anyBelow places (λ x. both x && rows x b) ≡ true
+    part r in-both t =
+        let (k, l, e) = some-is places (λ x. r x && rows x b) .0 t in
+        let (u, v) = and-is (r k) (rows k b) .0 e in
+        some-is places (λ x. both x && rows x b) .1 (k, l, and-is (both k) (rows k b) .1 (in-both k u, v))
+
+    back : (anyBelow places (λ x. p x && rows x b) || anyBelow places (λ x. q x && rows x b)) ≡ true → anyBelow places (λ x. both x && rows x b) ≡ true
+    back t = ⊎-elim
+        (part p (λ j u. law j ∙ or-is (p j) (q j) .1 (inl u)))
+        (part q (λ j u. law j ∙ or-is (p j) (q j) .1 (inr u)))
+        (or-is _ _ .0 t)
+
 -- s has the rows of the names of the set that are not left
 pub record Joined (rows : List ℕ) (set left s : NameSet) : Type 0 where
   pub law : (b : ℕ) → inRows places (inRow rows) (member set) b ≡ (member s b || inRows places (inRow rows) (member left) b)

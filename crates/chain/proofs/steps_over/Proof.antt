@@ -1,30 +1,24 @@
 -- `steps_over` meets its contract.
 -- Assumes nothing.
 use borrow.Author.Needs.{needs}
-use Rattle.chain.proofs.Sets.{over-empty, over-end, over-rest}
+use Rattle.chain.proofs.Sets.{over-end, over-rest}
 use Rattle.chain.proofs.steps_over.Statement.{statement}
 use Rattle.chain.proofs.steps_over.Tie as tie
 
 returns : tie.Need-returns
-returns c = over-empty _ _ _ _ _ _ (c .if1 .taken)
+returns c = rw (c .if1 .taken)
 
 meets-requires : tie.Need-meets-requires
 meets-requires c κs = search needs
 
 returns-2 : tie.Need-returns-2
-returns-2 c = over-end _ _ _ _ _ _ (c .before .before .if1 .left) _ (c .before .meets .ensures) (c .if2 .taken)
-
-rows-of-requires : tie.Need-rows-of-requires
-rows-of-requires c κs = search needs
-
-union-requires : tie.Need-union-requires
-union-requires c κs = search needs
+returns-2 c = over-end _ _ _ _ (c .before .before .if1 .left) (c .before .meets .ensures) (c .if2 .taken)
 
 meets-requires-2 : tie.Need-meets-requires-2
 meets-requires-2 c κs = search needs
 
 returns-3 : tie.Need-returns-3
-returns-3 c = over-rest _ _ _ _ _ _ (c .before .before .before .before .before .if1 .left) _ _ _ _ (c .before .before .before .before .meets .ensures) (c .before .before .before .if2 .left) (c .before .before .rows-of .ensures) (c .before .union .ensures .members) (c .meets2 .ensures)
+returns-3 c = over-rest _ _ _ _ _ (c .before .before .before .if1 .left) (c .before .before .meets .ensures) (c .before .if2 .left) (c .meets2 .ensures)
 
 pub steps-over-spec : {M : Type 1} → statement M
 steps-over-spec =
@@ -33,7 +27,5 @@ steps-over-spec =
     returns
     meets-requires
     returns-2
-    rows-of-requires
-    union-requires
     meets-requires-2
     returns-3)
