@@ -1,8 +1,8 @@
 -- One row: a word added to it, and its 64 words of following names copied.
 -- Assumes nothing.
-use Prim.Native.Nat.{ℕ, suc, _+_, _-_, _≤_, _<_}
+use Prim.Native.Nat.{ℕ, suc, _+_, _-_, _<_}
 use mathlib.Core.Path.{_≡_, refl, sym, _∙_, ap}
-use mathlib.Core.Bool.{Bool, true, _||_}
+use mathlib.Core.Bool.{_||_}
 use mathlib.Core.List.{List, [], _∷_, _++_, append-nil}
 use native.Mathlib.Omega.{arith}
 use native.Mathlib.Numerals.{add-one}
@@ -18,7 +18,7 @@ use Rattle.nameset.proofs.Laws.{of-word-of}
 use Rattle.follow.specs.Follow.{isEmpty}
 use Rattle.follow.specs.Adding.{withFirst, withLast, withPairs}
 use Rattle.follow.proofs.Walk.{word-added}
-use Rattle.fact_table.specs.Table.{rowSize, factsIn, countIn, HeadAdded, RowAdded}
+use Rattle.fact_table.specs.Table.{rowSize, factsIn, countIn, HasRoom, HeadAdded, RowAdded}
 
 -- ---- the copy of the following names
 
@@ -67,9 +67,8 @@ first-kept w x b n s en es ex = rw (ex, of-word-of s, es, en)
 pub last-kept : (w : List ℕ) (x b : ℕ) (n s : NameSet) → n ≡ ofWord b → s ≡ withLast n w → x ≡ wordOf s → ofWord x ≡ withLast (ofWord b) w
 last-kept w x b n s en es ex = rw (ex, of-word-of s, es, en)
 
--- there is room for one more block
-pub count-fits : (x y m : ℕ) (u : List ℕ) → length u ≡ rowSize → countIn u < 18446744073709551615 →
-    Fits w64 (getD (set (set (set u 0 x) 1 y) 2 m) 3 0 + 1)
+-- the count of blocks is as it was, and has room for one more
+pub count-fits : (x y m : ℕ) (u : List ℕ) → length u ≡ rowSize → HasRoom u → Fits w64 (getD (set (set (set u 0 x) 1 y) 2 m) 3 0 + 1)
 unfolding countIn
 count-fits x y m [] l h = absurd (omega arith)
 count-fits x y m (a ∷ []) l h = absurd (omega arith)

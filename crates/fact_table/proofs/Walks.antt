@@ -1,8 +1,7 @@
 -- The walk over a book's blocks that gathers the facts of all parents: for each of them, it is the walk of `follow`.
 -- Assumes nothing.
-use Prim.Native.Nat.{ℕ, _+_, _-_, _≤_, _<_}
-use mathlib.Core.Path.{_≡_, refl, sym, _∙_, ap, subst}
-use mathlib.Core.Bool.{false}
+use Prim.Native.Nat.{ℕ, _+_, _-_, _^_, _≤_, _<_}
+use mathlib.Core.Path.{_≡_, refl, sym, _∙_, ap}
 use mathlib.Core.List.{List}
 use native.Mathlib.Omega.{arith}
 use native.Mathlib.Decide.{ℕ-discrete}
@@ -13,10 +12,9 @@ use Rattle.nameset.proofs.Laws.{of-zero}
 use Rattle.book.specs.declared.Layout.{Layout}
 use Rattle.book.specs.declared.BlockPlace.{BlockPlace}
 use Rattle.book.specs.Access.{LaidOut, blockPlace}
-use Rattle.follow.specs.declared.Facts.{Facts}
 use Rattle.follow.specs.Adding.{noRows, noFacts, withWord}
 use Rattle.follow.proofs.Walk.{Walk, Turn, walk-begin, walk-turn, walk-done, to-is, own-turn, other-turn}
-use Rattle.fact_table.specs.Table.{rowSize, tableSize, rowOf, factsIn, countIn, Added, Gathered}
+use Rattle.fact_table.specs.Table.{rowSize, tableSize, rowOf, factsIn, countIn, HasRoom, Added, Gathered}
 use Rattle.fact_table.proofs.Parts.{row-zeros}
 
 -- What the row of parent p keeps is where the walk of that parent stands.
@@ -49,6 +47,10 @@ walks-begin s l n en laid p h =
 -- The turn of one parent at the block where the walk stands.
 pub turn-of : (s table : List ℕ) (at left p : ℕ) → Stands s table at left p → 0 < left → Turn s p (factsIn (rowOf table p)) (countIn (rowOf table p)) at left
 turn-of s table at left p stands h = walk-turn s p (factsIn (rowOf table p)) (countIn (rowOf table p)) at left (stands .walk) h
+
+-- A book has fewer bytes than a count of blocks can reach.
+pub count-room : (s table : List ℕ) (at left p : ℕ) → Walks s table at left → p < places → at < 2 ^ 63 → HasRoom (rowOf table p)
+count-room s table at left p walks below h = omega (arith, walks p below .few)
 
 module _ (s t u : List ℕ) (at left : ℕ) (more : 0 < left) (place : BlockPlace) (found : place ≡ blockPlace s at)
     (w : List ℕ) (word : w ≡ take (place .to - place .from) (drop (place .from) s)) (added : Added t (place .parent) w u) where

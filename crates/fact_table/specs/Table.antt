@@ -32,6 +32,10 @@ factsIn row = record { starts = ofWord (getD row 0 0); ends = ofWord (getD row 1
 unfoldable pub countIn : List ℕ → ℕ
 countIn row = getD row 3 0
 
+-- One more block can be counted in a word of 64 bits.
+abbrev pub HasRoom : List ℕ → Type 0
+HasRoom row = countIn row < 18446744073709551615
+
 -- The row v is the row u with a block of word w added, all but the pairs of the word.
 pub record HeadAdded (u w v : List ℕ) : Type 0 where
   pub size : length v ≡ rowSize

@@ -18,14 +18,19 @@ ghost use Rattle.nameset.specs.Places.{places};
 ghost use Rattle.book.specs.Book.{allBelow};
 ghost use Rattle.book.specs.Access.{LaidOut};
 ghost use Rattle.follow.specs.Follow.{isEmpty};
-ghost use Rattle.fact_table.specs.Table.{rowSize, tableSize, rowOf, factsIn, countIn, HeadAdded, RowAdded, Added, Gathered};
+ghost use Rattle.fact_table.specs.Table.{rowSize, tableSize, rowOf, factsIn, countIn, HasRoom, HeadAdded, RowAdded, Added, Gathered};
 
 // A row: the set of starts, the set of ends, 1 where a word is empty, the number of blocks, then the names that follow each name.
 const STARTS: usize = 0;
+
 const ENDS: usize = 1;
+
 const EMPTY: usize = 2;
+
 const BLOCKS: usize = 3;
+
 const FOLLOWS: usize = 4;
+
 const ROW: usize = 68;
 
 // The words of a table: a row for each place.
@@ -43,7 +48,7 @@ fn mark_empty(mark: u64, word: &[u8]) -> u64
 
 // Adds a block's word to a row, all but its pairs.
 fn add_to_head(row: &mut [u64], word: &[u8])
-    requires { ⌜ (length (now row) ≡ rowSize) × (allBelow places (now word) ≡ true) × (countIn (now row) < 18446744073709551615) ⌝ }
+    requires { ⌜ (length (now row) ≡ rowSize) × (allBelow places (now word) ≡ true) × HasRoom (now row) ⌝ }
     ensures { λ _. ⌜ HeadAdded (now (row .entry)) (now (word .entry)) (now (row .exit)) ⌝ }
 {
     row[STARTS] = with_first(NameSet::of_word(row[STARTS]), word).word();
@@ -54,7 +59,7 @@ fn add_to_head(row: &mut [u64], word: &[u8])
 
 // Adds a block's word to a row.
 fn add_to_row(row: &mut [u64], word: &[u8])
-    requires { ⌜ (length (now row) ≡ rowSize) × (allBelow places (now word) ≡ true) × (countIn (now row) < 18446744073709551615) ⌝ }
+    requires { ⌜ (length (now row) ≡ rowSize) × (allBelow places (now word) ≡ true) × HasRoom (now row) ⌝ }
     ensures { λ _. ⌜ RowAdded (now (row .entry)) (now (word .entry)) (now (row .exit)) ⌝ }
 {
     add_to_head(row, word);
@@ -63,8 +68,7 @@ fn add_to_row(row: &mut [u64], word: &[u8])
 
 // Adds a block's word to the row of its parent.
 fn add_to_table(table: &mut [u64], parent: usize, word: &[u8])
-    requires { ⌜ (length (now table) ≡ tableSize) × (parent < places) × (allBelow places (now word) ≡ true)
-        × (countIn (rowOf (now table) parent) < 18446744073709551615) ⌝ }
+    requires { ⌜ (length (now table) ≡ tableSize) × (parent < places) × (allBelow places (now word) ≡ true) × HasRoom (rowOf (now table) parent) ⌝ }
     ensures { λ _. ⌜ Added (now (table .entry)) parent (now (word .entry)) (now (table .exit)) ⌝ }
 {
     let from = parent * ROW;
