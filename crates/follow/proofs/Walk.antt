@@ -90,6 +90,7 @@ pub record Turn (s : List ℕ) (parent : ℕ) (facts : Facts) (blocks at left : 
   pub after : List ℕ
   pub placed : BlockPlaced s at block after
   pub fits : BlockFits s at
+  pub named : block .parent < places
   pub below : allBelow places (block .word) ≡ true
   pub other : eqb (block .parent) parent ≡ false → Walk s parent facts blocks (at + 2 + length (block .word)) (left - 1)
   pub own : eqb (block .parent) parent ≡ true → Walk s parent (withWord facts (block .word)) (blocks + 1) (at + 2 + length (block .word)) (left - 1)
@@ -110,6 +111,7 @@ walk-turn s parent facts blocks at left walk h = go (walk .rest) (walk .stands) 
           after = blocksBytes bs [];
           placed = p .0;
           fits = p .1;
+          named = lt-of-lt-of-le (w .0) (walk .few);
           below = all-below-more (walk .names) places (b .word) (walk .few) (w .1);
           other =
               λ e.
@@ -152,6 +154,9 @@ module _ (s : List ℕ) (parent : ℕ) (facts : Facts) (blocks at left : ℕ) (t
   parent-is : place .parent ≡ turn .block .parent
   unfolding blockPlace
   parent-is = ap (λ (p : BlockPlace). p .parent) found ∙ turn .placed .parent
+
+  pub parent-named : place .parent < places
+  parent-named = rw parent-is (turn .named)
 
   pub part-fits : (place .from ≤ place .to) × (place .to ≤ length s)
   part-fits = (omega (arith, from-is, to-is), omega (arith, to-is, turn .placed .fits))

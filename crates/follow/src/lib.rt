@@ -49,7 +49,7 @@ fn first_name(word: &[u8]) -> usize
 }
 
 // The set with the first name of a word put in.
-fn with_first(names: NameSet, word: &[u8]) -> NameSet
+pub fn with_first(names: NameSet, word: &[u8]) -> NameSet
     requires { ⌜ allBelow places (now word) ≡ true ⌝ }
     ensures { λ r. ⌜ r ≡ withFirst names (now (word .entry)) ⌝ }
 {
@@ -60,7 +60,7 @@ fn with_first(names: NameSet, word: &[u8]) -> NameSet
 }
 
 // The set with the last name of a word put in.
-fn with_last(names: NameSet, word: &[u8]) -> NameSet
+pub fn with_last(names: NameSet, word: &[u8]) -> NameSet
     requires { ⌜ allBelow places (now word) ≡ true ⌝ }
     ensures { λ r. ⌜ r ≡ withLast names (now (word .entry)) ⌝ }
 {
@@ -81,7 +81,7 @@ fn or_empty(empty: bool, word: &[u8]) -> bool
 }
 
 // Puts each pair of neighbours of a word into the rows.
-fn add_pairs(rows: &mut [u64], word: &[u8])
+pub fn add_pairs(rows: &mut [u64], word: &[u8])
     requires { ⌜ (length (now rows) ≡ places) × (allBelow places (now word) ≡ true) ⌝ }
     ensures { λ _. ⌜ (now (rows .exit) ≡ withPairs (now (rows .entry)) (now (word .entry))) × (length (now (rows .exit)) ≡ places) ⌝ }
 {

@@ -4,6 +4,7 @@ use Prim.Native.Nat.{ℕ, zero, suc, _+_, _-_, _*_, _≤_, _<_}
 use mathlib.Core.Path.{_≡_, refl, sym, _∙_, ap}
 use mathlib.Core.Bool.{Bool, true, false, cond}
 use mathlib.Core.List.{List, [], _∷_, _++_}
+use native.Mathlib.Nat.{lt-of-lt-of-le}
 use native.Mathlib.Omega.{arith}
 use lib.ListN.{length, length-append}
 use Rattle.refusal.specs.Answer.{given}
@@ -14,7 +15,10 @@ use Rattle.book.specs.Access.{LaidOut}
 use Rattle.book.proofs.Laws.{names-in, blocks-in, name-count, few-names}
 use Rattle.model.specs.declared.Model.{Model}
 use Rattle.model.specs.Record.{none, IsChain}
+use Rattle.follow.specs.declared.Facts.{Facts}
 use Rattle.follow.specs.Sample.{wordsOf}
+use Rattle.follow.specs.Adding.{factsOf}
+use Rattle.fact_table.specs.Table.{tableSize, rowOf, factsIn, countIn, Gathered}
 use Rattle.minimal.proofs.Demand as Demand
 use Rattle.sample.specs.Sample.{chainOfWords}
 use Rattle.spelling.specs.House.{declaration}
@@ -28,6 +32,20 @@ use Rattle.intake.proofs.Inferring.{none-there, some-there}
 use Rattle.output.specs.Output.{lineOf, linesFrom, longestOutput, bookIn}
 
 -- ---- one parent
+
+-- what the table keeps of a parent of the book
+module _ (s : List ℕ) (l : Layout) (laid : LaidOut s l) (table : List ℕ) (gathered : Gathered s table) (p : ℕ) (below : p < l .names) where
+  placed : p < places
+  placed = lt-of-lt-of-le below (few-names s l laid)
+
+  pub row-there : (length table ≡ tableSize) × (p < places)
+  row-there = (gathered .size, placed)
+
+  pub counted-in : (k : ℕ) → k ≡ countIn (rowOf table p) → k ≡ length (wordsOf p (blocksIn s))
+  counted-in k e = e ∙ gathered .counts p placed
+
+  pub facts-in : (facts : Facts) → facts ≡ factsIn (rowOf table p) → facts ≡ factsOf (wordsOf p (blocksIn s))
+  facts-in facts e = e ∙ gathered .facts p placed
 
 module _ (s : List ℕ) (l : Layout) (laid : LaidOut s l) where
   pub book-is : bookOf s ≡ given (bookIn s)

@@ -12,6 +12,7 @@ ghost use lib.Dec.{ltb};
 ghost use lib.ListN.{length};
 ghost use Rattle.book.specs.Book.{bookOf};
 ghost use Rattle.book.specs.Access.{LaidOut};
+ghost use Rattle.fact_table.specs.Table.{Gathered};
 ghost use Rattle.declaration.specs.Put.{Put};
 ghost use Rattle.output.specs.Output.{lineOf, linesFrom, refusedText, outputOf, longestOutput, bookIn};
 
@@ -38,28 +39,37 @@ fn put_refused(out: &mut [u8], refusal: Refusal) -> usize
 }
 
 // The declaration of a parent and a line feed, or nothing where it has no block.
-fn put_line(out: &mut [u8], at: usize, bytes: &[u8], layout: Layout, parent: usize) -> usize
-    requires { ⌜ LaidOut (now bytes) layout × (parent < layout .names) × (at + length (lineOf (bookIn (now bytes)) parent) ≤ length (now out)) ⌝ }
+fn put_line(
+    out: &mut [u8],
+    at: usize,
+    bytes: &[u8],
+    layout: Layout,
+    table: &[u64],
+    parent: usize,
+) -> usize
+    requires { ⌜ LaidOut (now bytes) layout × Gathered (now bytes) (now table) × (parent < layout .names)
+        × (at + length (lineOf (bookIn (now bytes)) parent) ≤ length (now out)) ⌝ }
     ensures { λ r. ⌜ Put (now (out .entry)) at (lineOf (bookIn (now (bytes .entry))) parent) r (now (out .exit)) ⌝ }
 {
-    let found = sample::sample_chain(bytes, layout, parent);
+    let found = fact_table::facts_in(table, parent);
     if found.blocks == 0 {
         return at;
     }
-    let model = found.model;
+    let model = chain::chain(found.facts, layout.names);
     let end = put_declaration(out, at, bytes, layout, parent, model);
     put_some(out, end, b'\n')
 }
 
-// The lines of all parents.
+// The lines of all parents, their facts gathered in one walk over the blocks.
 fn put_lines(out: &mut [u8], bytes: &[u8], layout: Layout) -> usize
     requires { ⌜ LaidOut (now bytes) layout × (longestOutput ≤ length (now out)) ⌝ }
     ensures { λ r. ⌜ Put (now (out .entry)) 0 (linesFrom (bookIn (now (bytes .entry))) 0 (layout .names)) r (now (out .exit)) ⌝ }
 {
+    let table = fact_table::gather_facts(bytes, layout);
     let mut to = 0;
     let mut parent = 0;
     while parent < layout.names {
-        to = put_line(out, to, bytes, layout, parent);
+        to = put_line(out, to, bytes, layout, &table, parent);
         parent += 1;
     }
     to
