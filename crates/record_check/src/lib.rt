@@ -1,13 +1,14 @@
 // Whether a model record is a chain.
 ghost use Prim.Native.Nat.{ℕ, _≤_, _<_};
 ghost use mathlib.Core.Path.{_≡_};
-ghost use mathlib.Core.Bool.{_||_};
+ghost use mathlib.Core.Bool.{true, _||_};
 ghost use lib.Dec.{eqb};
 ghost use lib.ListN.{length, getD};
 ghost use Rattle.nameset.specs.Places.{places};
 ghost use Rattle.nameset.specs.Set.{member};
 ghost use Rattle.model.specs.Record.{none};
 ghost use Rattle.model.specs.Check.{allBelow, anyBelow, mayHold, mayBe, allPlaced, allKnown, isChain};
+use byte_row::largest_from;
 use model::Model;
 use model::NONE;
 use model::entry;
@@ -84,25 +85,25 @@ fn all_used(count: usize, used: NameSet) -> bool
     true
 }
 
-// Whether a mode may be that of a factor, which the record has or not.
-fn may_be(has: bool, mode: u8) -> bool
-    ensures { λ r. ⌜ r ≡ mayBe has mode ⌝ }
+// Whether a mode may be that of a factor that the record has.
+fn is_mode(mode: u8) -> bool
+    ensures { λ r. ⌜ r ≡ mayBe true mode ⌝ }
 {
-    if has { mode <= 3 } else { mode == 0 }
+    match mode {
+        0..=3 => true,
+        4..=255 => false,
+    }
 }
 
-// Whether each factor has a mode that it may have.
+// Whether each factor has a mode that it may have: the largest mode is judged, and the largest of those that belong to no factor.
 fn all_known(count: usize, mode: &[u8]) -> bool
     ensures { λ r. ⌜ r ≡ allKnown (length (now (mode .entry))) count (now (mode .entry)) ⌝ }
 {
-    let mut i = 0;
-    while i < mode.len() {
-        if !may_be(i < count, entry(mode, i, 0)) {
-            return false;
-        }
-        i += 1;
+    if is_mode(largest_from(mode, 0)) {
+        largest_from(mode, count) == 0
+    } else {
+        false
     }
-    true
 }
 
 // Whether the record is a chain over n names.

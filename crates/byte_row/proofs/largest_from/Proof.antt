@@ -1,25 +1,25 @@
--- `largest` meets its contract: the answer is the larger of `top` and the numbers from i on.
+-- `largest_from` meets its contract: the answer is the larger of `top` and the bytes from i on.
 -- Assumes nothing.
-use Prim.Native.Nat.{ℕ, suc, _+_, _-_, _≤_, _<_, max}
-use mathlib.Core.Path.{_≡_, refl, sym, _∙_, ap}
+use Prim.Native.Nat.{ℕ, _+_, _-_, _≤_, _<_, max}
+use mathlib.Core.Path.{_≡_, sym, _∙_}
 use mathlib.Core.Logic.{⊎-elim}
-use mathlib.Core.List.{List, [], _∷_}
+use mathlib.Core.List.{List}
 use native.Mathlib.Omega.{arith}
 use native.Mathlib.Numerals.{add-one}
 use lib.ListN.{length, getD, drop, drop-of-length-le}
 use lib.Seq.{drop-cons}
-use Rattle.book.specs.Word.{largest}
-use Rattle.book.proofs.word.largest.Statement.{statement}
-use Rattle.book.proofs.word.largest.Tie as tie
-use Rattle.book.proofs.word.largest.Reads as reads
-use Rattle.book.proofs.word.largest.Lts as lts
+use Rattle.byte_row.specs.Largest.{largest}
+use Rattle.byte_row.proofs.largest_from.Statement.{statement}
+use Rattle.byte_row.proofs.largest_from.Tie as tie
+use Rattle.byte_row.proofs.largest_from.Reads as reads
+use Rattle.byte_row.proofs.largest_from.Lts as lts
 
 left : List ℕ → ℕ → ℕ
 left s i = largest (drop i s)
 
-begin : (s : List ℕ) → largest s ≡ max 0 (left s 0)
+begin : (s : List ℕ) (from : ℕ) → largest (drop from s) ≡ max 0 (left s from)
 unfolding left
-begin s = omega arith
+begin s from = omega arith
 
 next : (s : List ℕ) (i top new : ℕ) → i < length s → new ≡ max top (getD s i 0) → max top (left s i) ≡ max new (left s (i + 1))
 unfolding left largest
@@ -30,13 +30,13 @@ unfolding left largest
 done s i top h = rw (drop-of-length-le s h) (omega arith)
 
 abbrev Inv-loop : tie.InvT-loop
-Inv-loop word top₀ i₀ top i = (i ≤ length word) × (largest word ≡ max top (left word i))
+Inv-loop row from top₀ i₀ top i = largest (drop from row) ≡ max top (left row i)
 
 abbrev μ-loop : tie.MeasureT-loop
-μ-loop word top₀ i₀ top i = length word - i
+μ-loop row from top₀ i₀ top i = length row - i
 
 loop-holds : tie.Need-loop-holds Inv-loop μ-loop
-loop-holds c = (omega arith, begin _)
+loop-holds c = begin _ _
 
 shared-slice-read-if1 : tie.Need-shared-slice-read-if1 Inv-loop μ-loop
 shared-slice-read-if1 c = omega arith
@@ -53,13 +53,13 @@ loop-less c = omega arith
 loop-again : tie.Need-loop-again Inv-loop μ-loop
 loop-again c =
     let l = c .before .before .before .loop in
-    (omega arith, l .inv .1 ∙ next _ _ _ _ (omega arith) (⊎-elim (λ w. omega arith) (λ w. omega arith) (c .if1 .came)))
+    l .inv ∙ next _ _ _ _ (omega arith) (⊎-elim (λ w. omega arith) (λ w. omega arith) (c .if1 .came))
 
 returns : tie.Need-returns Inv-loop μ-loop
-returns c = sym (c .before .loop .inv .1 ∙ done _ _ _ (c .loop-test .left))
+returns c = sym (c .before .loop .inv ∙ done _ _ _ (c .loop-test .left))
 
-pub largest-spec : {M : Type 1} → statement M
-largest-spec =
+pub largest-from-spec : {M : Type 1} → statement M
+largest-from-spec =
     tie.close
     (tie.spec
     Inv-loop
