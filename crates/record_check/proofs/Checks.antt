@@ -12,19 +12,15 @@ use lib.ListN.{length, getD, List·getD-eq-default}
 use Rattle.model.specs.declared.Model.{Model}
 use Rattle.model.specs.Record.{none}
 use Rattle.model.specs.Check.{allBelow, anyBelow, allPlaced, allNamed, allKnown, isChain}
-use Rattle.model.proofs.Tests.{same-test, all-law}
+use Rattle.model.proofs.Tests.{same-test}
 use Rattle.model.proofs.Chain.{placed-law, name-law}
+use Rattle.record_check.proofs.Factors.{all-same}
 
 -- Where both rows have `size` places, the four checks are left.
 pub sized : (size n : ℕ) (m : Model) → length (m .factor) ≡ size → length (m .mode) ≡ size
     → isChain size n m ≡ (leb (m .count) size && (allPlaced size n (m .count) (m .factor) && (allNamed n (m .count) (m .factor) && allKnown size (m .count) (m .mode))))
 unfolding isChain
 sized size n m p q = rw (eq-eqb (length (m .factor)) size p, eq-eqb (length (m .mode)) size q)
-
-all-same : (n : ℕ) (f g : ℕ → Bool) → ((k : ℕ) → k < n → f k ≡ g k) → allBelow n f ≡ allBelow n g
-all-same n f g h =
-    same-test (allBelow n f) (allBelow n g) (λ e. all-law n g .1 (λ k l. sym (h k l) ∙ all-law n f .0 e k l))
-    (λ e. all-law n f .1 (λ k l. h k l ∙ all-law n g .0 e k l))
 
 -- Where all entries are right, a factor has a name below n if it stands at any place.
 pub used-named : (size n count : ℕ) (l : List ℕ) (used : ℕ → Bool) → length l ≡ size → size ≤ none → count ≤ size → allPlaced size n count l ≡ true

@@ -2,12 +2,13 @@
 ghost use Prim.Native.Nat.{ℕ, _≤_, _<_};
 ghost use mathlib.Core.Path.{_≡_};
 ghost use mathlib.Core.Bool.{true, _||_};
-ghost use lib.Dec.{eqb};
+ghost use lib.Dec.{eqb, ltb, leb};
 ghost use lib.ListN.{length, getD};
 ghost use Rattle.nameset.specs.Places.{places};
 ghost use Rattle.nameset.specs.Set.{member};
 ghost use Rattle.model.specs.Record.{none};
 ghost use Rattle.model.specs.Check.{allBelow, anyBelow, mayHold, mayBe, allPlaced, allKnown, isChain};
+use byte_row::larger;
 use byte_row::largest_from;
 use model::Model;
 use model::NONE;
@@ -15,33 +16,35 @@ use model::entry;
 use nameset::NameSet;
 use nameset::PLACES;
 
-// Whether v may be the entry of a number, which is a name's or not.
-fn may_hold(count: usize, named: bool, v: u8) -> bool
-    ensures { λ r. ⌜ r ≡ mayHold count named v ⌝ }
+// An entry counted from 1, and 0 for none: it is at most F exactly where a name may have that entry.
+fn counted(v: u8) -> u8
+    ensures { λ r. ⌜ ((count : ℕ) → leb r count ≡ mayHold count true v) ⌝ }
 {
-    if named {
-        if v == NONE {
-            true
-        } else {
-            (v as usize) < count
-        }
-    } else {
-        v == NONE
-    }
+    if v == NONE { 0 } else { v + 1 }
 }
 
-// Whether each number has an entry that it may have.
+// Whether each number from a place on is in one of the first `count` factors or in none. No early end: the loop runs over many entries at once.
+fn all_among(count: usize, factor: &[u8], from: usize) -> bool
+    ensures { λ r. ⌜ r ≡ allBelow (length (now (factor .entry))) (λ x. ltb x from || mayHold count true (getD (now (factor .entry)) x none)) ⌝ }
+{
+    let mut top: u8 = 0;
+    let mut x = from;
+    while x < factor.len() {
+        top = larger(top, counted(entry(factor, x, NONE)));
+        x += 1;
+    }
+    (top as usize) <= count
+}
+
+// Whether each number has an entry that it may have: every number one of the factors or none, and those that are no name's none.
 fn all_placed(n: usize, count: usize, factor: &[u8]) -> bool
     ensures { λ r. ⌜ r ≡ allPlaced (length (now (factor .entry))) n count (now (factor .entry)) ⌝ }
 {
-    let mut x = 0;
-    while x < factor.len() {
-        if !may_hold(count, x < n, entry(factor, x, NONE)) {
-            return false;
-        }
-        x += 1;
+    if all_among(count, factor, 0) {
+        all_among(0, factor, n)
+    } else {
+        false
     }
-    true
 }
 
 // The set `used` with the factor v, if there is such a factor.
