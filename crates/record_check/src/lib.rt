@@ -1,5 +1,5 @@
 // Whether a model record is a chain.
-ghost use Prim.Native.Nat.{ℕ, _≤_, _<_};
+ghost use Prim.Native.Nat.{ℕ, _≤_, _<_, min};
 ghost use mathlib.Core.Path.{_≡_};
 ghost use mathlib.Core.Bool.{true, _||_};
 ghost use lib.Dec.{eqb, ltb, leb};
@@ -59,14 +59,21 @@ fn with_factor(used: NameSet, count: usize, v: u8) -> NameSet
     }
 }
 
-// The factors that hold a name.
-fn used_factors(count: usize, factor: &[u8]) -> NameSet
-    requires { ⌜ count ≤ places ⌝ }
-    ensures { λ r. ⌜ ((i : ℕ) → i < count → member r i ≡ anyBelow (length (now (factor .entry))) (λ x. eqb (getD (now (factor .entry)) x none) i)) ⌝ }
+fn smaller(a: usize, b: usize) -> usize
+    ensures { λ r. ⌜ r ≡ min a b ⌝ }
 {
+    if a < b { a } else { b }
+}
+
+// The factors that hold one of the n names.
+fn used_factors(n: usize, count: usize, factor: &[u8]) -> NameSet
+    requires { ⌜ count ≤ places ⌝ }
+    ensures { λ r. ⌜ ((i : ℕ) → i < count → member r i ≡ anyBelow n (λ x. eqb (getD (now (factor .entry)) x none) i)) ⌝ }
+{
+    let end = smaller(n, factor.len());
     let mut used = NameSet::empty();
     let mut x = 0;
-    while x < factor.len() {
+    while x < end {
         used = with_factor(used, count, entry(factor, x, NONE));
         x += 1;
     }
@@ -120,7 +127,7 @@ pub fn is_chain(n: usize, m: Model) -> bool
     if !all_placed(n, count, &m.factor) {
         return false;
     }
-    if !all_used(count, used_factors(count, &m.factor)) {
+    if !all_used(count, used_factors(n, count, &m.factor)) {
         return false;
     }
     all_known(count, &m.mode)
