@@ -80,19 +80,12 @@ fn used_factors(n: usize, count: usize, factor: &[u8]) -> NameSet
     used
 }
 
-// Whether every factor is in the set.
+// Whether every factor is in the set: the first number that is not in it is no factor's.
 fn all_used(count: usize, used: NameSet) -> bool
     requires { ⌜ count ≤ places ⌝ }
     ensures { λ r. ⌜ r ≡ allBelow count (member used) ⌝ }
 {
-    let mut i = 0;
-    while i < count {
-        if !used.has(i) {
-            return false;
-        }
-        i += 1;
-    }
-    true
+    count <= NameSet::full().minus(used).first()
 }
 
 // Whether a mode may be that of a factor that the record has.
