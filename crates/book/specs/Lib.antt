@@ -1,6 +1,5 @@
 pub mod Field
 pub mod Book
 pub mod Layout
-pub mod Word
 pub mod Bytes
 pub mod Access

@@ -81,7 +81,7 @@ named-law n count l =
     let a = all-law count (λ i. anyBelow n (λ x. eqb (getD l x none) i)) in
     (λ e i h. name-law n l i .0 (a .0 e i h), λ f. a .1 (λ i h. name-law n l i .1 (f i h)))
 
-known-law : (size count : ℕ) (l : List ℕ) → (allKnown size count l ≡ true) ↔ ((i : ℕ) → i < size → Mode count i (getD l i 0))
+pub known-law : (size count : ℕ) (l : List ℕ) → (allKnown size count l ≡ true) ↔ ((i : ℕ) → i < size → Mode count i (getD l i 0))
 unfolding allKnown
 known-law size count l =
     let a = all-law size (λ i. mayBe (ltb i count) (getD l i 0)) in

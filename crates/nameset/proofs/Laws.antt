@@ -7,11 +7,11 @@ use mathlib.Core.Bool.{Bool, true, false, _&&_, _||_, not}
 use mathlib.Core.List.{List, [], _∷_, map, map-id}
 use native.Mathlib.Omega.{arith}
 use native.Mathlib.Nat.{lt-of-le-of-lt}
-use lib.Dec.{eqb}
+use lib.Dec.{eqb, ltb}
 use lib.ListN.{getD}
 use lib.Pow.{pow-pos, pow-lt}
 use lib.Bits.{and-le-l, or-lt, xor-lt}
-use lib.Count.{trailing-le}
+use lib.Count.{trailingZeros, trailing-le}
 use mir.Val.{Val}
 use base.Fml.{Fml}
 use denote.Shadow.{shadow}
@@ -20,15 +20,19 @@ use denote.Struct.Declared.{row}
 use borrow.Author.Tests.{eqb-true, eqb-false, eq-eqb}
 use Rattle.nameset.specs.Places.{places}
 use Rattle.nameset.specs.declared.NameSet.{NameSet}
-use Rattle.nameset.specs.Set.{member, Sized, empty, with, union, both, minus, isEmpty, first, rest, size, ofWord, wordOf}
+use Rattle.nameset.specs.Set.{member, Sized, empty, full, with, union, both, minus, isEmpty, first, rest, size, ofWord, wordOf}
 use Rattle.nameset.proofs.NameSet.{the-type, the-field}
-use Rattle.nameset.proofs.Digits.{bit, bit-or, bit-and, bit-diff, bit-zero, bit-pow, bit-past, same-bits, zeros-below, lowest-one, cleared, bit-cleared, ones-cleared}
+use Rattle.nameset.proofs.Digits.{bit, bit-or, bit-and, bit-diff, bit-zero, bit-pow, bit-past, bit-all, same-bits, zeros-below, lowest-one, cleared, bit-cleared, ones-cleared}
 
 -- ---- members
 
 pub member-empty : (j : ℕ) → member empty j ≡ false
 unfolding member bit
 member-empty = bit-zero
+
+pub member-full : (j : ℕ) → member full j ≡ ltb j places
+unfolding member bit
+member-full = bit-all places
 
 pub member-with : (s : NameSet) (i j : ℕ) → member (with s i) j ≡ (member s j || eqb i j)
 unfolding member with bit
@@ -138,6 +142,10 @@ first-bound s = trailing-le places (s .bits)
 pub first-least : (s : NameSet) (j : ℕ) → j < first s → member s j ≡ false
 unfolding first member bit
 first-least s = zeros-below places (s .bits)
+
+pub first-none : (s : NameSet) → isEmpty s ≡ true → first s ≡ places
+unfolding first trailingZeros
+first-none s e = ap first (isEmpty-is s e)
 
 positive : (s : NameSet) → isEmpty s ≡ false → 0 < s .bits
 unfolding isEmpty

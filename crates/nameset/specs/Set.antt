@@ -1,6 +1,6 @@
 -- Sets of name numbers, and what each operation of the crate computes. What members each result has is in proofs/Laws.antt.
 -- Assumes nothing.
-use Prim.Native.Nat.{ℕ, _/_, _%_, _^_, _<_}
+use Prim.Native.Nat.{ℕ, _-_, _/_, _%_, _^_, _<_}
 use mathlib.Core.Bool.{Bool}
 use lib.Dec.{eqb}
 use lib.Bits.{bitOr, bitAnd, bitXor}
@@ -19,6 +19,10 @@ Sized s = s .bits < 2 ^ places
 -- The set with no member.
 abbrev pub empty : NameSet
 empty = record { bits = 0 }
+
+-- The set with every name.
+abbrev pub full : NameSet
+full = record { bits = 2 ^ places - 1 }
 
 -- The set s with the name i put in.
 unfoldable pub with : NameSet → ℕ → NameSet

@@ -2,9 +2,9 @@
 ghost use mathlib.Core.Path.{_≡_};
 ghost use mathlib.Core.Bool.{false, _&&_, _||_, not};
 ghost use Prim.Native.Nat.{_<_};
-ghost use lib.Dec.{eqb};
+ghost use lib.Dec.{eqb, ltb};
 ghost use Rattle.nameset.specs.Places.{places, goodCount};
-ghost use Rattle.nameset.specs.Set.{member, empty, with, union, both, minus, ofWord, wordOf};
+ghost use Rattle.nameset.specs.Set.{member, empty, full, with, union, both, minus, ofWord, wordOf};
 ghost use Rattle.nameset.specs.Promise.{Made, Emptiness, Smallest, Shrunk};
 
 // The number of places: names are numbered below it.
@@ -30,6 +30,15 @@ impl NameSet {
         ensures { λ r. ⌜ Made r empty (λ j. false) ⌝ }
     {
         NameSet { bits: 0 }
+    }
+
+    // The set of all names: one for each place.
+    pub fn full() -> NameSet
+        ensures { λ r. ⌜ Made r full (λ j. ltb j places) ⌝ }
+    {
+        NameSet {
+            bits: 0xffff_ffff_ffff_ffff,
+        }
     }
 
     pub fn has(self, i: usize) -> bool

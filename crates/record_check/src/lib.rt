@@ -1,46 +1,50 @@
 // Whether a model record is a chain.
-ghost use Prim.Native.Nat.{ℕ, _≤_, _<_};
+ghost use Prim.Native.Nat.{ℕ, _≤_, _<_, min};
 ghost use mathlib.Core.Path.{_≡_};
-ghost use mathlib.Core.Bool.{_||_};
-ghost use lib.Dec.{eqb};
+ghost use mathlib.Core.Bool.{true, _||_};
+ghost use lib.Dec.{eqb, ltb, leb};
 ghost use lib.ListN.{length, getD};
 ghost use Rattle.nameset.specs.Places.{places};
 ghost use Rattle.nameset.specs.Set.{member};
 ghost use Rattle.model.specs.Record.{none};
 ghost use Rattle.model.specs.Check.{allBelow, anyBelow, mayHold, mayBe, allPlaced, allKnown, isChain};
+use byte_row::larger;
+use byte_row::largest_from;
 use model::Model;
 use model::NONE;
 use model::entry;
 use nameset::NameSet;
 use nameset::PLACES;
 
-// Whether v may be the entry of a number, which is a name's or not.
-fn may_hold(count: usize, named: bool, v: u8) -> bool
-    ensures { λ r. ⌜ r ≡ mayHold count named v ⌝ }
+// An entry counted from 1, and 0 for none: it is at most F exactly where a name may have that entry.
+fn counted(v: u8) -> u8
+    ensures { λ r. ⌜ ((count : ℕ) → leb r count ≡ mayHold count true v) ⌝ }
 {
-    if named {
-        if v == NONE {
-            true
-        } else {
-            (v as usize) < count
-        }
-    } else {
-        v == NONE
-    }
+    if v == NONE { 0 } else { v + 1 }
 }
 
-// Whether each number has an entry that it may have.
+// Whether each number from a place on is in one of the first `count` factors or in none. No early end: the loop runs over many entries at once.
+fn all_among(count: usize, factor: &[u8], from: usize) -> bool
+    ensures { λ r. ⌜ r ≡ allBelow (length (now (factor .entry))) (λ x. ltb x from || mayHold count true (getD (now (factor .entry)) x none)) ⌝ }
+{
+    let mut top: u8 = 0;
+    let mut x = from;
+    while x < factor.len() {
+        top = larger(top, counted(entry(factor, x, NONE)));
+        x += 1;
+    }
+    (top as usize) <= count
+}
+
+// Whether each number has an entry that it may have: every number one of the factors or none, and those that are no name's none.
 fn all_placed(n: usize, count: usize, factor: &[u8]) -> bool
     ensures { λ r. ⌜ r ≡ allPlaced (length (now (factor .entry))) n count (now (factor .entry)) ⌝ }
 {
-    let mut x = 0;
-    while x < factor.len() {
-        if !may_hold(count, x < n, entry(factor, x, NONE)) {
-            return false;
-        }
-        x += 1;
+    if all_among(count, factor, 0) {
+        all_among(0, factor, n)
+    } else {
+        false
     }
-    true
 }
 
 // The set `used` with the factor v, if there is such a factor.
@@ -55,54 +59,54 @@ fn with_factor(used: NameSet, count: usize, v: u8) -> NameSet
     }
 }
 
-// The factors that hold a name.
-fn used_factors(count: usize, factor: &[u8]) -> NameSet
-    requires { ⌜ count ≤ places ⌝ }
-    ensures { λ r. ⌜ ((i : ℕ) → i < count → member r i ≡ anyBelow (length (now (factor .entry))) (λ x. eqb (getD (now (factor .entry)) x none) i)) ⌝ }
+fn smaller(a: usize, b: usize) -> usize
+    ensures { λ r. ⌜ r ≡ min a b ⌝ }
 {
+    if a < b { a } else { b }
+}
+
+// The factors that hold one of the n names.
+fn used_factors(n: usize, count: usize, factor: &[u8]) -> NameSet
+    requires { ⌜ count ≤ places ⌝ }
+    ensures { λ r. ⌜ ((i : ℕ) → i < count → member r i ≡ anyBelow n (λ x. eqb (getD (now (factor .entry)) x none) i)) ⌝ }
+{
+    let end = smaller(n, factor.len());
     let mut used = NameSet::empty();
     let mut x = 0;
-    while x < factor.len() {
+    while x < end {
         used = with_factor(used, count, entry(factor, x, NONE));
         x += 1;
     }
     used
 }
 
-// Whether every factor is in the set.
+// Whether every factor is in the set: the first number that is not in it is no factor's.
 fn all_used(count: usize, used: NameSet) -> bool
     requires { ⌜ count ≤ places ⌝ }
     ensures { λ r. ⌜ r ≡ allBelow count (member used) ⌝ }
 {
-    let mut i = 0;
-    while i < count {
-        if !used.has(i) {
-            return false;
-        }
-        i += 1;
-    }
-    true
+    count <= NameSet::full().minus(used).first()
 }
 
-// Whether a mode may be that of a factor, which the record has or not.
-fn may_be(has: bool, mode: u8) -> bool
-    ensures { λ r. ⌜ r ≡ mayBe has mode ⌝ }
+// Whether a mode may be that of a factor that the record has.
+fn is_mode(mode: u8) -> bool
+    ensures { λ r. ⌜ r ≡ mayBe true mode ⌝ }
 {
-    if has { mode <= 3 } else { mode == 0 }
+    match mode {
+        0..=3 => true,
+        4..=255 => false,
+    }
 }
 
-// Whether each factor has a mode that it may have.
+// Whether each factor has a mode that it may have: the largest mode is judged, and the largest of those that belong to no factor.
 fn all_known(count: usize, mode: &[u8]) -> bool
     ensures { λ r. ⌜ r ≡ allKnown (length (now (mode .entry))) count (now (mode .entry)) ⌝ }
 {
-    let mut i = 0;
-    while i < mode.len() {
-        if !may_be(i < count, entry(mode, i, 0)) {
-            return false;
-        }
-        i += 1;
+    if is_mode(largest_from(mode, 0)) {
+        largest_from(mode, count) == 0
+    } else {
+        false
     }
-    true
 }
 
 // Whether the record is a chain over n names.
@@ -116,7 +120,7 @@ pub fn is_chain(n: usize, m: Model) -> bool
     if !all_placed(n, count, &m.factor) {
         return false;
     }
-    if !all_used(count, used_factors(count, &m.factor)) {
+    if !all_used(count, used_factors(n, count, &m.factor)) {
         return false;
     }
     all_known(count, &m.mode)

@@ -12,7 +12,8 @@ use Rattle.nameset.specs.Places.{places}
 use Rattle.model.specs.declared.Model.{Model}
 use Rattle.model.specs.Record.{none}
 use Rattle.model.specs.Check.{allBelow, anyBelow, allPlaced, allNamed, allKnown, isChain}
-use Rattle.record_check.proofs.Checks.{sized, used-named}
+use Rattle.record_check.proofs.Factors.{used-named}
+use Rattle.record_check.proofs.Checks.{sized}
 use Rattle.record_check.proofs.is_chain.Statement.{statement}
 use Rattle.record_check.proofs.is_chain.Tie as tie
 
@@ -24,13 +25,13 @@ module _ (n : ℕ) (m : Model) (f : length (m .factor) ≡ places) (g : length (
     placed : not r ≡ true → isChain places n m ≡ false
     placed h = rw (sized places n m f g, le-leb (m .count) places l, ← f, ← e, not-true r h)
 
-    module _ (h : not r ≡ false) {used : ℕ → Bool} (u : (i : ℕ) → i < m .count → used i ≡ anyBelow (length (m .factor)) (λ x. eqb (getD (m .factor) x none) i))
+    module _ (h : not r ≡ false) {used : ℕ → Bool} (u : (i : ℕ) → i < m .count → used i ≡ anyBelow n (λ x. eqb (getD (m .factor) x none) i))
         {t : Bool} (d : t ≡ allBelow (m .count) used) where
       all : allPlaced places n (m .count) (m .factor) ≡ true
       all = rw (← f, ← e, not-false r h)
 
       names : t ≡ allNamed n (m .count) (m .factor)
-      names = d ∙ used-named places n (m .count) (m .factor) used f (omega arith) l all (rw f at u)
+      names = d ∙ used-named n (m .count) (m .factor) used u
 
       named : not t ≡ true → isChain places n m ≡ false
       named k = rw (sized places n m f g, le-leb (m .count) places l, all, ← names, not-true t k)

@@ -1,6 +1,6 @@
 -- `record_check::used_factors` meets its contract. The set has the factors of the names passed.
 -- Assumes nothing.
-use Prim.Native.Nat.{ℕ, _-_, _≤_, _<_}
+use Prim.Native.Nat.{ℕ, _-_, _≤_, _<_, min}
 use mathlib.Core.Path.{_≡_, sym, _∙_, ap, ap₂}
 use mathlib.Core.Bool.{Bool, _||_}
 use mathlib.Core.List.{List}
@@ -12,6 +12,7 @@ use Rattle.nameset.specs.Set.{member}
 use Rattle.model.specs.Record.{none}
 use Rattle.model.specs.Check.{anyBelow}
 use Rattle.model.proofs.Tests.{any-start, any-more}
+use Rattle.record_check.proofs.Factors.{named-within}
 use Rattle.record_check.proofs.used_factors.Statement.{statement}
 use Rattle.record_check.proofs.used_factors.Tie as tie
 
@@ -20,10 +21,13 @@ abbrev holds : List ℕ → ℕ → ℕ → Bool
 holds factor i x = eqb (getD factor x none) i
 
 abbrev Inv-loop : tie.InvT-loop
-Inv-loop count factor used₀ x₀ used x = (x ≤ length factor) × ((i : ℕ) → i < count → member used i ≡ anyBelow x (holds factor i))
+Inv-loop n count factor end used₀ x₀ used x = (x ≤ end) × ((i : ℕ) → i < count → member used i ≡ anyBelow x (holds factor i))
 
 abbrev μ-loop : tie.MeasureT-loop
-μ-loop count factor used₀ x₀ used x = length factor - x
+μ-loop n count factor end used₀ x₀ used x = end - x
+
+smaller-requires : tie.Need-smaller-requires Inv-loop μ-loop
+smaller-requires c κs = search needs
 
 empty-requires : tie.Need-empty-requires Inv-loop μ-loop
 empty-requires c κs = search needs
@@ -46,14 +50,19 @@ loop-less c = search needs
 loop-again : tie.Need-loop-again Inv-loop μ-loop
 loop-again c =
     let l = c .before .before .before .loop in
-    let f = c .before .before .before .before .before .before .args .factor .now in
+    let f = c .before .before .before .before .before .before .before .args .factor .now in
     let here : (i : ℕ) → eqb (c .before .entry .result) i ≡ holds f i (l .x) = λ i. ap (λ (v : ℕ). eqb v i) (c .before .entry .ensures) in
     (omega arith, λ i h. c .with-factor .ensures i h ∙ ap₂ _||_ (l .inv .1 i h) (here i) ∙ sym (any-more (l .x) (holds f i)))
 
 returns : tie.Need-returns Inv-loop μ-loop
 returns c =
     let l = c .before .loop in
-    λ i h. let e : l .x ≡ length (c .before .before .before .before .args .factor .now) = omega arith in rw (← e) (l .inv .1 i h)
+    let u = c .before .before .before in
+    let o = u .before .before in
+    let n = o .args .n in
+    let f = o .args .factor .now in
+    let e : l .x ≡ min n (length f) = omega (arith, u .smaller .ensures) in
+    λ i h. l .inv .1 i h ∙ ap (λ (k : ℕ). anyBelow k (holds f i)) e ∙ named-within n f i (omega (arith, o .pre))
 
 pub used-factors-spec : {M : Type 1} → statement M
 used-factors-spec =
@@ -61,6 +70,7 @@ used-factors-spec =
     (tie.spec
     Inv-loop
     μ-loop
+    smaller-requires
     empty-requires
     loop-holds
     entry-requires

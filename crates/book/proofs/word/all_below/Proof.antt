@@ -9,14 +9,13 @@ use native.Mathlib.Omega.{arith}
 use native.Mathlib.Decide.{decLt}
 use lib.Dec.{ltb}
 use borrow.Author.Tests.{lt-ltb, le-ltb}
+use Rattle.byte_row.specs.Largest.{largest}
 use Rattle.book.specs.Book.{allBelow}
-use Rattle.book.specs.Word.{largest}
 use borrow.Author.Needs.{needs}
 use Rattle.book.proofs.word.all_below.Statement.{statement}
 use Rattle.book.proofs.word.all_below.Tie as tie
 use Rattle.book.proofs.word.all_below.Reads as reads
 use Rattle.book.proofs.word.all_below.Lts as lts
-use Rattle.book.proofs.word.largest.Reads as largest-reads
 use Rattle.book.proofs.field.wide.Reads as wide-reads
 
 both-below : (n x y : ℕ) → ltb (max x y) n ≡ (ltb x n && ltb y n)
@@ -35,14 +34,14 @@ below n (x ∷ s) h = both-below n x (largest s) ∙ ap (λ (b : Bool). ltb x n 
 judged : (n : ℕ) (s : List ℕ) (top : ℕ) → 0 < n → top ≡ largest s → ltb top n ≡ allBelow n s
 judged n s top h e = ap (λ (x : ℕ). ltb x n) e ∙ below n s h
 
-largest-requires : tie.Need-largest-requires
-largest-requires c κs = search needs
+largest-from-requires : tie.Need-largest-from-requires
+largest-from-requires c κs = search needs
 
 wide-requires : tie.Need-wide-requires
 wide-requires c κs = search needs
 
 returns : tie.Need-returns
-returns c = judged _ _ _ (c .before .before .before .pre) (c .wide .ensures .0 ∙ c .before .largest .ensures)
+returns c = judged _ _ _ (c .before .before .before .pre) (c .wide .ensures .0 ∙ c .before .largest-from .ensures)
 
 pub all-below-spec : {M : Type 1} → statement M
-all-below-spec = tie.close (tie.spec largest-requires wide-requires returns)
+all-below-spec = tie.close (tie.spec largest-from-requires wide-requires returns)

@@ -1,4 +1,4 @@
--- The largest number of a word.
+-- The largest number of a row.
 -- Assumes nothing.
 use Prim.Native.Nat.{ℕ, max}
 use mathlib.Core.List.{List, [], _∷_}

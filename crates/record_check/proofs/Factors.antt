@@ -1,0 +1,137 @@
+-- The check of the factor row by the largest of its entries, and the names of a factor.
+-- Assumes nothing.
+use Prim.Native.Nat.{ℕ, _+_, _≤_, _<_, max, min}
+use mathlib.Core.Path.{_≡_, refl, sym, _∙_}
+use mathlib.Core.Bool.{Bool, true, false, _&&_, _||_, and-true, and-false}
+use mathlib.Core.List.{List}
+use native.Mathlib.Omega.{arith}
+use native.Mathlib.Numerals.{add-one}
+use native.Mathlib.Decide.{decLt, decLe}
+use borrow.Author.Tests.{eq-eqb, ne-eqb, lt-ltb, le-ltb, le-leb, lt-leb}
+use lib.Dec.{eqb, ltb, leb}
+use lib.ListN.{length, getD, List·getD-eq-default}
+use Rattle.model.specs.Record.{none}
+use Rattle.model.specs.Check.{allBelow, anyBelow, mayHold, allPlaced, allNamed}
+use Rattle.model.proofs.Tests.{both, and-left, and-right, same-test, all-law}
+use Rattle.model.proofs.Chain.{name-law}
+
+-- ---- tests over all numbers below a bound
+
+all-same : (n : ℕ) (f g : ℕ → Bool) → ((k : ℕ) → k < n → f k ≡ g k) → allBelow n f ≡ allBelow n g
+all-same n f g h =
+    same-test (allBelow n f) (allBelow n g) (λ e. all-law n g .1 (λ k l. sym (h k l) ∙ all-law n f .0 e k l))
+    (λ e. all-law n f .1 (λ k l. h k l ∙ all-law n g .0 e k l))
+
+-- Numbers that pass anyway need no test.
+all-past : (n k : ℕ) (f : ℕ → Bool) → n ≤ k → ((x : ℕ) → n ≤ x → f x ≡ true) → allBelow k f ≡ allBelow n f
+all-past n k f l h =
+    same-test (allBelow k f) (allBelow n f) (λ e. all-law n f .1 (λ x d. all-law k f .0 e x (omega arith)))
+    (λ e. all-law k f .1 (λ x d. at e x (decLt x n)))
+  where
+    at : allBelow n f ≡ true → (x : ℕ) → Dec (x < n) → f x ≡ true
+    at e x (yes d) = all-law n f .0 e x d
+    at e x (no d) = h x (omega arith)
+
+all-both : (n : ℕ) (f g : ℕ → Bool) → allBelow n (λ k. f k && g k) ≡ (allBelow n f && allBelow n g)
+all-both n f g =
+    same-test (allBelow n (λ k. f k && g k)) (allBelow n f && allBelow n g)
+    (λ e. both (allBelow n f) (allBelow n g)
+      (all-law n f .1 (λ k l. and-left (f k) (g k) (all-law n (λ k. f k && g k) .0 e k l)))
+      (all-law n g .1 (λ k l. and-right (f k) (g k) (all-law n (λ k. f k && g k) .0 e k l))))
+    (λ e. all-law n (λ k. f k && g k) .1 (λ k l.
+      both (f k) (g k) (all-law n f .0 (and-left (allBelow n f) (allBelow n g) e) k l)
+      (all-law n g .0 (and-right (allBelow n f) (allBelow n g) e) k l)))
+
+-- ---- an entry counted from 1
+
+pub none-counted : (v : ℕ) → v ≡ none → (count : ℕ) → leb 0 count ≡ mayHold count true v
+unfolding mayHold
+none-counted v e count = rw (eq-eqb v none e) (le-leb 0 count (omega arith))
+
+pub factor-counted : (v : ℕ) → (v ≡ none → ⊥) → (count : ℕ) → leb (v + 1) count ≡ mayHold count true v
+unfolding mayHold
+factor-counted v h count = rw (ne-eqb v none h) (go (decLt v count))
+  where
+    go : Dec (v < count) → leb (v + 1) count ≡ ltb v count
+    go (yes l) = let m : v + 1 ≤ count = omega arith in rw (lt-ltb v count l, le-leb (v + 1) count m)
+    go (no l) = let k : count ≤ v = omega arith in let m : count < v + 1 = omega arith in rw (le-ltb v count k, lt-leb (v + 1) count m)
+
+-- ---- the entries from a place on
+
+both-most : (x y k : ℕ) → leb (max x y) k ≡ (leb x k && leb y k)
+both-most x y k = go (decLe x k) (decLe y k)
+  where
+    go : Dec (x ≤ k) → Dec (y ≤ k) → leb (max x y) k ≡ (leb x k && leb y k)
+    go (yes a) (yes b) = let m : max x y ≤ k = omega arith in rw (le-leb x k a, le-leb y k b, le-leb (max x y) k m)
+    go (yes a) (no b) = let c : k < y = omega arith in let m : k < max x y = omega arith in rw (le-leb x k a, lt-leb y k c, lt-leb (max x y) k m)
+    go (no a) b = let c : k < x = omega arith in let m : k < max x y = omega arith in rw (lt-leb x k c, lt-leb (max x y) k m)
+
+module _ (count : ℕ) (factor : List ℕ) (from : ℕ) where
+  -- The number x stands before the place, or is in one of the first `count` factors or in none.
+  abbrev pub among : ℕ → Bool
+  among x = ltb x from || mayHold count true (getD factor x none)
+
+  pub among-start : leb 0 count ≡ allBelow from among
+  among-start = le-leb 0 count (omega arith) ∙ sym (all-law from among .1 (λ x l. rw (lt-ltb x from l)))
+
+  pub among-more : (x top v : ℕ) → from ≤ x → leb top count ≡ allBelow x among → leb v count ≡ mayHold count true (getD factor x none)
+      → leb (max top v) count ≡ allBelow (x + 1) among
+  unfolding allBelow
+  among-more x top v h p q = rw (add-one x, both-most top v count, p, q, le-ltb x from h)
+
+  pub among-done : (x top : ℕ) → length factor ≤ x → leb top count ≡ allBelow x among → leb top count ≡ allBelow (length factor) among
+  unfolding mayHold
+  among-done x top h p = p ∙ all-past (length factor) x among h (λ y l. past y l (ltb y from))
+    where
+      past : (y : ℕ) → length factor ≤ y → (b : Bool) → (b || mayHold count true (getD factor y none)) ≡ true
+      past y l true = refl
+      past y l false = let e : getD factor y none ≡ none = List·getD-eq-default factor none l in rw (e, eq-eqb none none refl)
+
+-- ---- all entries
+
+-- A number's entry is right where it is one of the factors or none, and none where the number is no name's.
+entry-split : (n count x v : ℕ) → mayHold count (ltb x n) v ≡ ((ltb x 0 || mayHold count true v) && (ltb x n || mayHold 0 true v))
+unfolding mayHold
+entry-split n count x v = go (ltb x n)
+  where
+    other : (e l : Bool) → e ≡ ((e || l) && (e || false))
+    other true l = refl
+    other false l = sym (and-false l)
+
+    go : (b : Bool) → mayHold count b v ≡ ((ltb x 0 || mayHold count true v) && (b || mayHold 0 true v))
+    go true = rw (le-ltb x 0 (omega arith)) (sym (and-true (mayHold count true v)))
+    go false = rw (le-ltb x 0 (omega arith), le-ltb v 0 (omega arith)) (other (eqb v none) (ltb v count))
+
+module _ (n count : ℕ) (factor : List ℕ) where
+  placed : allPlaced (length factor) n count factor ≡ (allBelow (length factor) (among count factor 0) && allBelow (length factor) (among 0 factor n))
+  unfolding allPlaced
+  placed =
+      all-same (length factor) (λ x. mayHold count (ltb x n) (getD factor x none)) (λ x. among count factor 0 x && among 0 factor n x)
+      (λ x l. entry-split n count x (getD factor x none))
+      ∙ all-both (length factor) (among count factor 0) (among 0 factor n)
+
+  -- The same, as the code finds it.
+  module _ {b : Bool} (e : b ≡ allBelow (length factor) (among count factor 0)) where
+    pub all-placed : b ≡ true → {r : Bool} → r ≡ allBelow (length factor) (among 0 factor n) → r ≡ allPlaced (length factor) n count factor
+    all-placed t f = rw (placed, ← e, t) f
+
+    pub one-misplaced : b ≡ false → false ≡ allPlaced (length factor) n count factor
+    one-misplaced t = rw (placed, ← e, t)
+
+-- ---- the factors of names
+
+-- A number past the row's end is in no factor.
+pub named-within : (n : ℕ) (factor : List ℕ) (i : ℕ) → i < none → anyBelow (min n (length factor)) (λ x. eqb (getD factor x none) i) ≡ anyBelow n (λ x. eqb (getD factor x none) i)
+named-within n factor i h =
+    same-test (anyBelow (min n (length factor)) (λ x. eqb (getD factor x none) i)) (anyBelow n (λ x. eqb (getD factor x none) i))
+    (λ e. let r = name-law (min n (length factor)) factor i .0 e in name-law n factor i .1 (r .0, omega (arith, r .1), r .2))
+    (λ e. let r = name-law n factor i .0 e in name-law (min n (length factor)) factor i .1 (r .0, within (r .0) (r .1) (r .2) (decLt (r .0) (length factor)), r .2))
+  where
+    within : (x : ℕ) → x < n → getD factor x none ≡ i → Dec (x < length factor) → x < min n (length factor)
+    within x l e (yes b) = omega arith
+    within x l e (no b) = absurd (omega (arith, List·getD-eq-default factor none {n = x} (omega arith)))
+
+pub used-named : (n count : ℕ) (factor : List ℕ) (used : ℕ → Bool)
+    → ((i : ℕ) → i < count → used i ≡ anyBelow n (λ x. eqb (getD factor x none) i)) → allBelow count used ≡ allNamed n count factor
+unfolding allNamed
+used-named n count factor used u = all-same count used (λ i. anyBelow n (λ x. eqb (getD factor x none) i)) u
