@@ -11,8 +11,6 @@ use borrow.Author.Needs.{needs}
 use Rattle.byte_row.specs.Largest.{largest}
 use Rattle.byte_row.proofs.largest_from.Statement.{statement}
 use Rattle.byte_row.proofs.largest_from.Tie as tie
-use Rattle.byte_row.proofs.largest_from.Reads as reads
-use Rattle.byte_row.proofs.largest_from.Lts as lts
 
 left : List ℕ → ℕ → ℕ
 left s i = largest (drop i s)

@@ -1,6 +1,5 @@
 -- `record_check::counted` meets its contract.
 -- Assumes nothing.
-use native.Mathlib.Omega.{arith}
 use borrow.Author.Needs.{needs}
 use Rattle.record_check.proofs.Factors.{none-counted, factor-counted}
 use Rattle.record_check.proofs.counted.Statement.{statement}
