@@ -22,7 +22,7 @@ use Rattle.spelling.specs.House.{declaration}
 use Rattle.spelling.specs.Read.{declared, readText}
 use Rattle.spelling.proofs.Books.{book-written}
 use Rattle.declaration.specs.Write.{fitted, writeAnswer, bufferAfter}
-use Rattle.declaration.proofs.Puts.{wrote-none, wrote-start}
+use Rattle.putting.proofs.Puts.{wrote-none, wrote-start}
 
 -- a text that is due is the declaration, fits the buffer, and reads back
 pub record Due (s : List ℕ) (p : ℕ) (m : Model) (room : ℕ) (text : List ℕ) : Type 0 where

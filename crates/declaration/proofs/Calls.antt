@@ -10,49 +10,31 @@ use borrow.Author.Tests.{lt-ltb, le-ltb}
 use Rattle.refusal.specs.declared.Refusal.{Refusal}
 use Rattle.refusal.specs.declared.Refusal.the-variants.{BadParent, NotAChain, BufferTooShort}
 use Rattle.refusal.specs.declared.Outcome.the-variants.{Done, Refused}
-use Rattle.refusal.specs.Answer.{Answer, given, refused}
+use Rattle.refusal.specs.Answer.{Answer, refused}
 use Rattle.nameset.specs.Places.{places}
 use Rattle.book.specs.declared.Layout.{Layout}
 use Rattle.book.specs.declared.Reading.{Reading}
 use Rattle.book.specs.Book.{bookOf, namesIn}
 use Rattle.book.specs.Layout.{readingOf, layoutOf}
 use Rattle.book.specs.Access.{LaidOut}
-use Rattle.book.proofs.Laws.{laid-out, book-refused, name-count, names-in}
+use Rattle.book.proofs.Laws.{laid-out, book-refused, names-in}
 use Rattle.model.specs.declared.Model.{Model}
 use Rattle.model.specs.Record.{IsChain}
 use Rattle.model.specs.Check.{isChain}
 use Rattle.model.proofs.Chain.{chain-law}
 use Rattle.spelling.specs.House.{declaration}
 use Rattle.spelling.specs.Length.{longestDeclaration}
-use Rattle.spelling.proofs.Books.{book-longest}
+use Rattle.putting.specs.Put.{wrote, Put}
+use Rattle.putting.proofs.Puts.{wrote-none, wrote-back}
+use Rattle.declaration_text.proofs.Whole.{declaration-short}
 use Rattle.declaration.specs.declared.Written.{Written}
-use Rattle.declaration.specs.Put.{wrote, Put}
-use Rattle.declaration.specs.Parts.{textOf}
 use Rattle.declaration.specs.Write.{fitted, writeAnswer, noText, written, bufferAfter}
-use Rattle.declaration.proofs.Puts.{wrote-none, wrote-back, put-is}
-use Rattle.declaration.proofs.Text.{text-is}
 
 -- ---- a chain of a book that was read
 
 module _ (s : List ℕ) (l : Layout) (laid : LaidOut s l) (p : ℕ) (below : p < l .names) (m : Model) (c : IsChain places (l .names) m) where
-  chain : IsChain places (length (namesIn s)) m
-  chain = subst (λ (n : ℕ). IsChain places n m) (name-count s l laid) c
-
-  -- what is put together is the declaration, and it fits aside
-  whole-is : textOf (namesIn s) (l .names) p m ≡ declaration (namesIn s) p m
-  whole-is = ap (λ (n : ℕ). textOf (namesIn s) n p m) (name-count s l laid) ∙ text-is (namesIn s) p m chain
-
-  pub text-room : (at z : ℕ) → at + length (declaration (namesIn s) p m) ≤ z → at + length (textOf (namesIn s) (l .names) p m) ≤ z
-  text-room at z h = rw whole-is h
-
-  pub declaration-put : (d : List ℕ) (at to : ℕ) (e : List ℕ) → Put d at (textOf (namesIn s) (l .names) p m) to e → Put d at (declaration (namesIn s) p m) to e
-  declaration-put d at to e = put-is d at (textOf (namesIn s) (l .names) p m) (declaration (namesIn s) p m) to e whole-is
-
-  pub declaration-short : length (declaration (namesIn s) p m) ≤ longestDeclaration
-  declaration-short = let q : p < length (namesIn s) = omega (arith, name-count s l laid) in book-longest s l laid p m q chain
-
   pub fits-aside : (z : ℕ) → z ≡ longestDeclaration → 0 + length (declaration (namesIn s) p m) ≤ z
-  fits-aside z e = let h : length (declaration (namesIn s) p m) ≤ longestDeclaration = declaration-short in omega arith
+  fits-aside z e = let h : length (declaration (namesIn s) p m) ≤ longestDeclaration = declaration-short s l laid p below m c in omega arith
 
 -- ---- 12, else the text
 

@@ -1,3 +1,1 @@
-pub mod Put
-pub mod Parts
 pub mod Write

@@ -14,7 +14,7 @@ use Rattle.model.specs.declared.Model.{Model}
 use Rattle.model.specs.Check.{isChain}
 use Rattle.spelling.specs.House.{declaration}
 use Rattle.declaration.specs.declared.Written.{Written}
-use Rattle.declaration.specs.Put.{wrote}
+use Rattle.putting.specs.Put.{wrote}
 
 -- "12: shorter than the declaration", for a buffer of so many bytes.
 unfoldable pub fitted : ℕ → List ℕ → Answer (List ℕ)

@@ -1,25 +1,19 @@
 // Writing one declaration into a lent buffer.
 use book::Layout;
+use declaration_text::put_declaration;
 use model::Model;
+use putting::put_all;
 use refusal::Outcome;
 use refusal::Refusal;
 ghost use mathlib.Core.Path.{_≡_};
-ghost use Prim.Native.Nat.{_+_, _≤_, _<_};
+ghost use Prim.Native.Nat.{_<_};
 ghost use lib.ListN.{length};
 ghost use Rattle.nameset.specs.Places.{places};
 ghost use Rattle.book.specs.Book.{namesIn};
 ghost use Rattle.book.specs.Access.{LaidOut};
 ghost use Rattle.model.specs.Record.{IsChain};
 ghost use Rattle.spelling.specs.House.{declaration};
-ghost use Rattle.declaration.specs.Put.{Put};
 ghost use Rattle.declaration.specs.Write.{fitted, written, bufferAfter, writeAnswer, noText};
-
-mod put; // put.rt: bytes into a lent buffer
-mod parts; // parts.rt: the parts of a declaration
-mod whole; // whole.rt: the text of a declaration
-
-pub use put::put_all;
-pub use put::put_some;
 
 // The most bytes that a declaration has.
 const LONGEST: usize = 2253;
@@ -40,26 +34,18 @@ pub fn refused(refusal: Refusal) -> Written
     }
 }
 
-// The declaration of a chain for a parent, of a book that was read, put into a buffer with room for it.
-pub fn put_declaration(buffer: &mut [u8], at: usize, bytes: &[u8], layout: Layout, parent: usize, m: Model) -> usize
-    requires { ⌜ LaidOut (now bytes) layout × (parent < layout .names) × IsChain places (layout .names) m × (at + length (declaration (namesIn (now bytes)) parent m) ≤ length (now buffer)) ⌝ }
-    ensures { λ r. ⌜ Put (now (buffer .entry)) at (declaration (namesIn (now (bytes .entry))) parent m) r (now (buffer .exit)) ⌝ }
-{
-    whole::put_text(buffer, at, bytes, layout, parent, m)
-}
-
-// The same, or 12. It is put together aside, so that no byte of the buffer changes unless all fit.
+// The declaration of a chain for a parent, of a book that was read, or 12. It is put together aside, so that no byte of the buffer changes unless all fit.
 pub fn write_chain(bytes: &[u8], layout: Layout, parent: usize, m: Model, buffer: &mut [u8]) -> Written
     requires { ⌜ LaidOut (now bytes) layout × (parent < layout .names) × IsChain places (layout .names) m ⌝ }
     ensures { λ r. ⌜ (r ≡ written (fitted (length (now (buffer .entry))) (declaration (namesIn (now (bytes .entry))) parent m)))
         × (now (buffer .exit) ≡ bufferAfter (now (buffer .entry)) (fitted (length (now (buffer .entry))) (declaration (namesIn (now (bytes .entry))) parent m))) ⌝ }
 {
-    let mut text = [0u8; 2253];
+    let mut text = [0u8; LONGEST];
     let size = put_declaration(&mut text, 0, bytes, layout, parent, m);
     if buffer.len() < size {
         return refused(Refusal::BufferTooShort);
     }
-    put::put_all(buffer, 0, book::part(&text, 0, size));
+    put_all(buffer, 0, book::part(&text, 0, size));
     Written {
         outcome: Outcome::Done,
         length: size,

@@ -19,7 +19,7 @@ use Rattle.model.proofs.Chain.{chain-law}
 use Rattle.language.specs.Word.{AcceptsAll}
 use Rattle.declaration.specs.declared.Written.{Written}
 use Rattle.declaration.specs.Write.{writeAnswer, written, bufferAfter}
-use Rattle.declaration.proofs.Puts.{wrote-back}
+use Rattle.putting.proofs.Puts.{wrote-back}
 use Rattle.declaration.proofs.Back.{text-due}
 use Rattle.reading.specs.declared.Declaration.{Declaration}
 use Rattle.reading.specs.Read.{ReadsDeclaration}

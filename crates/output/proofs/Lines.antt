@@ -23,9 +23,9 @@ use Rattle.minimal.proofs.Demand as Demand
 use Rattle.sample.specs.Sample.{chainOfWords}
 use Rattle.spelling.specs.House.{declaration}
 use Rattle.spelling.specs.Length.{longestDeclaration}
-use Rattle.declaration.specs.Put.{Put, shown}
-use Rattle.declaration.proofs.Puts.{Left, left-start, left-is, left-put, left-room, left-fits, left-last, left-done, put-nothing, put-is}
-use Rattle.declaration.proofs.Calls.{declaration-short}
+use Rattle.putting.specs.Put.{Put, shown}
+use Rattle.putting.proofs.Puts.{Left, left-start, left-is, left-put, left-room, left-fits, left-last, left-done, put-nothing, put-is}
+use Rattle.declaration_text.proofs.Whole.{declaration-short}
 use Rattle.intake.specs.Inference.{sampleOf, noWord, chainIn}
 use Rattle.intake.proofs.Samples.{some-word, few, sample-names}
 use Rattle.intake.proofs.Inferring.{none-there, some-there}

@@ -15,8 +15,8 @@ use Rattle.book.specs.Book.{bookOf}
 use Rattle.book.specs.Layout.{readingOf}
 use Rattle.book.specs.Access.{LaidOut}
 use Rattle.book.proofs.Laws.{laid-out, book-refused, name-count}
-use Rattle.declaration.specs.Put.{Put}
-use Rattle.declaration.proofs.Puts.{put-is}
+use Rattle.putting.specs.Put.{Put}
+use Rattle.putting.proofs.Puts.{put-is}
 use Rattle.output.specs.Output.{linesFrom, refusedText, outputOf, longestOutput, bookIn}
 use Rattle.output.proofs.Lines.{book-is, lines-room}
 use Rattle.output.proofs.Refused.{room}

@@ -11,8 +11,8 @@ use lib.ListN.{length, length-append}
 use borrow.Author.Tests.{lt-ltb, le-ltb}
 use Rattle.refusal.specs.declared.Refusal.{Refusal}
 use Rattle.refusal.specs.Table.{numberOf}
-use Rattle.declaration.specs.Put.{Put, shown}
-use Rattle.declaration.proofs.Puts.{Left, left-start, left-is, left-put, left-room, left-fits, left-last, shown-none, shown-one}
+use Rattle.putting.specs.Put.{Put, shown}
+use Rattle.putting.proofs.Puts.{Left, left-start, left-is, left-put, left-room, left-fits, left-last, shown-none, shown-one}
 use Rattle.output.specs.Output.{decimal, refusedWord, refusedText, longestOutput}
 
 digits : (n t : ℕ) (after : List ℕ) → t ≡ cond (ltb n 10) 0 (48 + n / 10) → decimal n ++ after ≡ shown t ++ (shown (48 + n % 10) ++ after)

@@ -1,8 +1,8 @@
 // What the program prints for a book: all of its declarations, or why it was refused.
 use book::Layout;
-use declaration::put_all;
-use declaration::put_declaration;
-use declaration::put_some;
+use declaration_text::put_declaration;
+use putting::put_all;
+use putting::put_some;
 use refusal::Outcome;
 use refusal::Refusal;
 ghost use mathlib.Core.Path.{_≡_};
@@ -13,7 +13,7 @@ ghost use lib.ListN.{length};
 ghost use Rattle.book.specs.Book.{bookOf};
 ghost use Rattle.book.specs.Access.{LaidOut};
 ghost use Rattle.fact_table.specs.Table.{Gathered};
-ghost use Rattle.declaration.specs.Put.{Put};
+ghost use Rattle.putting.specs.Put.{Put};
 ghost use Rattle.output.specs.Output.{lineOf, linesFrom, refusedText, outputOf, longestOutput, bookIn};
 
 // The most bytes that are printed for a book: 64 declarations of 2,253 bytes, each with a line feed.

@@ -3,7 +3,7 @@
 use Prim.Native.Nat.{_-_, _≤_}
 use native.Mathlib.Omega.{arith}
 use borrow.Author.Needs.{needs}
-use Rattle.declaration.proofs.Puts.{Left}
+use Rattle.putting.proofs.Puts.{Left}
 use Rattle.output.specs.Output.{linesFrom, bookIn}
 use Rattle.output.proofs.Lines.{lines-room, lines-start, line-room, lines-more, lines-done}
 use Rattle.output.proofs.put_lines.Statement.{statement}

@@ -1,0 +1,88 @@
+-- `put_factors` meets its contract: of the whole text, the factors from i on are still to be put.
+-- Assumes nothing.
+use Prim.Native.Nat.{_-_, _≤_}
+use native.Mathlib.Omega.{arith}
+use Rattle.book.specs.Book.{namesIn}
+use Rattle.book.proofs.Laws.{few-names}
+use Rattle.factor_text.specs.Parts.{factorsText}
+use Rattle.putting.proofs.Puts.{Left}
+use Rattle.declaration_text.proofs.Steps.{factors-start, before-room, factor-room, factors-more, factors-done}
+use borrow.Author.Needs.{needs}
+use Rattle.declaration_text.proofs.put_factors.Statement.{statement}
+use Rattle.declaration_text.proofs.put_factors.Tie as tie
+
+abbrev Inv-loop : tie.InvT-loop
+Inv-loop buffer₀ at bytes layout m rows to₀ i₀ buffer to i =
+    (i ≤ m .count) × Left buffer₀ at (factorsText (namesIn bytes) (layout .names) m 0 (m .count)) buffer to (factorsText (namesIn bytes) (layout .names) m i (m .count - i))
+
+abbrev μ-loop : tie.MeasureT-loop
+μ-loop buffer₀ at bytes layout m rows to₀ i₀ buffer to i = m .count - i
+
+factor-rows-requires : tie.Need-factor-rows-requires Inv-loop μ-loop
+factor-rows-requires c κs = few-names _ _ (c .before .before .pre .0)
+
+loop-holds : tie.Need-loop-holds Inv-loop μ-loop
+loop-holds c = (omega arith, factors-start _ _ _ _ _)
+
+before-requires : tie.Need-before-requires Inv-loop μ-loop
+before-requires c κs = search needs
+
+put-some-requires : tie.Need-put-some-requires Inv-loop μ-loop
+put-some-requires c κs = before-room _ _ _ _ _ (c .before .before .if1 .taken) (c .before2 .ensures) _ _ _ _ _ (c .before .before .before .before .loop .inv .1) (c .before .before .before .before .before .before .before .before .pre .1)
+
+mul-of-word : tie.Need-mul-of-word Inv-loop μ-loop
+mul-of-word c = omega arith
+
+array-read-of-word : tie.Need-array-read-of-word Inv-loop μ-loop
+array-read-of-word c = search needs
+
+of-word-requires : tie.Need-of-word-requires Inv-loop μ-loop
+of-word-requires c κs = search needs
+
+put-factor-requires : tie.Need-put-factor-requires Inv-loop μ-loop
+put-factor-requires c κs =
+    let turn = c .before .before .before .before .before .before .before in
+    let pre = c .before .before .before .before .before .before .before .before .before .before .before .before .before .pre in (
+      pre .0,
+      factor-room _ _ _ _ _ (turn .if1 .taken) (c .before .before .before .before .before .before2 .ensures) _ _ _ _ _ (turn .before .before .loop .inv .1) _ _ (c .before .before .before .before .put-some .ensures) (pre .1),
+      rw (c .of-word .ensures) (c .before .before .before .before .before .before .before .before .before .before .factor-rows .ensures .row _ (omega arith)),
+    )
+
+add-i : tie.Need-add-i Inv-loop μ-loop
+add-i c = omega arith
+
+loop-less : tie.Need-loop-less Inv-loop μ-loop
+loop-less c = omega arith
+
+loop-again : tie.Need-loop-again Inv-loop μ-loop
+loop-again c =
+    let turn = c .before .before .before .before .before .before .before .before .before .before in (
+      omega arith,
+      factors-more _ _ _ _ _ (turn .if1 .taken) (c .before .before .before .before .before .before .before .before .before2 .ensures) _ _ _ _ _ (turn .before .before .loop .inv .1) _ _ (c .before .before .before .before .before .before .before .put-some .ensures) _ _ (c .before .before .put-factor .ensures),
+    )
+
+same-length : tie.Need-same-length Inv-loop μ-loop
+same-length c = c .before .before .loop .inv .1 .same
+
+returns : tie.Need-returns Inv-loop μ-loop
+returns c = factors-done _ _ _ _ (c .if1 .left) _ _ _ _ _ (c .before .before .loop .inv .1)
+
+pub put-factors-spec : {M : Type 1} → statement M
+put-factors-spec =
+    tie.close
+    (tie.spec
+    Inv-loop
+    μ-loop
+    factor-rows-requires
+    loop-holds
+    before-requires
+    put-some-requires
+    mul-of-word
+    array-read-of-word
+    of-word-requires
+    put-factor-requires
+    add-i
+    loop-less
+    loop-again
+    same-length
+    returns)

@@ -1,0 +1,22 @@
+-- The names of a factor as a set, and the sets of all factors as a row of words.
+-- Assumes nothing.
+use Prim.Native.Nat.{ℕ, _<_}
+use mathlib.Core.Path.{_≡_}
+use mathlib.Core.Bool.{_&&_}
+use mathlib.Core.List.{List}
+use lib.Dec.{eqb, ltb}
+use lib.ListN.{length, getD}
+use Rattle.nameset.specs.Places.{places}
+use Rattle.nameset.specs.declared.NameSet.{NameSet}
+use Rattle.nameset.specs.Set.{member, ofWord}
+use Rattle.model.specs.declared.Model.{Model}
+use Rattle.model.specs.Record.{factorOf}
+
+-- The set has those of the first n names that factor i holds, and no others.
+pub record NamesOf (m : Model) (n i : ℕ) (s : NameSet) : Type 0 where
+  pub law : (x : ℕ) → member s x ≡ (ltb x n && eqb (factorOf m x) i)
+
+-- For each place i, the word at i keeps the names of factor i.
+pub record RowsOf (m : Model) (n : ℕ) (rows : List ℕ) : Type 0 where
+  pub size : length rows ≡ places
+  pub row : (i : ℕ) → i < places → NamesOf m n i (ofWord (getD rows i 0))
