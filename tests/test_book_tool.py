@@ -97,9 +97,30 @@ class Documents(unittest.TestCase):
     def test_what_is_left_out(self):
         book, notes = made(b"<e xmlns='u' k='1'><!-- x --><m k='2'>text</m> <?p x?><m>more</m><m> \n </m><m><![CDATA[x]]></m></e>")
         self.assertEqual(shown(book), b"e: m m m m\nm:\nm:\nm:\nm:\n")
-        self.assertEqual(len(notes), 2)
+        self.assertEqual(len(notes), 3)
         self.assertIn("text left out of m (3)", notes[0])
-        self.assertIn("attributes left out of e (1), m (1)", notes[1])
+        self.assertIn("white space, comments or processing instructions left out of m (1)", notes[1])
+        self.assertIn("attributes left out of e (1), m (1)", notes[2])
+
+    def test_left_out_without_text(self):
+        """A note exactly where a DTD made from the book turns the document away."""
+        for text, said in (
+            (b"<a><b> </b><b>\n</b></a>", "white space, comments or processing instructions left out of b (2)"),
+            (b"<a><b><!--c--></b></a>", "processing instructions left out of b (1)"),
+            (b"<a><b><?p i?></b></a>", "processing instructions left out of b (1)"),
+            (b"<a><b>&#32;</b></a>", "processing instructions left out of b (1)"),
+            (b"<a><![CDATA[ ]]><b/></a>", "CDATA sections left out of a (1)"),
+            (b"<a><b><![CDATA[]]></b></a>", "CDATA sections left out of b (1)"),
+            (b"<a><b><![CDATA[x]]> </b></a>", "text left out of b (1)"),
+            # White space and comments are allowed in a model with names, also where it has no child.
+            (b"<!--c--><a>\n<?p?> <b/> <!--c--></a>\n<!--c-->", None),
+            (b"<a><a><b/></a><a> </a><a><!--c--></a></a>", None),
+        ):
+            with self.subTest(text=text):
+                notes = made(text)[1]
+                self.assertEqual(len(notes), 0 if said is None else 1)
+                if said:
+                    self.assertIn(said, notes[0])
 
     def test_inner_entities_count(self):
         book, _ = made(b"<!DOCTYPE e [<!ENTITY two '<m/><m/>'>]><e>&two;</e>")

@@ -12,14 +12,15 @@ A file that begins with '<' is an XML document; any other file holds lines:
   # text                              a comment; empty lines count for nothing
 
 Of an XML document each element is a block: its name, and the names of its child elements in order. Attributes, text, comments,
-processing instructions and the document type declaration have no place in a book and are left out; `make` says so where it
-leaves out text or attributes. Names stand as they are spelled in the document, so a name with a namespace prefix breaks the
-rule for names. Blocks stand in the order of their opening tags, one for each element; --distinct keeps equal blocks once, which
-changes no model.
+processing instructions and the document type declaration have no place in a book and are left out; `make` says so where a DTD
+made from the book then does not allow them. Names stand as they are spelled in the document, so a name with a namespace prefix
+breaks the rule for names. Blocks stand in the order of their opening tags, one for each element; --distinct keeps equal blocks
+once, which changes no model.
 
 Exit status: 0, or 1 where a file or a book is bad; the reason is then on standard error and no book is written.
 """
 import argparse
+import collections
 import os
 import sys
 import xml.parsers.expat
@@ -169,6 +170,15 @@ def lines_of(names, blocks):
 
 # XML documents
 
+# What elements have beside child elements. Of the first three an element counts once, for the greatest that stands in it.
+BLANK, CDATA, TEXT, ATTRIBUTES = range(4)
+LEFT_OUT = {
+    TEXT: ("text", "a book has no place for text, and a DTD made from this one allows none"),
+    CDATA: ("CDATA sections", "a book has no place for them, and a DTD made from this one allows none, also where they hold no text"),
+    BLANK: ("white space, comments or processing instructions", "a DTD made from this book says EMPTY, which allows none of them"),
+    ATTRIBUTES: ("attributes", "a book has no place for attributes, and a DTD made from this one declares none"),
+}
+
 
 class Document:
     """Walks one document; `blocks` then has a block for each element, in the order of opening tags."""
@@ -178,13 +188,15 @@ class Document:
         self.blocks = []
         self.open = []  # the places in `blocks` of the elements that are open
         self.lines = []  # the line of each block's opening tag
-        self.text = {}  # how many elements of a name have text other than white space
-        self.attributes = {}  # how many elements of a name have attributes
-        self.with_text = set()
+        self.content = {}  # the greatest of BLANK, CDATA and TEXT that stands in the block at a place, where one does
+        self.attributes = []  # the names of the elements that have attributes
         parser = xml.parsers.expat.ParserCreate()
         parser.StartElementHandler = self.start
         parser.EndElementHandler = self.end
         parser.CharacterDataHandler = self.characters
+        parser.StartCdataSectionHandler = lambda: self.holds(CDATA)
+        parser.CommentHandler = lambda _text: self.holds(BLANK)
+        parser.ProcessingInstructionHandler = lambda _target, _text: self.holds(BLANK)
         parser.ExternalEntityRefHandler = self.external
         parser.SkippedEntityHandler = self.skipped
         self.parser = parser
@@ -197,7 +209,7 @@ class Document:
         if self.open:
             self.blocks[self.open[-1]][1].append(name)
         if attributes:
-            self.attributes[name] = self.attributes.get(name, 0) + 1
+            self.attributes.append(name)
         self.open.append(len(self.blocks))
         self.blocks.append((name, []))
         self.lines.append(self.parser.CurrentLineNumber)
@@ -207,13 +219,13 @@ class Document:
         parent, children = self.blocks[place]
         self.blocks[place] = checked_block(self.where(self.lines[place]), parent, children)
 
-    def characters(self, data):
-        if self.open and data.strip(" \t\r\n"):
+    def holds(self, kind):
+        if self.open:
             place = self.open[-1]
-            if place not in self.with_text:
-                self.with_text.add(place)
-                name = self.blocks[place][0]
-                self.text[name] = self.text.get(name, 0) + 1
+            self.content[place] = max(kind, self.content.get(place, kind))
+
+    def characters(self, data):
+        self.holds(TEXT if data.strip(" \t\r\n") else BLANK)
 
     def external(self, _context, _base, system, _public):
         raise Bad(f"{self.where()}: a reference to an entity in another file ({system}); put its text in its place first")
@@ -232,19 +244,21 @@ class Document:
         return self
 
 
-def note_left_out(documents, say):
-    """What the book leaves out, where it matters to a DTD made from it."""
-    for kind, counts, effect in (
-        ("text", [d.text for d in documents], "a book has no place for text, and a DTD made from this one allows none"),
-        ("attributes", [d.attributes for d in documents], "a book has no place for attributes, and a DTD made from this one declares none"),
-    ):
-        total = {}
-        for count in counts:
-            for name, n in count.items():
-                total[name] = total.get(name, 0) + n
-        if total:
-            held = ", ".join(f"{name.decode()} ({n})" for name, n in sorted(total.items()))
-            say(f"note: {kind} left out of {held}: {effect}")
+def note_left_out(documents, blocks, say):
+    """What the book of these blocks leaves out, where a DTD made from it does not allow it."""
+    with_children = {parent for parent, children in blocks if children}
+    found = {kind: collections.Counter() for kind in LEFT_OUT}
+    for document in documents:
+        found[ATTRIBUTES].update(document.attributes)
+        for place, kind in document.content.items():
+            name = document.blocks[place][0]
+            # Around children, and in their place where they may be missing, white space and comments are allowed.
+            if kind != BLANK or name not in with_children:
+                found[kind][name] += 1
+    for kind, (what, effect) in LEFT_OUT.items():
+        if found[kind]:
+            held = ", ".join(f"{name.decode()} ({n})" for name, n in sorted(found[kind].items()))
+            say(f"note: {what} left out of {held}: {effect}")
 
 
 # Books
@@ -330,7 +344,7 @@ def make(files, distinct, say):
             blocks += found
             more += names
     book = book_of(blocks, more, distinct)
-    note_left_out(documents, say)
+    note_left_out(documents, blocks, say)
     return book
 
 
