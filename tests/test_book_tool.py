@@ -14,8 +14,10 @@ import book as tool  # noqa: E402
 import book_cases  # noqa: E402
 
 
-def run(*arguments, fed=b""):
-    done = subprocess.run([sys.executable, str(TOOL), *map(str, arguments)], input=fed, capture_output=True)
+def run(*arguments, fed=b"", redirected=""):
+    """Status, output and messages of the tool; `redirected` is put behind the command, as in a shell."""
+    command = ["sh", "-c", f'"$@" {redirected}', "sh", sys.executable, str(TOOL), *map(str, arguments)]
+    done = subprocess.run(command, input=fed, capture_output=True)
     return done.returncode, done.stdout, done.stderr.decode()
 
 
@@ -208,6 +210,18 @@ class Commands(unittest.TestCase):
             self.assertEqual(book.read_bytes(), b"\1\0\1e\1\0\0\0")
             status, _, said = run("make", "-o", folder, "-", fed=b"<e/>")
             self.assertEqual(status, 1)
+
+    def test_output_that_cannot_be_written(self):
+        for command in (("make", "-"), ("show", ROOT / "samples" / "feed.book")):
+            for redirected, said in ((">/dev/full", "standard output: No space left on device"), (">&-", "standard output is closed")):
+                with self.subTest(command=command[0], redirected=redirected):
+                    done = run(*command, fed=b"<e/>", redirected=redirected)
+                    self.assertEqual(done, (1, b"", f"book.py: {said}\n"))
+
+    def test_other_closed_streams(self):
+        self.assertEqual(run("make", "-", redirected="<&-"), (1, b"", "book.py: standard input is closed\n"))
+        # A note that has nowhere to go stays out of the book.
+        self.assertEqual(run("make", "-", fed=b"<e>t</e>", redirected="2>&-"), (0, b"\1\0\1e\1\0\0\0", ""))
 
     def test_usage(self):
         self.assertEqual(run()[0], 2)

@@ -21,7 +21,6 @@ Exit status: 0, or 1 where a file or a book is bad; the reason is then on standa
 """
 import argparse
 import collections
-import os
 import sys
 import xml.parsers.expat
 
@@ -313,6 +312,8 @@ def read_book(data):
 
 def contents(file):
     """The bytes of a file, and what to call it in a message."""
+    if file == "-" and sys.stdin is None:
+        raise Bad("standard input is closed")
     try:
         if file == "-":
             return sys.stdin.buffer.read(), "standard input"
@@ -348,12 +349,21 @@ def make(files, distinct, say):
     return book
 
 
-def write_file(file, data):
+def write_file(file, called, data):
+    """Writes a file, given by its path or its descriptor, and closes it. A pipe that nobody reads is passed on."""
     try:
         with open(file, "wb") as f:
             f.write(data)
+    except BrokenPipeError:
+        raise
     except OSError as e:
-        raise Bad(f"{file}: {e.strerror}")
+        raise Bad(f"{called}: {e.strerror}")
+
+
+def write_out(data):
+    if sys.stdout is None:
+        raise Bad("standard output is closed")
+    write_file(sys.stdout.fileno(), "standard output", data)
 
 
 def main(arguments=None):
@@ -368,31 +378,30 @@ def main(arguments=None):
     chosen = parser.parse_args(arguments)
 
     def say(line):
-        print(f"book.py: {line}", file=sys.stderr)
+        # Where standard error is closed, `print` would take standard output in its place.
+        if sys.stderr is not None:
+            print(f"book.py: {line}", file=sys.stderr)
 
     try:
         if chosen.command == "make":
             book = make(chosen.files, chosen.distinct, say)
             if chosen.out is not None:
-                write_file(chosen.out, book)
-            elif sys.stdout.isatty():
+                write_file(chosen.out, chosen.out, book)
+            elif sys.stdout is not None and sys.stdout.isatty():
                 raise Bad("a book is no text: give it a file with -o BOOK, or a pipe")
             else:
-                sys.stdout.buffer.write(book)
-                sys.stdout.buffer.flush()
+                write_out(book)
         else:
             data, called = contents(chosen.book)
             try:
                 lines = lines_of(*read_book(data))
             except Refused as e:
                 raise Bad(f"{called}: {e}")
-            sys.stdout.buffer.write(lines)
-            sys.stdout.buffer.flush()
+            write_out(lines)
     except Bad as e:
         say(e)
         return 1
     except BrokenPipeError:
-        os.dup2(os.open(os.devnull, os.O_WRONLY), sys.stdout.fileno())
         return 1
     return 0
 
