@@ -198,6 +198,13 @@ class Commands(unittest.TestCase):
         self.assertEqual((status, out), (1, b""))
         self.assertEqual(said, "book.py: no-such-file: No such file or directory\n")
 
+    def test_messages_are_printable(self):
+        for fed in (b"\x1b[31mred: a\n", "<!DOCTYPE e [<!ENTITY x SYSTEM '\x9b31mred'>]><e>&x;</e>".encode(), b"a: \xff\x07\n"):
+            status, _, said = run("make", "-", fed=fed)
+            self.assertEqual(status, 1)
+            self.assertTrue(said.removesuffix("\n").isprintable(), said)
+        self.assertIn("the name '\\x1b[31mred' holds byte 27", run("make", "-", fed=b"\x1b[31mred: a\n")[2])
+
     def test_bad_file_leaves_the_old_book(self):
         with tempfile.TemporaryDirectory() as folder:
             book = pathlib.Path(folder) / "book"

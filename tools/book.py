@@ -55,6 +55,11 @@ class Refused(Exception):
         self.number = number
 
 
+def printable(message):
+    """The message with escapes for what a terminal would obey and not show."""
+    return "".join(c if c.isprintable() else c.encode("unicode_escape").decode() for c in message)
+
+
 # Names
 
 
@@ -380,7 +385,7 @@ def main(arguments=None):
     def say(line):
         # Where standard error is closed, `print` would take standard output in its place.
         if sys.stderr is not None:
-            print(f"book.py: {line}", file=sys.stderr)
+            print(printable(f"book.py: {line}"), file=sys.stderr)
 
     try:
         if chosen.command == "make":
