@@ -44,8 +44,9 @@ class Lines(unittest.TestCase):
         self.assertEqual(shown(book_cases.EXAMPLE), lines)
 
     def test_layout_of_lines(self):
-        book, _ = made(b"\xef\xbb\xbf# a comment\r\n\r\n  b :a   a\t\r\na:\r\n")
-        self.assertEqual(shown(book), b"b: a a\na:\n")
+        for end in (b"\r\n", b"\r", b"\n"):
+            book, _ = made(b"\xef\xbb\xbf# a comment\n\n  b :a   a\t\na:\n".replace(b"\n", end))
+            self.assertEqual(shown(book), b"b: a a\na:\n")
 
     def test_names_without_a_block(self):
         self.assertEqual(made(b"a:\n+ c b\n+\n")[0], b"\3\0\1a\1b\1c\1\0\0\0")
@@ -61,6 +62,10 @@ class Lines(unittest.TestCase):
             (b"a: 1b\n", "the name '1b' starts with '1'"),
             (b"a: b:c\n", "no namespace prefixes"),
             (b"a: \xce\xb1\n", "holds byte 206"),
+            (b"a:\ra: b:\r", "line 2: the name 'b:'"),
+            ("a: b\n".encode("utf-16"), "it is UTF-16 or no text"),
+            ("a: b\n".encode("utf-16-le"), "it is UTF-16 or no text"),
+            (book_cases.EXAMPLE, "it is UTF-16 or no text"),
             (b"a: " + b"b" * 33 + b"\n", "has 33 bytes"),
             (b"a:" + b" b" * 256 + b"\n", "'a' has 256 children"),
             (b"+ " + b" ".join(b"n%d" % i for i in range(65)), "there are 65 names"),
@@ -129,7 +134,7 @@ class Documents(unittest.TestCase):
         self.assertEqual(shown(book), b"e: m m\nm:\nm:\n")
 
     def test_encodings(self):
-        for text in ("<e><m/></e>".encode("utf-16"), b"\xef\xbb\xbf<e><m/></e>", b"<?xml version='1.0' encoding='ISO-8859-1'?><e><m/></e>"):
+        for text in ("<e><m/></e>".encode("utf-16"), " <e><m/></e>".encode("utf-16"), b"\xef\xbb\xbf<e><m/></e>", b"<?xml version='1.0' encoding='ISO-8859-1'?><e><m/></e>"):
             self.assertEqual(shown(made(text)[0]), b"e: m\nm:\n")
 
     def test_bad_documents(self):
@@ -139,7 +144,8 @@ class Documents(unittest.TestCase):
             (b"<e/><e/>", "junk after document element"),
             (b"<!-- nothing -->", "no element found"),
             (b"<e>&x;</e>", "undefined entity"),
-            (b"<!DOCTYPE e SYSTEM 'e.dtd'><e>&x;</e>", "the entity 'x'"),
+            (b"<!DOCTYPE e SYSTEM 'e.dtd'><e>&x;</e>", "the entity 'x', of which no declaration was read"),
+            (b"<!DOCTYPE e [<!ENTITY % p SYSTEM 'p'> %p; <!ENTITY x 'y'>]><e>&x;</e>", "behind a reference to one"),
             (b"<!DOCTYPE e [<!ENTITY x SYSTEM 'x.xml'>]><e>&x;</e>", "an entity in another file (x.xml)"),
             (b"<e>\n<p:m xmlns:p='u'/></e>", "line 2: the name 'p:m' holds ':'"),
             ("<\u03b1/>".encode(), "holds byte 206"),

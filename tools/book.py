@@ -11,6 +11,8 @@ A file that begins with '<' is an XML document; any other file holds lines:
   + note                              names that the book holds though no block does
   # text                              a comment; empty lines count for nothing
 
+A line ends in LF, CR LF or CR.
+
 Of an XML document each element is a block: its name, and the names of its child elements in order. Attributes, text, comments,
 processing instructions and the document type declaration have no place in a book and are left out; `make` says so where a DTD
 made from the book then does not allow them. Names stand as they are spelled in the document, so a name with a namespace prefix
@@ -31,6 +33,9 @@ CHILDREN = 255
 
 START = frozenset(b"ABCDEFGHIJKLMNOPQRSTUVWXYZabcdefghijklmnopqrstuvwxyz_")
 LATER = START | frozenset(b"0123456789-.")
+
+# The first bytes of a file in UTF-16.
+UTF_16 = (b"\xfe\xff", b"\xff\xfe")
 
 REASONS = {
     1: "the book has more than 60,000 bytes",
@@ -139,7 +144,9 @@ def distinct_size(head, blocks):
 def blocks_of_lines(data, file):
     """The blocks and the further names of a file of lines."""
     blocks, more = [], []
-    for at, line in enumerate(data.split(b"\n"), 1):
+    if data[:2] in UTF_16 or b"\0" in data:
+        raise Bad(f"{file}: neither an XML document nor lines of text in UTF-8: it is UTF-16 or no text")
+    for at, line in enumerate(data.splitlines(), 1):
         where = f"{file}, line {at}"
         line = line.strip()
         if not line or line.startswith(b"#"):
@@ -236,7 +243,8 @@ class Document:
 
     def skipped(self, name, is_parameter):
         if not is_parameter:
-            raise Bad(f"{self.where()}: a reference to the entity '{name}', which the document does not declare")
+            raise Bad(f"{self.where()}: a reference to the entity '{name}', of which no declaration was read; "
+                      "it may stand in another file, or behind a reference to one")
 
     def read(self, data):
         try:
@@ -330,9 +338,9 @@ def contents(file):
 
 def is_xml(data):
     """Whether a file is an XML document: it begins with '<', in UTF-8 or in UTF-16."""
-    if data.startswith((b"\xfe\xff", b"\xff\xfe", b"<\0", b"\0<")):
-        return True
-    return data.removeprefix(b"\xef\xbb\xbf").lstrip().startswith(b"<")
+    if data[:2] in UTF_16:
+        return data.decode("utf-16", "replace").lstrip().startswith("<")
+    return data[:2] in (b"<\0", b"\0<") or data.removeprefix(b"\xef\xbb\xbf").lstrip().startswith(b"<")
 
 
 def make(files, distinct, say):
