@@ -1,4 +1,4 @@
-/* Curlewsong: content models of feeds, for C and C++.
+/* Curlewsong: content models of feeds, for C and C++. The static library is for x86-64 Linux.
  *
  * Every call returns, for every input, and none keeps anything between calls; any number of threads may call at once.
  *

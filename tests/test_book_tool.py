@@ -14,8 +14,10 @@ import book as tool  # noqa: E402
 import book_cases  # noqa: E402
 
 
-def run(*arguments, fed=b""):
-    done = subprocess.run([sys.executable, str(TOOL), *map(str, arguments)], input=fed, capture_output=True)
+def run(*arguments, fed=b"", redirected=""):
+    """Status, output and messages of the tool; `redirected` is put behind the command, as in a shell."""
+    command = ["sh", "-c", f'"$@" {redirected}', "sh", sys.executable, str(TOOL), *map(str, arguments)]
+    done = subprocess.run(command, input=fed, capture_output=True)
     return done.returncode, done.stdout, done.stderr.decode()
 
 
@@ -42,8 +44,9 @@ class Lines(unittest.TestCase):
         self.assertEqual(shown(book_cases.EXAMPLE), lines)
 
     def test_layout_of_lines(self):
-        book, _ = made(b"\xef\xbb\xbf# a comment\r\n\r\n  b :a   a\t\r\na:\r\n")
-        self.assertEqual(shown(book), b"b: a a\na:\n")
+        for end in (b"\r\n", b"\r", b"\n"):
+            book, _ = made(b"\xef\xbb\xbf# a comment\n\n  b :a   a\t\na:\n".replace(b"\n", end))
+            self.assertEqual(shown(book), b"b: a a\na:\n")
 
     def test_names_without_a_block(self):
         self.assertEqual(made(b"a:\n+ c b\n+\n")[0], b"\3\0\1a\1b\1c\1\0\0\0")
@@ -59,6 +62,10 @@ class Lines(unittest.TestCase):
             (b"a: 1b\n", "the name '1b' starts with '1'"),
             (b"a: b:c\n", "no namespace prefixes"),
             (b"a: \xce\xb1\n", "holds byte 206"),
+            (b"a:\ra: b:\r", "line 2: the name 'b:'"),
+            ("a: b\n".encode("utf-16"), "it is UTF-16 or no text"),
+            ("a: b\n".encode("utf-16-le"), "it is UTF-16 or no text"),
+            (book_cases.EXAMPLE, "it is UTF-16 or no text"),
             (b"a: " + b"b" * 33 + b"\n", "has 33 bytes"),
             (b"a:" + b" b" * 256 + b"\n", "'a' has 256 children"),
             (b"+ " + b" ".join(b"n%d" % i for i in range(65)), "there are 65 names"),
@@ -97,16 +104,37 @@ class Documents(unittest.TestCase):
     def test_what_is_left_out(self):
         book, notes = made(b"<e xmlns='u' k='1'><!-- x --><m k='2'>text</m> <?p x?><m>more</m><m> \n </m><m><![CDATA[x]]></m></e>")
         self.assertEqual(shown(book), b"e: m m m m\nm:\nm:\nm:\nm:\n")
-        self.assertEqual(len(notes), 2)
+        self.assertEqual(len(notes), 3)
         self.assertIn("text left out of m (3)", notes[0])
-        self.assertIn("attributes left out of e (1), m (1)", notes[1])
+        self.assertIn("white space, comments or processing instructions left out of m (1)", notes[1])
+        self.assertIn("attributes left out of e (1), m (1)", notes[2])
+
+    def test_left_out_without_text(self):
+        """A note exactly where a DTD made from the book turns the document away."""
+        for text, said in (
+            (b"<a><b> </b><b>\n</b></a>", "white space, comments or processing instructions left out of b (2)"),
+            (b"<a><b><!--c--></b></a>", "processing instructions left out of b (1)"),
+            (b"<a><b><?p i?></b></a>", "processing instructions left out of b (1)"),
+            (b"<a><b>&#32;</b></a>", "processing instructions left out of b (1)"),
+            (b"<a><![CDATA[ ]]><b/></a>", "CDATA sections left out of a (1)"),
+            (b"<a><b><![CDATA[]]></b></a>", "CDATA sections left out of b (1)"),
+            (b"<a><b><![CDATA[x]]> </b></a>", "text left out of b (1)"),
+            # White space and comments are allowed in a model with names, also where it has no child.
+            (b"<!--c--><a>\n<?p?> <b/> <!--c--></a>\n<!--c-->", None),
+            (b"<a><a><b/></a><a> </a><a><!--c--></a></a>", None),
+        ):
+            with self.subTest(text=text):
+                notes = made(text)[1]
+                self.assertEqual(len(notes), 0 if said is None else 1)
+                if said:
+                    self.assertIn(said, notes[0])
 
     def test_inner_entities_count(self):
         book, _ = made(b"<!DOCTYPE e [<!ENTITY two '<m/><m/>'>]><e>&two;</e>")
         self.assertEqual(shown(book), b"e: m m\nm:\nm:\n")
 
     def test_encodings(self):
-        for text in ("<e><m/></e>".encode("utf-16"), b"\xef\xbb\xbf<e><m/></e>", b"<?xml version='1.0' encoding='ISO-8859-1'?><e><m/></e>"):
+        for text in ("<e><m/></e>".encode("utf-16"), " <e><m/></e>".encode("utf-16"), b"\xef\xbb\xbf<e><m/></e>", b"<?xml version='1.0' encoding='ISO-8859-1'?><e><m/></e>"):
             self.assertEqual(shown(made(text)[0]), b"e: m\nm:\n")
 
     def test_bad_documents(self):
@@ -116,7 +144,8 @@ class Documents(unittest.TestCase):
             (b"<e/><e/>", "junk after document element"),
             (b"<!-- nothing -->", "no element found"),
             (b"<e>&x;</e>", "undefined entity"),
-            (b"<!DOCTYPE e SYSTEM 'e.dtd'><e>&x;</e>", "the entity 'x'"),
+            (b"<!DOCTYPE e SYSTEM 'e.dtd'><e>&x;</e>", "the entity 'x', of which no declaration was read"),
+            (b"<!DOCTYPE e [<!ENTITY % p SYSTEM 'p'> %p; <!ENTITY x 'y'>]><e>&x;</e>", "behind a reference to one"),
             (b"<!DOCTYPE e [<!ENTITY x SYSTEM 'x.xml'>]><e>&x;</e>", "an entity in another file (x.xml)"),
             (b"<e>\n<p:m xmlns:p='u'/></e>", "line 2: the name 'p:m' holds ':'"),
             ("<\u03b1/>".encode(), "holds byte 206"),
@@ -175,6 +204,13 @@ class Commands(unittest.TestCase):
         self.assertEqual((status, out), (1, b""))
         self.assertEqual(said, "book.py: no-such-file: No such file or directory\n")
 
+    def test_messages_are_printable(self):
+        for fed in (b"\x1b[31mred: a\n", "<!DOCTYPE e [<!ENTITY x SYSTEM '\x9b31mred'>]><e>&x;</e>".encode(), b"a: \xff\x07\n"):
+            status, _, said = run("make", "-", fed=fed)
+            self.assertEqual(status, 1)
+            self.assertTrue(said.removesuffix("\n").isprintable(), said)
+        self.assertIn("the name '\\x1b[31mred' holds byte 27", run("make", "-", fed=b"\x1b[31mred: a\n")[2])
+
     def test_bad_file_leaves_the_old_book(self):
         with tempfile.TemporaryDirectory() as folder:
             book = pathlib.Path(folder) / "book"
@@ -187,6 +223,18 @@ class Commands(unittest.TestCase):
             self.assertEqual(book.read_bytes(), b"\1\0\1e\1\0\0\0")
             status, _, said = run("make", "-o", folder, "-", fed=b"<e/>")
             self.assertEqual(status, 1)
+
+    def test_output_that_cannot_be_written(self):
+        for command in (("make", "-"), ("show", ROOT / "samples" / "feed.book")):
+            for redirected, said in ((">/dev/full", "standard output: No space left on device"), (">&-", "standard output is closed")):
+                with self.subTest(command=command[0], redirected=redirected):
+                    done = run(*command, fed=b"<e/>", redirected=redirected)
+                    self.assertEqual(done, (1, b"", f"book.py: {said}\n"))
+
+    def test_other_closed_streams(self):
+        self.assertEqual(run("make", "-", redirected="<&-"), (1, b"", "book.py: standard input is closed\n"))
+        # A note that has nowhere to go stays out of the book.
+        self.assertEqual(run("make", "-", fed=b"<e>t</e>", redirected="2>&-"), (0, b"\1\0\1e\1\0\0\0", ""))
 
     def test_usage(self):
         self.assertEqual(run()[0], 2)

@@ -11,16 +11,18 @@ A file that begins with '<' is an XML document; any other file holds lines:
   + note                              names that the book holds though no block does
   # text                              a comment; empty lines count for nothing
 
+A line ends in LF, CR LF or CR.
+
 Of an XML document each element is a block: its name, and the names of its child elements in order. Attributes, text, comments,
-processing instructions and the document type declaration have no place in a book and are left out; `make` says so where it
-leaves out text or attributes. Names stand as they are spelled in the document, so a name with a namespace prefix breaks the
-rule for names. Blocks stand in the order of their opening tags, one for each element; --distinct keeps equal blocks once, which
-changes no model.
+processing instructions and the document type declaration have no place in a book and are left out; `make` says so where a DTD
+made from the book then does not allow them. Names stand as they are spelled in the document, so a name with a namespace prefix
+breaks the rule for names. Blocks stand in the order of their opening tags, one for each element; --distinct keeps equal blocks
+once, which changes no model.
 
 Exit status: 0, or 1 where a file or a book is bad; the reason is then on standard error and no book is written.
 """
 import argparse
-import os
+import collections
 import sys
 import xml.parsers.expat
 
@@ -31,6 +33,9 @@ CHILDREN = 255
 
 START = frozenset(b"ABCDEFGHIJKLMNOPQRSTUVWXYZabcdefghijklmnopqrstuvwxyz_")
 LATER = START | frozenset(b"0123456789-.")
+
+# The first bytes of a file in UTF-16.
+UTF_16 = (b"\xfe\xff", b"\xff\xfe")
 
 REASONS = {
     1: "the book has more than 60,000 bytes",
@@ -53,6 +58,11 @@ class Refused(Exception):
     def __init__(self, number, place, detail):
         super().__init__(f"refused {number}: {REASONS[number]} ({detail}, byte {place})")
         self.number = number
+
+
+def printable(message):
+    """The message with escapes for what a terminal would obey and not show."""
+    return "".join(c if c.isprintable() else c.encode("unicode_escape").decode() for c in message)
 
 
 # Names
@@ -134,7 +144,9 @@ def distinct_size(head, blocks):
 def blocks_of_lines(data, file):
     """The blocks and the further names of a file of lines."""
     blocks, more = [], []
-    for at, line in enumerate(data.split(b"\n"), 1):
+    if data[:2] in UTF_16 or b"\0" in data:
+        raise Bad(f"{file}: neither an XML document nor lines of text in UTF-8: it is UTF-16 or no text")
+    for at, line in enumerate(data.splitlines(), 1):
         where = f"{file}, line {at}"
         line = line.strip()
         if not line or line.startswith(b"#"):
@@ -169,6 +181,15 @@ def lines_of(names, blocks):
 
 # XML documents
 
+# What elements have beside child elements. Of the first three an element counts once, for the greatest that stands in it.
+BLANK, CDATA, TEXT, ATTRIBUTES = range(4)
+LEFT_OUT = {
+    TEXT: ("text", "a book has no place for text, and a DTD made from this one allows none"),
+    CDATA: ("CDATA sections", "a book has no place for them, and a DTD made from this one allows none, also where they hold no text"),
+    BLANK: ("white space, comments or processing instructions", "a DTD made from this book says EMPTY, which allows none of them"),
+    ATTRIBUTES: ("attributes", "a book has no place for attributes, and a DTD made from this one declares none"),
+}
+
 
 class Document:
     """Walks one document; `blocks` then has a block for each element, in the order of opening tags."""
@@ -178,13 +199,15 @@ class Document:
         self.blocks = []
         self.open = []  # the places in `blocks` of the elements that are open
         self.lines = []  # the line of each block's opening tag
-        self.text = {}  # how many elements of a name have text other than white space
-        self.attributes = {}  # how many elements of a name have attributes
-        self.with_text = set()
+        self.content = {}  # the greatest of BLANK, CDATA and TEXT that stands in the block at a place, where one does
+        self.attributes = []  # the names of the elements that have attributes
         parser = xml.parsers.expat.ParserCreate()
         parser.StartElementHandler = self.start
         parser.EndElementHandler = self.end
         parser.CharacterDataHandler = self.characters
+        parser.StartCdataSectionHandler = lambda: self.holds(CDATA)
+        parser.CommentHandler = lambda _text: self.holds(BLANK)
+        parser.ProcessingInstructionHandler = lambda _target, _text: self.holds(BLANK)
         parser.ExternalEntityRefHandler = self.external
         parser.SkippedEntityHandler = self.skipped
         self.parser = parser
@@ -197,7 +220,7 @@ class Document:
         if self.open:
             self.blocks[self.open[-1]][1].append(name)
         if attributes:
-            self.attributes[name] = self.attributes.get(name, 0) + 1
+            self.attributes.append(name)
         self.open.append(len(self.blocks))
         self.blocks.append((name, []))
         self.lines.append(self.parser.CurrentLineNumber)
@@ -207,20 +230,21 @@ class Document:
         parent, children = self.blocks[place]
         self.blocks[place] = checked_block(self.where(self.lines[place]), parent, children)
 
-    def characters(self, data):
-        if self.open and data.strip(" \t\r\n"):
+    def holds(self, kind):
+        if self.open:
             place = self.open[-1]
-            if place not in self.with_text:
-                self.with_text.add(place)
-                name = self.blocks[place][0]
-                self.text[name] = self.text.get(name, 0) + 1
+            self.content[place] = max(kind, self.content.get(place, kind))
+
+    def characters(self, data):
+        self.holds(TEXT if data.strip(" \t\r\n") else BLANK)
 
     def external(self, _context, _base, system, _public):
         raise Bad(f"{self.where()}: a reference to an entity in another file ({system}); put its text in its place first")
 
     def skipped(self, name, is_parameter):
         if not is_parameter:
-            raise Bad(f"{self.where()}: a reference to the entity '{name}', which the document does not declare")
+            raise Bad(f"{self.where()}: a reference to the entity '{name}', of which no declaration was read; "
+                      "it may stand in another file, or behind a reference to one")
 
     def read(self, data):
         try:
@@ -232,19 +256,21 @@ class Document:
         return self
 
 
-def note_left_out(documents, say):
-    """What the book leaves out, where it matters to a DTD made from it."""
-    for kind, counts, effect in (
-        ("text", [d.text for d in documents], "a book has no place for text, and a DTD made from this one allows none"),
-        ("attributes", [d.attributes for d in documents], "a book has no place for attributes, and a DTD made from this one declares none"),
-    ):
-        total = {}
-        for count in counts:
-            for name, n in count.items():
-                total[name] = total.get(name, 0) + n
-        if total:
-            held = ", ".join(f"{name.decode()} ({n})" for name, n in sorted(total.items()))
-            say(f"note: {kind} left out of {held}: {effect}")
+def note_left_out(documents, blocks, say):
+    """What the book of these blocks leaves out, where a DTD made from it does not allow it."""
+    with_children = {parent for parent, children in blocks if children}
+    found = {kind: collections.Counter() for kind in LEFT_OUT}
+    for document in documents:
+        found[ATTRIBUTES].update(document.attributes)
+        for place, kind in document.content.items():
+            name = document.blocks[place][0]
+            # Around children, and in their place where they may be missing, white space and comments are allowed.
+            if kind != BLANK or name not in with_children:
+                found[kind][name] += 1
+    for kind, (what, effect) in LEFT_OUT.items():
+        if found[kind]:
+            held = ", ".join(f"{name.decode()} ({n})" for name, n in sorted(found[kind].items()))
+            say(f"note: {what} left out of {held}: {effect}")
 
 
 # Books
@@ -299,6 +325,8 @@ def read_book(data):
 
 def contents(file):
     """The bytes of a file, and what to call it in a message."""
+    if file == "-" and sys.stdin is None:
+        raise Bad("standard input is closed")
     try:
         if file == "-":
             return sys.stdin.buffer.read(), "standard input"
@@ -310,9 +338,9 @@ def contents(file):
 
 def is_xml(data):
     """Whether a file is an XML document: it begins with '<', in UTF-8 or in UTF-16."""
-    if data.startswith((b"\xfe\xff", b"\xff\xfe", b"<\0", b"\0<")):
-        return True
-    return data.removeprefix(b"\xef\xbb\xbf").lstrip().startswith(b"<")
+    if data[:2] in UTF_16:
+        return data.decode("utf-16", "replace").lstrip().startswith("<")
+    return data[:2] in (b"<\0", b"\0<") or data.removeprefix(b"\xef\xbb\xbf").lstrip().startswith(b"<")
 
 
 def make(files, distinct, say):
@@ -330,16 +358,25 @@ def make(files, distinct, say):
             blocks += found
             more += names
     book = book_of(blocks, more, distinct)
-    note_left_out(documents, say)
+    note_left_out(documents, blocks, say)
     return book
 
 
-def write_file(file, data):
+def write_file(file, called, data):
+    """Writes a file, given by its path or its descriptor, and closes it. A pipe that nobody reads is passed on."""
     try:
         with open(file, "wb") as f:
             f.write(data)
+    except BrokenPipeError:
+        raise
     except OSError as e:
-        raise Bad(f"{file}: {e.strerror}")
+        raise Bad(f"{called}: {e.strerror}")
+
+
+def write_out(data):
+    if sys.stdout is None:
+        raise Bad("standard output is closed")
+    write_file(sys.stdout.fileno(), "standard output", data)
 
 
 def main(arguments=None):
@@ -354,31 +391,30 @@ def main(arguments=None):
     chosen = parser.parse_args(arguments)
 
     def say(line):
-        print(f"book.py: {line}", file=sys.stderr)
+        # Where standard error is closed, `print` would take standard output in its place.
+        if sys.stderr is not None:
+            print(printable(f"book.py: {line}"), file=sys.stderr)
 
     try:
         if chosen.command == "make":
             book = make(chosen.files, chosen.distinct, say)
             if chosen.out is not None:
-                write_file(chosen.out, book)
-            elif sys.stdout.isatty():
+                write_file(chosen.out, chosen.out, book)
+            elif sys.stdout is not None and sys.stdout.isatty():
                 raise Bad("a book is no text: give it a file with -o BOOK, or a pipe")
             else:
-                sys.stdout.buffer.write(book)
-                sys.stdout.buffer.flush()
+                write_out(book)
         else:
             data, called = contents(chosen.book)
             try:
                 lines = lines_of(*read_book(data))
             except Refused as e:
                 raise Bad(f"{called}: {e}")
-            sys.stdout.buffer.write(lines)
-            sys.stdout.buffer.flush()
+            write_out(lines)
     except Bad as e:
         say(e)
         return 1
     except BrokenPipeError:
-        os.dup2(os.open(os.devnull, os.O_WRONLY), sys.stdout.fileno())
         return 1
     return 0
 

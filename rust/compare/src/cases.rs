@@ -342,6 +342,29 @@ fn word(letters: &str) -> Vec<u8> {
     letters.bytes().filter(|&b| b != b'-').map(|b| b - b'a').collect()
 }
 
+/// The longest declaration, with a buffer one byte short of it, and the longest output of the program: that declaration for each
+/// of 64 parents.
+fn longest() -> Vec<Due> {
+    let names: Vec<String> = (0..64).map(|i| format!("n{i:031}")).collect();
+    let pairs: Vec<String> = names.chunks(2).map(|pair| format!("({})*", pair.join("|"))).collect();
+    let texts: Vec<String> = names.iter().map(|parent| format!("<!ELEMENT {parent} ({})>", pairs.join(","))).collect();
+    let printed: String = texts.iter().map(|text| format!("{text}\n")).collect();
+    assert_eq!((texts[0].len(), printed.len()), (2253, 144_256));
+
+    // A word for each pair makes it a loop group of its own.
+    let words = |parent| (0..64).step_by(2).map(move |i| Block { parent, word: vec![i, i + 1, i] });
+    let blocks: Vec<Block> = (0..64).flat_map(words).collect();
+    let names: Vec<Vec<u8>> = names.into_iter().map(String::into_bytes).collect();
+    let record = Record::of(&(0..32).map(|i| (vec![2 * i, 2 * i + 1], 3)).collect::<Vec<_>>());
+    let book = bytes_of(&names, &blocks);
+    let write = |size| Call::WriteDeclaration { book: book.clone(), parent: 0, record, buffer: vec![1; size] };
+    vec![
+        (write(2252), Some(Answer::Written(12, 0, vec![1; 2252]))),
+        (write(2253), Some(Answer::Written(0, 2253, texts[0].clone().into_bytes()))),
+        (Call::Dtd { book: book.clone() }, Some(Answer::Printed(printed.into_bytes()))),
+    ]
+}
+
 /// What paper 01 writes out: its samples, what stands under them, its example, and forms of a declaration.
 fn paper(_: &mut Chance, _: u64) -> Vec<Due> {
     let letters: Vec<Vec<u8>> = (b'a'..=b'z').map(|b| vec![b]).collect();
@@ -414,13 +437,7 @@ fn paper(_: &mut Chance, _: u64) -> Vec<Due> {
     calls.push((Call::AcceptsWord { names: 6, record: model, word: vec![3, 0, 2, 4] }, Some(Answer::Verdict(0, false))));
     calls.push((Call::Dtd { book: bytes_of(&feed, &[]) }, Some(Answer::Printed(vec![]))));
 
-    // The longest declaration, and a buffer one byte short of it.
-    let long: Vec<Vec<u8>> = (0..64).map(|i| format!("n{i:031}").into_bytes()).collect();
-    let pairs = Record::of(&(0..32).map(|i| (vec![2 * i, 2 * i + 1], 3)).collect::<Vec<_>>());
-    let book = bytes_of(&long, &[]);
-    for size in [2252, 2253] {
-        calls.push((Call::WriteDeclaration { book: book.clone(), parent: 0, record: pairs, buffer: vec![1; size] }, None));
-    }
+    calls.extend(longest());
 
     // Forms that paper 01 names.
     let book = bytes_of(&letters, &[]);

@@ -2,11 +2,13 @@
 //!
 //! For each parent with a block it prints the declaration and goes down the card: whether the parent got a model, whether every name
 //! that repeats in a block stands under `+` or `*`, whether the declaration reads back and is written once more as it was, and the
-//! names that the model allows together though no block holds them together. The status is 1 where one of the first three fails;
-//! the last is for a person to read.
+//! names that the model allows together though no block holds them together. The status is 1 where one of the first three fails,
+//! and where the book cannot be read or the card not written whole; the last is for a person to read.
 
 use curlewsong::{model_of_parent, read_declaration, write_declaration, Model, LONGEST_DECLARATION, NONE};
-use std::io::Read;
+use std::fmt::Display;
+use std::io::{stderr, stdin, stdout, BufWriter, ErrorKind, Read, Result, Write};
+use std::path::Path;
 use std::process::ExitCode;
 
 /// The names and the blocks of a book that the library has not refused.
@@ -74,22 +76,22 @@ fn read_back(bytes: &[u8], parent: usize, model: Model) -> (String, bool) {
 }
 
 /// Goes down the card for one parent, and says whether nothing failed.
-fn card(bytes: &[u8], book: &Book, parent: usize) -> bool {
+fn card(bytes: &[u8], book: &Book, parent: usize, out: &mut impl Write) -> Result<bool> {
     let name = &book.names[parent];
     let words: Vec<&Vec<usize>> = book.blocks.iter().filter(|(p, _)| *p == parent).map(|(_, word)| word).collect();
     let Ok(model) = model_of_parent(bytes, parent) else {
-        println!("{name}: NO MODEL");
-        return false;
+        writeln!(out, "{name}: NO MODEL")?;
+        return Ok(false);
     };
     let (text, same) = read_back(bytes, parent, model);
-    println!("{text}");
+    writeln!(out, "{text}")?;
     if !same {
-        println!("  NOT READ BACK as it was written");
+        writeln!(out, "  NOT READ BACK as it was written")?;
     }
     let all = 0..book.names.len();
     let lost: Vec<&str> = all.clone().filter(|&x| repeated(&words, x) && !loops(&model, x)).map(|x| &*book.names[x]).collect();
     if !lost.is_empty() {
-        println!("  LOST LOOP: {} repeats and has neither + nor *", lost.join(", "));
+        writeln!(out, "  LOST LOOP: {} repeats and has neither + nor *", lost.join(", "))?;
     }
     for a in all.clone() {
         let beside: Vec<&str> = (a + 1..book.names.len())
@@ -97,36 +99,51 @@ fn card(bytes: &[u8], book: &Book, parent: usize) -> bool {
             .map(|b| &*book.names[b])
             .collect();
         if !beside.is_empty() {
-            println!("  allowed together, in no block together: {} with {}", book.names[a], beside.join(", "));
+            writeln!(out, "  allowed together, in no block together: {} with {}", book.names[a], beside.join(", "))?;
         }
     }
-    same && lost.is_empty()
+    Ok(same && lost.is_empty())
+}
+
+/// Goes down the card for every parent with a block, and says whether nothing failed.
+fn cards(bytes: &[u8], out: &mut impl Write) -> Result<bool> {
+    let book = parts(bytes);
+    let (mut parents, mut good) = (0, 0);
+    for parent in (0..book.names.len()).filter(|&p| book.blocks.iter().any(|(q, _)| *q == p)) {
+        parents += 1;
+        good += usize::from(card(bytes, &book, parent, out)?);
+    }
+    writeln!(out, "parents with a block: {parents}; declared, read back and with no lost loop: {good}")?;
+    out.flush()?;
+    Ok(good == parents)
+}
+
+fn failed(why: impl Display) -> ExitCode {
+    // Where standard error cannot be written either, the status alone has to do.
+    let _ = writeln!(stderr(), "card: {why}");
+    ExitCode::FAILURE
 }
 
 fn main() -> ExitCode {
     let mut bytes = Vec::new();
-    let read = match std::env::args().nth(1) {
-        Some(file) => std::fs::read(&file).map(|all| bytes = all),
-        None => std::io::stdin().read_to_end(&mut bytes).map(|_| ()),
+    let (called, read) = match std::env::args_os().nth(1) {
+        Some(file) => (Path::new(&file).display().to_string(), std::fs::read(&file).map(|all| bytes = all)),
+        None => ("standard input".to_string(), stdin().read_to_end(&mut bytes).map(|_| ())),
     };
     if let Err(error) = read {
-        eprintln!("card: {error}");
-        return ExitCode::FAILURE;
+        return failed(format_args!("{called}: {error}"));
     }
     // Parent 0 is always below N, so only a refusal 1 to 7 or 9 can come.
     if let Err(refusal) = model_of_parent(&bytes, 0) {
         if refusal.0 != 9 {
-            eprintln!("card: {refusal}");
-            return ExitCode::FAILURE;
+            return failed(format_args!("{called}: {refusal}"));
         }
     }
-    let book = parts(&bytes);
-    let parents: Vec<usize> = (0..book.names.len()).filter(|&p| book.blocks.iter().any(|(q, _)| *q == p)).collect();
-    let good = parents.iter().filter(|&&p| card(&bytes, &book, p)).count();
-    println!("parents with a block: {}; declared, read back and with no lost loop: {good}", parents.len());
-    if good == parents.len() {
-        ExitCode::SUCCESS
-    } else {
-        ExitCode::FAILURE
+    match cards(&bytes, &mut BufWriter::new(stdout().lock())) {
+        Ok(true) => ExitCode::SUCCESS,
+        Ok(false) => ExitCode::FAILURE,
+        // Whoever read the pipe has seen enough.
+        Err(error) if error.kind() == ErrorKind::BrokenPipe => ExitCode::FAILURE,
+        Err(error) => failed(format_args!("standard output: {error}")),
     }
 }
