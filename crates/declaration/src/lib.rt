@@ -35,7 +35,13 @@ pub fn refused(refusal: Refusal) -> Written
 }
 
 // The declaration of a chain for a parent, of a book that was read, or 12. It is put together aside, so that no byte of the buffer changes unless all fit.
-pub fn write_chain(bytes: &[u8], layout: Layout, parent: usize, m: Model, buffer: &mut [u8]) -> Written
+pub fn write_chain(
+    bytes: &[u8],
+    layout: Layout,
+    parent: usize,
+    m: Model,
+    buffer: &mut [u8],
+) -> Written
     requires { ⌜ LaidOut (now bytes) layout × (parent < layout .names) × IsChain places (layout .names) m ⌝ }
     ensures { λ r. ⌜ (r ≡ written (fitted (length (now (buffer .entry))) (declaration (namesIn (now (bytes .entry))) parent m)))
         × (now (buffer .exit) ≡ bufferAfter (now (buffer .entry)) (fitted (length (now (buffer .entry))) (declaration (namesIn (now (bytes .entry))) parent m))) ⌝ }

@@ -54,7 +54,14 @@ fn put_model(buffer: &mut [u8], at: usize, bytes: &[u8], layout: Layout, m: Mode
 }
 
 // The whole.
-fn put_text(buffer: &mut [u8], at: usize, bytes: &[u8], layout: Layout, parent: usize, m: Model) -> usize
+fn put_text(
+    buffer: &mut [u8],
+    at: usize,
+    bytes: &[u8],
+    layout: Layout,
+    parent: usize,
+    m: Model,
+) -> usize
     requires { ⌜ LaidOut (now bytes) layout × (parent < layout .names) × (at + length (textOf (namesIn (now bytes)) (layout .names) parent m) ≤ length (now buffer)) × (m .count ≤ places) ⌝ }
     ensures { λ r. ⌜ Put (now (buffer .entry)) at (textOf (namesIn (now (bytes .entry))) (layout .names) parent m) r (now (buffer .exit)) ⌝ }
 {
@@ -66,7 +73,14 @@ fn put_text(buffer: &mut [u8], at: usize, bytes: &[u8], layout: Layout, parent: 
 }
 
 // The declaration of a chain for a parent, of a book that was read, put into a buffer with room for it.
-pub fn put_declaration(buffer: &mut [u8], at: usize, bytes: &[u8], layout: Layout, parent: usize, m: Model) -> usize
+pub fn put_declaration(
+    buffer: &mut [u8],
+    at: usize,
+    bytes: &[u8],
+    layout: Layout,
+    parent: usize,
+    m: Model,
+) -> usize
     requires { ⌜ LaidOut (now bytes) layout × (parent < layout .names) × IsChain places (layout .names) m × (at + length (declaration (namesIn (now bytes)) parent m) ≤ length (now buffer)) ⌝ }
     ensures { λ r. ⌜ Put (now (buffer .entry)) at (declaration (namesIn (now (bytes .entry))) parent m) r (now (buffer .exit)) ⌝ }
 {

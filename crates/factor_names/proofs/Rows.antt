@@ -74,7 +74,7 @@ rows-more m k rows r f word s t ef hf es et ew = record { size = length-set rows
     at i h (yes q) =
         let z : f < length rows = rw (r .size) hf in
         rw (q, getD-set-same rows f word 0 z, ew, of-word-of t)
-            (names-more m k f (ofWord (getD rows f 0)) t (r .row f hf) (sym ef) (λ x. et x ∙ ap (λ (u : NameSet). member u x || eqb k x) es))
+        (names-more m k f (ofWord (getD rows f 0)) t (r .row f hf) (sym ef) (λ x. et x ∙ ap (λ (u : NameSet). member u x || eqb k x) es))
     at i h (no q) =
         names-kept m k i (ofWord (getD rows i 0)) _ (r .row i h) (λ u. q (sym u ∙ sym ef)) (ap ofWord (getD-set-other rows f i word 0 q))
 

@@ -74,7 +74,7 @@ more-than-one n s h w = go (isEmpty s) (isEmpty (rest s)) refl refl
         rw (f, rising-next n s (first s) (smallest s h) e w, rising-none (rest s) 0 n (isEmpty-none (rest s) f)) (sym (le-ltb 1 1 (omega arith)))
     go false false e f =
         let c : rising (rest s) 0 n ≡ first (rest s) ∷ rising (rest (rest s)) 0 n =
-            rising-next n (rest s) (first (rest s)) (smallest (rest s) (sized-rest s h)) f (within-rest n s (rest s) refl w)
+        rising-next n (rest s) (first (rest s)) (smallest (rest s) (sized-rest s h)) f (within-rest n s (rest s) refl w)
         in
         rw (f, rising-next n s (first s) (smallest s h) e w, c) (sym (lt-ltb 1 (suc (suc (length (rising (rest (rest s)) 0 n)))) (omega arith)))
 

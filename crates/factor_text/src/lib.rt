@@ -64,7 +64,14 @@ pub fn put_name(buffer: &mut [u8], at: usize, bytes: &[u8], layout: Layout, x: u
 }
 
 // The names of a set, rising, each behind its lead.
-fn put_names(buffer: &mut [u8], at: usize, bytes: &[u8], layout: Layout, names: NameSet, many: bool) -> usize
+fn put_names(
+    buffer: &mut [u8],
+    at: usize,
+    bytes: &[u8],
+    layout: Layout,
+    names: NameSet,
+    many: bool,
+) -> usize
     requires { ⌜ LaidOut (now bytes) layout × (at + length (setText (namesIn (now bytes)) (layout .names) names many false) ≤ length (now buffer)) × Within (layout .names) names ⌝ }
     ensures { λ r. ⌜ Put (now (buffer .entry)) at (setText (namesIn (now (bytes .entry))) (layout .names) names many false) r (now (buffer .exit)) ⌝ }
 {
@@ -82,7 +89,15 @@ fn put_names(buffer: &mut [u8], at: usize, bytes: &[u8], layout: Layout, names: 
 }
 
 // Factor i, whose names are given: its names, in brackets where they are many, and its mark.
-pub fn put_factor(buffer: &mut [u8], at: usize, bytes: &[u8], layout: Layout, m: Model, i: usize, names: NameSet) -> usize
+pub fn put_factor(
+    buffer: &mut [u8],
+    at: usize,
+    bytes: &[u8],
+    layout: Layout,
+    m: Model,
+    i: usize,
+    names: NameSet,
+) -> usize
     requires { ⌜ LaidOut (now bytes) layout × (at + length (partText (namesIn (now bytes)) (layout .names) m i) ≤ length (now buffer)) × NamesOf m (layout .names) i names ⌝ }
     ensures { λ r. ⌜ Put (now (buffer .entry)) at (partText (namesIn (now (bytes .entry))) (layout .names) m i) r (now (buffer .exit)) ⌝ }
 {

@@ -59,13 +59,12 @@ loop-again c =
     let inv = c .before .before .before .loop .inv in
     let l : length (c .before .before .before .before .args .t1 .factor) ≡ places = search needs in
     let h : c .before .before .before .loop .x < places = omega arith in
-    let e = entry-is (c .before .before .before .before .args .t1) (c .before .before .before .loop .x) l h in
-    (
+    let e = entry-is (c .before .before .before .before .args .t1) (c .before .before .before .loop .x) l h in (
       omega arith,
       ⊎-elim
-      (λ w. rw (w .4) (rows-more _ _ _ (inv .1) _ _ _ _ e (omega (arith, w .0 .taken)) (w .1 .ensures) (w .2 .ensures .members) (w .3 .ensures)))
-      (λ w. rows-kept _ _ _ _ (inv .1) _ e (w .0 .left) (w .1))
-      (c .if1 .came),
+          (λ w. rw (w .4) (rows-more _ _ _ (inv .1) _ _ _ _ e (omega (arith, w .0 .taken)) (w .1 .ensures) (w .2 .ensures .members) (w .3 .ensures)))
+          (λ w. rows-kept _ _ _ _ (inv .1) _ e (w .0 .left) (w .1))
+          (c .if1 .came),
     )
 
 returns : tie.Need-returns Inv-loop μ-loop
