@@ -11,10 +11,7 @@ use borrow.Author.Tests.{lt-ltb, le-ltb}
 use Rattle.refusal.specs.declared.Refusal.the-variants.{BytesMissing}
 use Rattle.refusal.specs.Answer.{given, refused}
 use Rattle.book.specs.Field.{field, bytesOf, countOf}
-
--- the count that stands at a place
-abbrev pub countAt : List ℕ → ℕ → ℕ
-countAt s at = getD s at 0 + 256 * getD s (at + 1) 0
+use Rattle.book.specs.Stops.{countAt}
 
 pub count-missing : (s : List ℕ) (at : ℕ) → length s < at + 2 → countOf (drop at s) ≡ refused BytesMissing
 unfolding countOf bytesOf

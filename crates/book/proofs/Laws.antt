@@ -29,8 +29,8 @@ use Rattle.book.specs.Book.{Block, Book, allBelow, longestBook, nameSect
 use Rattle.book.specs.Bytes.{nameBytes, namesBytes, blockBytes, blocksBytes}
 use Rattle.book.specs.Layout.{placesFrom, endFrom, noPlaces, placeTable, layoutOf, noLayout, noReading, readingOf}
 use Rattle.book.specs.Access.{LaidOut, BlockFits}
+use Rattle.book.specs.Stops.{Rising, none, one, Within}
 use Rattle.book.proofs.Parts.{byte-at, reaches}
-use Rattle.book.proofs.Told.{Rising, none, one, Within}
 use Rattle.book.proofs.Placed.{name-placed, BlockPlaced, block-placed}
 use Rattle.book.proofs.Sections.{NameSectionTold, name-section-told, BlockSectionTold, block-section-told, behind-names}
 

@@ -5,4 +5,7 @@ pub mod Placed
 pub mod Sections
 pub mod Laws
 pub mod Example
+pub mod FieldStops
+pub mod NameStops
+pub mod BlockStops
 pub mod Stops

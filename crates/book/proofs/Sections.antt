@@ -17,8 +17,9 @@ use Rattle.book.specs.Field.{Field, field, countOf}
 use Rattle.book.specs.Book.{Block, namesOf, nameSection, blocksOf, blockSection}
 use Rattle.book.specs.Bytes.{namesBytes, blocksBytes}
 use Rattle.book.specs.Layout.{endFrom}
-use Rattle.book.proofs.Counts.{countAt, count-missing, count-given}
-use Rattle.book.proofs.Told.{not-refused, Rising, NamesTold, names-told, Within, BlocksTold, blocks-told}
+use Rattle.book.specs.Stops.{countAt, Rising, Within}
+use Rattle.book.proofs.Counts.{count-missing, count-given}
+use Rattle.book.proofs.Told.{not-refused, NamesTold, names-told, BlocksTold, blocks-told}
 use Rattle.book.proofs.Placed.{name-placed}
 
 -- where names end, and what stands behind them

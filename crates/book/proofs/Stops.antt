@@ -1,95 +1,233 @@
--- A book is refused by 1 to 7 and by no other number.
+-- Bytes are refused for the conditions of specs/Stops.antt and for no other: `book-refused`, the statement to read, at the end.
 -- Assumes nothing.
-use Prim.Native.Nat.{ℕ, zero, suc, _≤_}
-use mathlib.Core.Path.{_≡_, subst}
-use mathlib.Core.Bool.{Bool, true, false, not}
-use mathlib.Core.List.{List, [], _∷_}
+use Prim.Native.Nat.{ℕ, _≤_, _<_}
+use mathlib.Core.Path.{_≡_, refl, sym, _∙_, subst}
+use mathlib.Core.Bool.{Bool, true, false, not, true≢false}
+use mathlib.Core.List.{List, []}
+use mathlib.Core.Logic.{_↔_, inl, inr, ⊎-elim}
 use native.Mathlib.Omega.{arith}
 use lib.Dec.{ltb}
 use lib.ListN.{length}
+use borrow.Author.Tests.{lt-ltb, le-ltb, ltb-true, ltb-false, not-true, not-false}
 use Rattle.refusal.specs.declared.Refusal.{Refusal}
-use Rattle.refusal.specs.declared.Refusal.the-variants.{BookTooLong, BytesMissing, BadNameCount, BadName, NameNotAbove, NumberNotBelow, BytesLeftOver}
+use Rattle.refusal.specs.declared.Refusal.the-variants.{BookTooLong, BytesMissing, BadNameCount, BadName, NameNotAbove, NumberNotBelow, BytesLeftOver, BadParent, NoBlock, NotAChain, BadWord, BufferTooShort, NotADeclaration, UnknownName, NameTwice}
 use Rattle.refusal.specs.Table.{numberOf}
 use Rattle.refusal.specs.Answer.{Answer, given, refused, onward, refuseIf}
-use Rattle.nameset.specs.Places.{goodCount}
-use Rattle.name.specs.Rule.{goodLength, goodBytes}
-use Rattle.name.specs.Order.{rises}
-use Rattle.book.specs.Field.{byteOf, bytesOf, countOf}
-use Rattle.book.specs.Book.{longestBook, allBelow, nameOf, namesOf, blockOf, blocksOf, nameSection, blockSection, bookOf}
+use Rattle.refusal.proofs.Answers.{given-refused, onward-refused, check-refused}
+use Rattle.nameset.specs.Places.{places, goodCount}
+use Rattle.nameset.proofs.Count.{count-bounds, bounds-count}
+use Rattle.book.specs.Field.{Field, field, countOf}
+use Rattle.book.specs.Book.{Block, Book, longestBook, nameOf, namesOf, blockOf, blocksOf, nameSection, blockSection, bookOf}
+use Rattle.book.specs.Bytes.{blocksBytes}
+use Rattle.book.specs.Stops.{countAt, lastOf, Within, NamesRead, AtName, AtSection, BlocksRead, AtBlock, AtEnd, Missing, BadCount, Stops}
+use Rattle.book.proofs.Counts.{count-missing, count-given}
+use Rattle.book.proofs.Told.{blocks-told}
+use Rattle.book.proofs.Sections.{count-told, name-section-told}
+use Rattle.book.proofs.FieldStops.{count-stop}
+use Rattle.book.proofs.NameStops.{NameStop, missing, bad, low, name-stop, name-missing, name-bad, name-low, NamesStop, names-stop, names-refused, names-given}
+use Rattle.book.proofs.BlockStops.{BlockStop, cut, over, block-stop, block-missing, block-bad, BlocksStop, blocks-stop, blocks-refused, blocks-given}
 
--- an answer that is refused by 1 to 7 only
-abbrev Early : {A : Type 0} → Answer A → Type 0
-Early (given a) = Unit {0}
-Early (refused r) = numberOf r ≤ 7
+-- ---- the whole book, what a refusal tells
 
-check-early : {A : Type 0} (t : Bool) (r : Refusal) (a : Answer A) → numberOf r ≤ 7 → Early a → Early (refuseIf t r a)
-check-early true r a l h = l
-check-early false r a l h = h
+-- behind section 1
+abbrev behind-names : Field (List (List ℕ)) → Answer Book
+behind-names f = onward (blockSection (length (f .value)) (f .rest)) (λ blocks. given (record { names = f .value; blocks = blocks }))
 
-then-early : {A B : Type 0} (a : Answer A) (next : A → Answer B) → Early a → ((x : A) → Early (next x)) → Early (onward a next)
-then-early (given x) next h k = k x
-then-early (refused r) next h k = h
+module _ (s : List ℕ) (r : Refusal) where
+  at-name : (last rest : List ℕ) → AtName s last rest → NameStop last rest r → Stops s r
+  at-name last rest a (missing h q) = subst (Stops s) q (inr (inl (last, rest, a, h)))
+  at-name last rest a (bad h q) = subst (Stops s) q (last, rest, a, h)
+  at-name last rest a (low h q) = subst (Stops s) q (last, rest, a, h)
 
-byte-early : (s : List ℕ) → Early (byteOf s)
-unfolding byteOf
-byte-early [] = omega arith
-byte-early (b ∷ s) = tt
+  at-block : (rest : List ℕ) → AtBlock s rest → BlockStop (countAt s 0) rest r → Stops s r
+  at-block rest a (cut h q) = subst (Stops s) q (inr (inr (inr (rest, a, h))))
+  at-block rest a (over h q) = subst (Stops s) q (rest, a, h)
 
-bytes-early : (n : ℕ) (s : List ℕ) → Early (bytesOf n s)
-unfolding bytesOf
-bytes-early n s = check-early (ltb (length s) n) BytesMissing _ (omega arith) tt
+  in-names : length s ≤ longestBook → nameSection s ≡ refused r → Stops s r
+  unfolding nameSection
+  in-names short e = ⊎-elim (λ h. let k = count-stop s r h in subst (Stops s) (k .1) (inl (k .0))) (λ h. counted (h .0) (h .1) (h .2)) (onward-refused (countOf s) _ r e)
+    where
+      named : (n : Field ℕ) → countOf s ≡ given n → goodCount (n .value) ≡ true → NamesStop (n .value) [] (n .rest) r → Stops s r
+      named n h g u =
+          let c = count-told s n h in
+          let b = count-bounds (n .value) g in
+          at-name (lastOf [] (u .names)) (u .rest)
+          (record {
+            names = u .names;
+            read =
+                record {
+                  short = short;
+                  enough = c .enough;
+                  some = rw (c .value) (b .0);
+                  few = rw (c .value) (b .1);
+                  rising = u .rising;
+                  stand = c .rest ∙ u .stand;
+                };
+            fewer = rw (c .value) (u .fewer);
+            before = refl;
+          })
+          (name-stop (lastOf [] (u .names)) (u .rest) r (u .at))
 
-count-early : (s : List ℕ) → Early (countOf s)
-unfolding countOf
-count-early s = then-early (bytesOf 2 s) _ (bytes-early 2 s) (λ two. tt)
+      no-count : (n : Field ℕ) → countOf s ≡ given n → goodCount (n .value) ≡ false → BadCount s
+      no-count n h g =
+          let c = count-told s n h in
+          (short, c .enough, λ b. true≢false (sym (bounds-count (n .value) (rw (← c .value) (b .0)) (rw (← c .value) (b .1))) ∙ g))
 
-name-early : (before s : List ℕ) → Early (nameOf before s)
-unfolding nameOf
-name-early before s =
-    then-early (byteOf s) _ (byte-early s) (λ size.
-    check-early (not (goodLength (size .value))) BadName _ (omega arith)
-    (then-early (bytesOf (size .value) (size .rest)) _ (bytes-early (size .value) (size .rest)) (λ name.
-    check-early (not (goodBytes (name .value))) BadName _ (omega arith)
-    (check-early (not (rises before (name .value))) NameNotAbove _ (omega arith) tt))))
+      counted : (n : Field ℕ) → countOf s ≡ given n → refuseIf (not (goodCount (n .value))) BadNameCount (namesOf (n .value) [] (n .rest)) ≡ refused r → Stops s r
+      counted n h e =
+          ⊎-elim (λ k. subst (Stops s) (k .1) (no-count n h (not-true _ (k .0)))) (λ k. named n h (not-false _ (k .0)) (names-stop (n .value) [] (n .rest) r (k .1)))
+          (check-refused (not (goodCount (n .value))) BadNameCount _ r e)
 
-names-early : (n : ℕ) (before s : List ℕ) → Early (namesOf n before s)
-unfolding namesOf
-names-early zero before s = tt
-names-early (suc n) before s =
-    then-early (nameOf before s) _ (name-early before s) (λ first. then-early (namesOf n (first .value) (first .rest)) _ (names-early n (first .value) (first .rest)) (λ others. tt))
+  in-blocks : (rest : List ℕ) → AtSection s rest → blockSection (countAt s 0) rest ≡ refused r → Stops s r
+  unfolding blockSection
+  in-blocks rest a e =
+      ⊎-elim (λ h. let k = count-stop rest r h in subst (Stops s) (k .1) (inr (inr (inl (rest, a, k .0))))) (λ h. counted (h .0) (h .1) (h .2)) (onward-refused (countOf rest) _ r e)
+    where
+      so-far : (m : Field ℕ) → countOf rest ≡ given m → (bs : List Block) (after : List ℕ) → Within (countAt s 0) bs → m .rest ≡ blocksBytes bs after → BlocksRead s (m .value) bs after
+      so-far m h bs after w q =
+          let c = count-told rest m h in
+          record { section = rest; before = a; enough = c .enough; count = c .value; within = w; stand = c .rest ∙ q }
 
-block-early : (n : ℕ) (s : List ℕ) → Early (blockOf n s)
-unfolding blockOf
-block-early n s =
-    then-early (byteOf s) _ (byte-early s) (λ parent.
-    check-early (not (ltb (parent .value) n)) NumberNotBelow _ (omega arith)
-    (then-early (byteOf (parent .rest)) _ (byte-early (parent .rest)) (λ size.
-    then-early (bytesOf (size .value) (size .rest)) _ (bytes-early (size .value) (size .rest)) (λ word.
-    check-early (not (allBelow n (word .value))) NumberNotBelow _ (omega arith) tt))))
+      ended : (m : Field ℕ) → countOf rest ≡ given m → (g : Field (List Block)) → blocksOf (countAt s 0) (m .value) (m .rest) ≡ given g →
+          refuseIf (ltb 0 (length (g .rest))) BytesLeftOver (given (g .value)) ≡ refused r → Stops s r
+      ended m h g b e =
+          let t = blocks-told (countAt s 0) (m .value) (m .rest) g b in
+          let d : AtEnd s (g .rest) = record { m = m .value; blocks = g .value; read = so-far m h (g .value) (g .rest) (t .within) (t .bytes); all = t .many } in
+          ⊎-elim (λ k. subst (Stops s) (k .1) (g .rest, d, ltb-true 0 (length (g .rest)) (k .0))) (λ k. absurd (given-refused _ r (k .1)))
+          (check-refused (ltb 0 (length (g .rest))) BytesLeftOver _ r e)
 
-blocks-early : (n m : ℕ) (s : List ℕ) → Early (blocksOf n m s)
-unfolding blocksOf
-blocks-early n zero s = tt
-blocks-early n (suc m) s = then-early (blockOf n s) _ (block-early n s) (λ first. then-early (blocksOf n m (first .rest)) _ (blocks-early n m (first .rest)) (λ others. tt))
+      blocked : (m : Field ℕ) → countOf rest ≡ given m → BlocksStop (countAt s 0) (m .value) (m .rest) r → Stops s r
+      blocked m h u =
+          at-block (u .rest) (record { m = m .value; blocks = u .blocks; read = so-far m h (u .blocks) (u .rest) (u .within) (u .stand); fewer = u .fewer })
+          (block-stop (countAt s 0) (u .rest) r (u .at))
 
-name-section-early : (s : List ℕ) → Early (nameSection s)
-unfolding nameSection
-name-section-early s =
-    then-early (countOf s) _ (count-early s) (λ n. check-early (not (goodCount (n .value))) BadNameCount _ (omega arith) (names-early (n .value) [] (n .rest)))
+      counted : (m : Field ℕ) → countOf rest ≡ given m →
+          onward (blocksOf (countAt s 0) (m .value) (m .rest)) (λ g. refuseIf (ltb 0 (length (g .rest))) BytesLeftOver (given (g .value))) ≡ refused r → Stops s r
+      counted m h e =
+          ⊎-elim (λ k. blocked m h (blocks-stop (countAt s 0) (m .value) (m .rest) r k)) (λ k. ended m h (k .0) (k .1) (k .2))
+          (onward-refused (blocksOf (countAt s 0) (m .value) (m .rest)) _ r e)
 
-block-section-early : (n : ℕ) (s : List ℕ) → Early (blockSection n s)
-unfolding blockSection
-block-section-early n s =
-    then-early (countOf s) _ (count-early s) (λ m.
-    then-early (blocksOf n (m .value) (m .rest)) _ (blocks-early n (m .value) (m .rest)) (λ blocks.
-    check-early (ltb 0 (length (blocks .rest))) BytesLeftOver _ (omega arith) tt))
+  section-2 : length s ≤ longestBook → (f : Field (List (List ℕ))) → nameSection s ≡ given f → blockSection (length (f .value)) (f .rest) ≡ refused r → Stops s r
+  section-2 short f h e =
+      let t = name-section-told s f h in
+      let c = count-bounds (length (f .value)) (t .good) in
+      in-blocks (f .rest)
+      (record {
+        names = f .value;
+        read = record { short = short; enough = t .enough; some = rw (t .count) (c .0); few = rw (t .count) (c .1); rising = t .rising; stand = t .bytes };
+        all = sym (t .count);
+      })
+      (rw (t .count) e)
 
-book-early : (s : List ℕ) → Early (bookOf s)
-unfolding bookOf
-book-early s =
-    check-early (ltb longestBook (length s)) BookTooLong _ (omega arith)
-    (then-early (nameSection s) _ (name-section-early s) (λ names.
-    then-early (blockSection (length (names .value)) (names .rest)) _ (block-section-early (length (names .value)) (names .rest)) (λ blocks. tt)))
+  refused-stops : bookOf s ≡ refused r → Stops s r
+  unfolding bookOf
+  refused-stops e =
+      ⊎-elim (λ h. subst (Stops s) (h .1) (ltb-true longestBook (length s) (h .0))) (λ h. read (ltb-false longestBook (length s) (h .0)) (h .1))
+      (check-refused (ltb longestBook (length s)) BookTooLong _ r e)
+    where
+      read : length s ≤ longestBook → onward (nameSection s) behind-names ≡ refused r → Stops s r
+      read short e =
+          ⊎-elim (in-names short)
+          (λ h. ⊎-elim (section-2 short (h .0) (h .1)) (λ k. absurd (given-refused _ r (k .2))) (onward-refused (blockSection (length (h .0 .value)) (h .0 .rest)) _ r (h .2)))
+          (onward-refused (nameSection s) _ r e)
 
+-- ---- the whole book, what leads to a refusal
+
+module _ (s : List ℕ) where
+  named-refused : length s ≤ longestBook → (r : Refusal) → nameSection s ≡ refused r → bookOf s ≡ refused r
+  unfolding bookOf
+  named-refused short r e = rw (le-ltb longestBook (length s) short, e)
+
+  no-count-refused : length s < 2 → bookOf s ≡ refused BytesMissing
+  unfolding nameSection
+  no-count-refused l = named-refused (omega arith) BytesMissing (rw (count-missing s 0 l))
+
+  bad-count-refused : BadCount s → bookOf s ≡ refused BadNameCount
+  unfolding nameSection
+  bad-count-refused (short, enough, b) = named-refused short BadNameCount (rw (count-given s 0 enough, wrong (goodCount (countAt s 0)) (count-bounds (countAt s 0))))
+    where
+      wrong : (t : Bool) → (t ≡ true → (1 ≤ countAt s 0) × (countAt s 0 ≤ places)) → t ≡ false
+      wrong true h = absurd (b (h refl))
+      wrong false h = refl
+
+  name-refused : (last rest : List ℕ) → AtName s last rest → (r : Refusal) → nameOf last rest ≡ refused r → bookOf s ≡ refused r
+  unfolding nameSection
+  name-refused last rest a r e =
+      let h = a .read in
+      let k : nameOf (lastOf [] (a .names)) rest ≡ refused r = rw (a .before) e in
+      named-refused (h .short) r
+      (rw (count-given s 0 (h .enough), bounds-count (countAt s 0) (h .some) (h .few), h .stand, names-refused [] (a .names) rest r (countAt s 0) (h .rising) (a .fewer) k))
+
+  section-given : (names : List (List ℕ)) (rest : List ℕ) → NamesRead s names rest → length names ≡ countAt s 0 → nameSection s ≡ given (field names rest)
+  unfolding nameSection
+  section-given names rest h q =
+      rw (count-given s 0 (h .enough), bounds-count (countAt s 0) (h .some) (h .few), h .stand, ← q, names-given [] names rest (h .rising))
+
+  section-refused : (rest : List ℕ) → AtSection s rest → (r : Refusal) → blockSection (countAt s 0) rest ≡ refused r → bookOf s ≡ refused r
+  unfolding bookOf
+  section-refused rest a r e =
+      rw (le-ltb longestBook (length s) (a .read .short), section-given (a .names) rest (a .read) (a .all), a .all, e)
+
+  block-refused : (rest : List ℕ) → AtBlock s rest → (r : Refusal) → blockOf (countAt s 0) rest ≡ refused r → bookOf s ≡ refused r
+  unfolding blockSection
+  block-refused rest a r e =
+      let h = a .read in
+      section-refused (h .section) (h .before) r
+      (rw (count-given (h .section) 0 (h .enough), h .count, h .stand, blocks-refused (countAt s 0) (a .blocks) rest r (a .m) (h .within) (a .fewer) e))
+
+  left-over-refused : (rest : List ℕ) → AtEnd s rest → 0 < length rest → bookOf s ≡ refused BytesLeftOver
+  unfolding blockSection
+  left-over-refused rest a l =
+      let h = a .read in
+      section-refused (h .section) (h .before) BytesLeftOver
+      (rw (count-given (h .section) 0 (h .enough), h .count, h .stand, ← (a .all), blocks-given (countAt s 0) (a .blocks) rest (h .within), lt-ltb 0 (length rest) l))
+
+  missing-refused : Missing s → bookOf s ≡ refused BytesMissing
+  unfolding blockSection
+  missing-refused (inl l) = no-count-refused l
+  missing-refused (inr (inl (last, rest, a, h))) = name-refused last rest a BytesMissing (name-missing last rest h)
+  missing-refused (inr (inr (inl (rest, a, l)))) = section-refused rest a BytesMissing (rw (count-missing rest 0 l))
+  missing-refused (inr (inr (inr (rest, a, h)))) = block-refused rest a BytesMissing (block-missing (countAt s 0) rest h)
+
+  stops-refused : (r : Refusal) → Stops s r → bookOf s ≡ refused r
+  unfolding bookOf
+  stops-refused BookTooLong h = rw (lt-ltb longestBook (length s) h)
+  stops-refused BytesMissing h = missing-refused h
+  stops-refused BadNameCount h = bad-count-refused h
+  stops-refused BadName (last, rest, a, h) = name-refused last rest a BadName (name-bad last rest h)
+  stops-refused NameNotAbove (last, rest, a, h) = name-refused last rest a NameNotAbove (name-low last rest h)
+  stops-refused NumberNotBelow (rest, a, h) = block-refused rest a NumberNotBelow (block-bad (countAt s 0) rest h)
+  stops-refused BytesLeftOver (rest, a, l) = left-over-refused rest a l
+  stops-refused BadParent h = absurd h
+  stops-refused NoBlock h = absurd h
+  stops-refused NotAChain h = absurd h
+  stops-refused BadWord h = absurd h
+  stops-refused BufferTooShort h = absurd h
+  stops-refused NotADeclaration h = absurd h
+  stops-refused UnknownName h = absurd h
+  stops-refused NameTwice h = absurd h
+
+-- Bytes are refused by a number exactly where its condition holds.
+pub book-refused : (s : List ℕ) (r : Refusal) → (bookOf s ≡ refused r) ↔ Stops s r
+book-refused s r = (refused-stops s r, stops-refused s r)
+
+-- So they are refused by 1 to 7 and by no other number.
 pub book-stops : (s : List ℕ) (r : Refusal) → bookOf s ≡ refused r → numberOf r ≤ 7
-book-stops s r e = subst Early e (book-early s)
+book-stops s r e = small r (refused-stops s r e)
+  where
+    small : (r : Refusal) → Stops s r → numberOf r ≤ 7
+    small BookTooLong h = omega arith
+    small BytesMissing h = omega arith
+    small BadNameCount h = omega arith
+    small BadName h = omega arith
+    small NameNotAbove h = omega arith
+    small NumberNotBelow h = omega arith
+    small BytesLeftOver h = omega arith
+    small BadParent h = absurd h
+    small NoBlock h = absurd h
+    small NotAChain h = absurd h
+    small BadWord h = absurd h
+    small BufferTooShort h = absurd h
+    small NotADeclaration h = absurd h
+    small UnknownName h = absurd h
+    small NameTwice h = absurd h

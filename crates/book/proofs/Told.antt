@@ -17,6 +17,7 @@ use Rattle.name.specs.Order.{rises}
 use Rattle.book.specs.Field.{Field, field, byteOf, bytesOf, countOf}
 use Rattle.book.specs.Book.{Block, Book, allBelow, nameOf, namesOf, blockOf, blocksOf}
 use Rattle.book.specs.Bytes.{nameBytes, namesBytes, blockBytes, blocksBytes}
+use Rattle.book.specs.Stops.{Rising, none, one, Within}
 
 -- a given answer and a refused one are never the same
 pub not-refused : {A : Type 0} {a : A} → (r : Rattle.refusal.specs.declared.Refusal.Refusal) → refused r ≡ given a → ⊥
@@ -70,12 +71,6 @@ name-told before s f e = sized (onward-given (byteOf s) _ f e)
         let c = check-given (not (goodLength (size .value))) BadName _ f e in
         let n = onward-given (bytesOf (size .value) (size .rest)) _ f (c .1) in
         judged size (n .0) (byte-told s size h) (not-false _ (c .0)) (n .1) (n .2)
-
--- names that were read: each keeps the rule and stands above the one before it
-pub data Rising : List ℕ → List (List ℕ) → Type 0 where
-  none : {before : List ℕ} → Rising before []
-  one : {before x : List ℕ} {xs : List (List ℕ)} → goodLength (length x) ≡ true → goodBytes x ≡ true → rises before x ≡ true → Rising x xs →
-      Rising before (x ∷ xs)
 
 pub record NamesTold (n : ℕ) (before s : List ℕ) (f : Field (List (List ℕ))) : Type 0 where
   pub bytes : s ≡ namesBytes (f .value) (f .rest)
@@ -142,11 +137,6 @@ block-told n s f e = started (onward-given (byteOf s) _ f e)
     started (p, hp, e) =
         let c = check-given (not (ltb (p .value) n)) NumberNotBelow _ f e in
         counted p hp (ltb-true (p .value) n (not-false _ (c .0))) (onward-given (byteOf (p .rest)) _ f (c .1))
-
--- blocks that were read over n names
-abbrev pub Within : ℕ → List Block → Type 0
-Within n [] = Unit {0}
-Within n (b ∷ bs) = (b .parent < n) × (allBelow n (b .word) ≡ true) × Within n bs
 
 pub record BlocksTold (n m : ℕ) (s : List ℕ) (f : Field (List Block)) : Type 0 where
   pub bytes : s ≡ blocksBytes (f .value) (f .rest)

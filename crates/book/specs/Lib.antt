@@ -3,3 +3,4 @@ pub mod Book
 pub mod Layout
 pub mod Bytes
 pub mod Access
+pub mod Stops

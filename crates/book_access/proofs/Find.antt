@@ -15,7 +15,7 @@ use Rattle.name.proofs.Ordering.{same-equal, above-flip, below-flip, below-tran
 use Rattle.book.specs.declared.Found.{Found}
 use Rattle.book.specs.declared.Found.the-variants.{At, Nothing}
 use Rattle.book.specs.Access.{numberFrom, numberIn}
-use Rattle.book.proofs.Told.{Rising}
+use Rattle.book.specs.Stops.{Rising}
 use Rattle.book.proofs.Laws.{names-rise}
 
 -- the first name that is the text

@@ -4,12 +4,13 @@ use Prim.Native.Nat.{ℕ, _≤_, _<_}
 use mathlib.Core.Path.{_≡_, refl, sym, _∙_, ap}
 use mathlib.Core.Bool.{Bool, true, false, false≢true}
 use mathlib.Core.List.{List}
-use mathlib.Core.Logic.{_↔_}
+use mathlib.Core.Logic.{_↔_, _⊎_, inl, inr, ⊎-elim}
 use native.Mathlib.Omega.{arith}
 use Rattle.refusal.specs.declared.Refusal.{Refusal}
 use Rattle.refusal.specs.declared.Outcome.the-variants.{Refused}
 use Rattle.refusal.specs.Table.{numberOf}
 use Rattle.refusal.specs.Answer.{Answer, given, refused, onward, refuseIf, outcomeOf}
+use Rattle.refusal.proofs.Answers.{given-refused, onward-refused, check-refused}
 use Rattle.book.specs.Book.{Book, bookOf}
 use Rattle.book.proofs.Stops.{book-stops}
 
@@ -28,6 +29,18 @@ late {A} s next f l e = go (bookOf s) refl e
     go : (a : Answer Book) → bookOf s ≡ a → onward a next ≡ refused f → (b : Book) × (bookOf s ≡ given b) × (next b ≡ refused f)
     go (given b) q h = (b, q, h)
     go (refused g) q h = let z : g ≡ f = cc in absurd (omega (arith, book-stops s f (q ∙ ap refused z)))
+
+-- a check gives its own number, or the number of what comes behind it
+pub own-or-next : {A : Type 0} (t : Bool) (r : Refusal) (next : Answer A) (f : Refusal) → refuseIf t r next ≡ refused f → (r ≡ f) ⊎ (next ≡ refused f)
+own-or-next t r next f e = ⊎-elim (λ h. inl (h .1)) (λ h. inr (h .1)) (check-refused t r next f e)
+
+pub own : {A : Type 0} (t : Bool) (r : Refusal) (a : A) (f : Refusal) → refuseIf t r (given a) ≡ refused f → r ≡ f
+own t r a f e = ⊎-elim (λ q. q) (λ h. absurd (given-refused a f h)) (own-or-next t r (given a) f e)
+
+-- a book's number, or the number of what is done with it
+pub book-or-next : {A : Type 0} (s : List ℕ) (next : Book → Answer A) (f : Refusal) → onward (bookOf s) next ≡ refused f →
+    (numberOf f ≤ 7) ⊎ ((b : Book) × (next b ≡ refused f))
+book-or-next s next f e = ⊎-elim (λ q. inl (book-stops s f q)) (λ q. inr (q .0, q .2)) (onward-refused (bookOf s) next f e)
 
 -- a test and what it means
 pub fails : {P : Type 0} (t : Bool) → (t ≡ true) ↔ P → (t ≡ false) ↔ (¬ P)

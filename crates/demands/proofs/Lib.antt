@@ -1,3 +1,4 @@
 pub mod Checks
 pub mod Refusals
+pub mod Texts
 pub mod Demands

@@ -1,11 +1,11 @@
--- Demand 1: each refusal is given for its condition and for no other. One law for each number of each call, and one for 1 to 7, which are those of `bookOf`;
--- the laws of reading a declaration stand in crates/reading/proofs/Theorem.antt.
+-- Demand 1: each refusal is given for its condition and for no other. One law for each number of each call, one for 1 to 7, which are those of `bookOf`, and one that says that
+-- no other number is given; the laws of reading a declaration stand in crates/reading/proofs/Theorem.antt. Demands.antt has their statements together.
 -- Assumes nothing.
 use Prim.Native.Nat.{ℕ, _≤_, _<_}
 use mathlib.Core.Path.{_≡_, refl, sym, _∙_, ap}
 use mathlib.Core.Bool.{Bool, true, false, not, false≢true}
 use mathlib.Core.List.{List, []}
-use mathlib.Core.Logic.{_↔_}
+use mathlib.Core.Logic.{_↔_, _⊎_, ⊎-map}
 use native.Mathlib.Omega.{arith}
 use lib.Dec.{ltb}
 use lib.ListN.{length}
@@ -35,7 +35,7 @@ use Rattle.intake.specs.Inference.{sampleOf, noWord, badParent, chainIn, modelI
 use Rattle.intake.specs.Writing.{sampleText}
 use Rattle.intake.proofs.Theorem.{good-word, word-good}
 use Rattle.intake.proofs.Samples.{no-word, some-word}
-use Rattle.demands.proofs.Checks.{outcome-refused, late, early, fails, first-stops, second-stops, third-stops, above-first}
+use Rattle.demands.proofs.Checks.{outcome-refused, late, early, own, own-or-next, book-or-next, fails, first-stops, second-stops, third-stops, above-first}
 
 -- ---- what the tests mean
 
@@ -108,6 +108,13 @@ module _ (bytes : List ℕ) (parent : ℕ) (r : Inferred) (call : r ≡ inferred
 
       from : (b : Book) × Read bytes b × (parent < length (b .names)) × (sampleOf b parent ≡ []) → modelAnswer bytes parent ≡ refused NoBlock
       from (b, q, h, z) = rw (q, lt-ltb parent (length (b .names)) h, no-word (sampleOf b parent) .1 z)
+
+  -- no number but 1 to 7, 8 and 9
+  pub model-only : (f : Refusal) → r .outcome ≡ Refused f → (numberOf f ≤ 7) ⊎ ((BadParent ≡ f) ⊎ (NoBlock ≡ f))
+  unfolding modelAnswer modelIn
+  model-only f e =
+      ⊎-map (λ l. l) (λ k. ⊎-map (λ q. q) (own (noWord (sampleOf (k .0) parent)) NoBlock (chainIn (k .0) parent) f) (own-or-next (badParent (k .0) parent) BadParent _ f (k .1)))
+      (book-or-next bytes (λ b. modelIn b parent) f (stops f .0 e))
 
 -- ---- a declaration written
 
@@ -182,6 +189,16 @@ module _ (bytes : List ℕ) (parent : ℕ) (m : Model) (room : ℕ) (r : Written
 
       from : (b : Book) × Read bytes b × (parent < length (b .names)) × IsChain places (length (b .names)) m × (room < length (due b)) → writeAnswer bytes parent m room ≡ refused BufferTooShort
       from (b, q, h, c, l) = rw (q, lt-ltb parent (length (b .names)) h, is-chain (length (b .names)) m .1 c, lt-ltb room (length (due b)) l)
+
+  -- no number but 1 to 7, 8, 10 and 12
+  pub write-only : (f : Refusal) → r .outcome ≡ Refused f → (numberOf f ≤ 7) ⊎ ((BadParent ≡ f) ⊎ ((NotAChain ≡ f) ⊎ (BufferTooShort ≡ f)))
+  unfolding writeAnswer next fitted
+  write-only f e = ⊎-map (λ l. l) (λ k. behind (k .0) (k .1)) (book-or-next bytes next f (halts f .0 e))
+    where
+      behind : (b : Book) → next b ≡ refused f → (BadParent ≡ f) ⊎ ((NotAChain ≡ f) ⊎ (BufferTooShort ≡ f))
+      behind b q =
+          ⊎-map (λ z. z) (λ k. ⊎-map (λ z. z) (own (ltb room (length (due b))) BufferTooShort (due b) f) (own-or-next (not (isChain places (length (b .names)) m)) NotAChain _ f k))
+          (own-or-next (not (ltb parent (length (b .names)))) BadParent _ f q)
 
 -- ---- a declaration written from the sample
 
@@ -272,6 +289,17 @@ module _ (bytes : List ℕ) (parent room : ℕ) (r : Written) (call : r ≡ writ
       from : (b : Book) × Read bytes b × (parent < length (b .names)) × (¬ (sampleOf b parent ≡ [])) × (room < length (sampled b)) → sampleText bytes parent room ≡ refused BufferTooShort
       from (b, q, h, d, l) = rw q (stop b .1 (not-above parent (length (b .names)) .1 h, some-word (sampleOf b parent) .1 d, below-law room (length (sampled b)) .1 l))
 
+  -- no number but 1 to 7, 8, 9 and 12
+  pub sample-only : (f : Refusal) → r .outcome ≡ Refused f → (numberOf f ≤ 7) ⊎ ((BadParent ≡ f) ⊎ ((NoBlock ≡ f) ⊎ (BufferTooShort ≡ f)))
+  unfolding sampleText row
+  sample-only f e = ⊎-map (λ l. l) (λ k. behind (k .0) (sym (row-is (k .0)) ∙ k .1)) (book-or-next bytes row f (ends f .0 e))
+    where
+      behind : (b : Book) → refuseIf (not (ltb parent (length (b .names)))) BadParent (refuseIf (noWord (sampleOf b parent)) NoBlock (refuseIf (ltb room (length (sampled b))) BufferTooShort (given (sampled b)))) ≡ refused f →
+          (BadParent ≡ f) ⊎ ((NoBlock ≡ f) ⊎ (BufferTooShort ≡ f))
+      behind b q =
+          ⊎-map (λ z. z) (λ k. ⊎-map (λ z. z) (own (ltb room (length (sampled b))) BufferTooShort (sampled b) f) (own-or-next (noWord (sampleOf b parent)) NoBlock _ f k))
+          (own-or-next (not (ltb parent (length (b .names)))) BadParent _ f q)
+
 -- ---- acceptance of a word
 
 count-law : (n : ℕ) → (goodCount n ≡ true) ↔ ((0 < n) × (n ≤ places))
@@ -330,3 +358,10 @@ module _ (n : ℕ) (m : Model) (w : List ℕ) (r : Acceptance) (call : AcceptsWo
       from (a, b, c, d) =
           third-stops BadNameCount NotAChain BadWord (omega arith) (omega arith) (accepts m w) (not (goodCount n)) (badModel n m) (badWord n w) .1
           (ap not (bounds-count n a b), is-chain n m .1 c, bad (badWord n w) (λ e. d (word-law n w .0 e)))
+
+  -- no number but 3, 10 and 11
+  pub word-only : (f : Refusal) → r ≡ Stopped f → (BadNameCount ≡ f) ⊎ ((NotAChain ≡ f) ⊎ (BadWord ≡ f))
+  unfolding answerOf
+  word-only f e =
+      ⊎-map (λ z. z) (λ k. ⊎-map (λ z. z) (own (badWord n w) BadWord (accepts m w) f) (own-or-next (badModel n m) NotAChain _ f k))
+      (own-or-next (not (goodCount n)) BadNameCount _ f (tells f .0 e))

@@ -18,7 +18,7 @@ use Rattle.nameset.proofs.Laws.{member-empty, member-with, of-word-of, of-zero}
 use Rattle.book.specs.declared.Layout.{Layout}
 use Rattle.book.specs.Book.{Block, allBelow, blocksIn}
 use Rattle.book.specs.Access.{LaidOut}
-use Rattle.book.proofs.Told.{Within}
+use Rattle.book.specs.Stops.{Within}
 use Rattle.book.proofs.Laws.{few-names, blocks-within}
 use Rattle.model.specs.Accept.{Names}
 use Rattle.model.proofs.Tests.{and-left, and-right, or-split, or-right, same-test}

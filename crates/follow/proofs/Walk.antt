@@ -17,7 +17,7 @@ use Rattle.book.specs.declared.BlockPlace.{BlockPlace}
 use Rattle.book.specs.Book.{Block, allBelow, blocksIn}
 use Rattle.book.specs.Bytes.{blocksBytes}
 use Rattle.book.specs.Access.{LaidOut, BlockFits, blockPlace}
-use Rattle.book.proofs.Told.{Within}
+use Rattle.book.specs.Stops.{Within}
 use Rattle.book.proofs.Placed.{BlockPlaced}
 use Rattle.book.proofs.Laws.{blocks-stand, block-count, blocks-within, few-names, next-block}
 use Rattle.model.proofs.Tests.{both, and-left, and-right}

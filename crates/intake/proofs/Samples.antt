@@ -14,7 +14,7 @@ use Rattle.nameset.specs.Places.{places}
 use Rattle.book.specs.Book.{Block, Book, bookOf}
 use Rattle.book.specs.Layout.{layoutOf}
 use Rattle.book.specs.Access.{LaidOut}
-use Rattle.book.proofs.Told.{Within}
+use Rattle.book.specs.Stops.{Within}
 use Rattle.book.proofs.Laws.{few-names, blocks-in, blocks-within}
 use Rattle.model.specs.Accept.{Names}
 use Rattle.follow.specs.Sample.{wordsOf, Over}

@@ -5,7 +5,7 @@ use mathlib.Core.Path.{_≡_, refl, sym, _∙_, ap, subst}
 use mathlib.Core.Bool.{Bool, true, false, not}
 use mathlib.Core.List.{List}
 use mathlib.Core.Option.{Option, none, some}
-use mathlib.Core.Logic.{_↔_}
+use mathlib.Core.Logic.{_↔_, _⊎_, inl, inr, ⊎-elim}
 use native.Mathlib.Omega.{arith}
 use lib.ListN.{length}
 use borrow.Author.Tests.{lt-ltb, le-ltb}
@@ -14,7 +14,7 @@ use Rattle.refusal.specs.declared.Refusal.the-variants.{NotADeclaration, Unknow
 use Rattle.refusal.specs.declared.Outcome.the-variants.{Done, Refused}
 use Rattle.refusal.specs.Table.{numberOf}
 use Rattle.refusal.specs.Answer.{Answer, given, refused, onward, refuseIf, outcomeOf}
-use Rattle.refusal.proofs.Answers.{onward-given}
+use Rattle.refusal.proofs.Answers.{onward-given, refused-same, given-refused, onward-refused, check-refused}
 use Rattle.nameset.specs.Places.{places}
 use Rattle.book.specs.Book.{Book, bookOf, namesIn}
 use Rattle.book.specs.Layout.{layoutOf}
@@ -73,19 +73,26 @@ late s text r l e = go (bookOf s) refl e
     go (given b) q f = (b, q)
     go (refused g) q f = let z : g ≡ r = cc in absurd (omega (arith, book-stops s r (q ∙ ap refused z)))
 
--- and the text's numbers are 13 to 15
-judged-late : (a b : Bool) (x : Declared) (f : Refusal) → refuseIf (not a) UnknownName (refuseIf (not b) NameTwice (given x)) ≡ refused f → 12 < numberOf f
-judged-late true true x f e = absurd (let z : _≡_ {A = ℕ} 0 1 = cc in omega arith)
-judged-late true false x f e = let z : NameTwice ≡ f = cc in subst (λ (r : Refusal). 12 < numberOf r) z (omega arith)
-judged-late false b x f e = let z : UnknownName ≡ f = cc in subst (λ (r : Refusal). 12 < numberOf r) z (omega arith)
+-- and the text's numbers are 13, 14 and 15
+abbrev OfText : Refusal → Type 0
+OfText f = (NotADeclaration ≡ f) ⊎ ((UnknownName ≡ f) ⊎ (NameTwice ≡ f))
 
-text-late : (names : List (List ℕ)) (text : List ℕ) (f : Refusal) → readText places names text ≡ refused f → 12 < numberOf f
+text-only : (names : List (List ℕ)) (text : List ℕ) (f : Refusal) → readText places names text ≡ refused f → OfText f
 unfolding readText judged
-text-late names text f e = go (formOf text) e
+text-only names text f e = go (formOf text) e
   where
-    go : (o : Option Form) → onward (orRefuse NotADeclaration o) (judged places names) ≡ refused f → 12 < numberOf f
-    go none q = let z : NotADeclaration ≡ f = cc in subst (λ (r : Refusal). 12 < numberOf r) z (omega arith)
-    go (some d) q = judged-late (allForm (known names) d) (noneTwice (length names) (numbered names (d .factors))) _ f q
+    go : (o : Option Form) → onward (orRefuse NotADeclaration o) (judged places names) ≡ refused f → OfText f
+    go none q = inl (refused-same {A = Declared} NotADeclaration f q)
+    go (some d) q =
+        ⊎-elim (λ h. inr (inl (h .1)))
+        (λ h. ⊎-elim (λ k. inr (inr (k .1))) (λ k. absurd (given-refused _ f (k .1)))
+        (check-refused (not (noneTwice (length names) (numbered names (d .factors)))) NameTwice _ f (h .1)))
+        (check-refused (not (allForm (known names) d)) UnknownName _ f q)
+
+text-late : (f : Refusal) → OfText f → 12 < numberOf f
+text-late f (inl z) = subst (λ (r : Refusal). 12 < numberOf r) z (omega arith)
+text-late f (inr (inl z)) = subst (λ (r : Refusal). 12 < numberOf r) z (omega arith)
+text-late f (inr (inr z)) = subst (λ (r : Refusal). 12 < numberOf r) z (omega arith)
 
 given-book : (s text : List ℕ) (d : Declared) → readAnswer s text ≡ given d → IsBook s
 unfolding readAnswer
@@ -158,8 +165,14 @@ module _ (s text : List ℕ) (r : Declaration) (call : ReadsDeclaration s text r
   read-1-7 f l = (λ o. to (bookOf s) refl (refusal-is f .0 o), λ q. refusal-is f .1 (rw q refl))
     where
       to : (a : Answer Book) → bookOf s ≡ a → onward a (λ b. readText places (b .names) text) ≡ refused f → bookOf s ≡ refused f
-      to (given b) q e = absurd (omega (arith, text-late (b .names) text f e))
+      to (given b) q e = absurd (omega (arith, text-late f (text-only (b .names) text f e)))
       to (refused g) q e = let z : g ≡ f = cc in q ∙ ap refused z
+
+  -- No number but 1 to 7, 13, 14 and 15 is given.
+  pub read-only : (f : Refusal) → r .outcome ≡ Refused f → (numberOf f ≤ 7) ⊎ ((NotADeclaration ≡ f) ⊎ ((UnknownName ≡ f) ⊎ (NameTwice ≡ f)))
+  unfolding readAnswer
+  read-only f o =
+      ⊎-elim (λ q. inl (book-stops s f q)) (λ q. inr (text-only (q .0 .names) text f (q .2))) (onward-refused (bookOf s) _ f (refusal-is f .0 o))
 
   -- A refused call answers parent 0 and the empty model.
   pub refused-due : (f : Refusal) → r .outcome ≡ Refused f → (r .parent ≡ 0) × (r .model ≡ emptyModel places)

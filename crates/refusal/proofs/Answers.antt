@@ -1,11 +1,14 @@
--- What a given answer tells of the steps that led to it.
+-- What an answer tells of the steps that led to it.
 -- Assumes nothing.
 use Prim.Native.Nat.{ℕ}
-use mathlib.Core.Path.{_≡_, refl}
+use mathlib.Core.Path.{_≡_, refl, ap}
 use mathlib.Core.Bool.{Bool, true, false}
+use mathlib.Core.Logic.{_⊎_, inl, inr}
 use native.Mathlib.Omega.{arith}
 use Rattle.refusal.specs.declared.Refusal.{Refusal}
 use Rattle.refusal.specs.Answer.{Answer, given, refused, onward, refuseIf}
+
+-- ---- what a given one tells
 
 -- both steps were given
 pub onward-given : {A B : Type 0} (a : Answer A) (next : A → Answer B) (b : B) → onward a next ≡ given b →
@@ -21,3 +24,23 @@ check-given false r next a e = (refl, e)
 
 pub given-same : {A : Type 0} (a b : A) → given a ≡ given b → a ≡ b
 given-same a b e = cc
+
+-- ---- and what a refused one tells
+
+pub refused-same : {A : Type 0} (q r : Refusal) → _≡_ {A = Answer A} (refused q) (refused r) → q ≡ r
+refused-same q r e = cc
+
+pub given-refused : {A : Type 0} (a : A) (r : Refusal) → given a ≡ refused r → ⊥
+given-refused a r e = let z : _≡_ {A = ℕ} 0 1 = cc in omega arith
+
+-- the first step was refused, or it was given and the second was refused
+pub onward-refused : {A B : Type 0} (a : Answer A) (next : A → Answer B) (r : Refusal) → onward a next ≡ refused r →
+    (a ≡ refused r) ⊎ ((x : A) × (a ≡ given x) × (next x ≡ refused r))
+onward-refused {A} {B} (given x) next r e = inr (x, refl, e)
+onward-refused {A} {B} (refused q) next r e = inl (ap refused (refused-same {A = B} q r e))
+
+-- the check refused, or it was passed
+pub check-refused : {A : Type 0} (test : Bool) (q : Refusal) (next : Answer A) (r : Refusal) → refuseIf test q next ≡ refused r →
+    ((test ≡ true) × (q ≡ r)) ⊎ ((test ≡ false) × (next ≡ refused r))
+check-refused {A} true q next r e = inl (refl, refused-same {A = A} q r e)
+check-refused {A} false q next r e = inr (refl, e)

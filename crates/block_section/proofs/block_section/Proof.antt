@@ -15,7 +15,8 @@ use Rattle.block_section.specs.declared.BlockCount.the-variants.{Blocks,
 use Rattle.book.specs.Field.{Field}
 use Rattle.book.specs.Book.{Block, blocksOf, blockSection}
 use Rattle.block_section.specs.Tables.{blocksEnd, blockCount, behindBlocks}
-use Rattle.book.proofs.Counts.{countAt, count-missing, count-given}
+use Rattle.book.specs.Stops.{countAt}
+use Rattle.book.proofs.Counts.{count-missing, count-given}
 use Rattle.book.proofs.Told.{blocks-told}
 use Rattle.block_section.proofs.Steps.{behind-blocks}
 use borrow.Author.Needs.{needs}

@@ -11,7 +11,8 @@ use Rattle.nameset.specs.Places.{goodCount}
 use Rattle.nameset.proofs.Count.{count-bounds}
 use Rattle.book.specs.Book.{namesOf, nameSection}
 use Rattle.name_section.specs.Tables.{nameTable, noNames}
-use Rattle.book.proofs.Counts.{countAt, count-missing, count-given}
+use Rattle.book.specs.Stops.{countAt}
+use Rattle.book.proofs.Counts.{count-missing, count-given}
 use borrow.Author.Needs.{needs}
 use Rattle.name_section.proofs.name_section.Statement.{statement}
 use Rattle.name_section.proofs.name_section.Tie as tie

@@ -1,0 +1,118 @@
+-- When exactly a block and blocks are refused: what a refusal tells, and what leads to one.
+-- Assumes nothing.
+use Prim.Native.Nat.{ℕ, zero, suc, _<_}
+use mathlib.Core.Path.{_≡_, refl, _∙_, ap}
+use mathlib.Core.Bool.{true, not}
+use mathlib.Core.List.{List, [], _∷_}
+use mathlib.Core.Logic.{_⊎_, inl, inr, ⊎-elim}
+use native.Mathlib.Omega.{arith}
+use native.Mathlib.Nat.{le-of-suc-le-suc}
+use lib.Dec.{ltb}
+use lib.ListN.{length}
+use borrow.Author.Tests.{lt-ltb, le-ltb, ltb-true, ltb-false, not-true, not-false}
+use Rattle.refusal.specs.declared.Refusal.{Refusal}
+use Rattle.refusal.specs.declared.Refusal.the-variants.{BytesMissing, NumberNotBelow}
+use Rattle.refusal.specs.Answer.{Answer, given, refused, onward, refuseIf}
+use Rattle.refusal.proofs.Answers.{refused-same, given-refused, onward-refused, check-refused}
+use Rattle.book.specs.Field.{Field, field, byteOf, bytesOf}
+use Rattle.book.specs.Book.{Block, allBelow, blockOf, blocksOf}
+use Rattle.book.specs.Bytes.{blockBytes, blocksBytes}
+use Rattle.book.specs.Stops.{one, Within, BlockMissing, BlockBad}
+use Rattle.book.proofs.Told.{bytes-told, block-told}
+use Rattle.book.proofs.FieldStops.{bytes-missing, bytes-given, bytes-stop, joined}
+
+-- ---- a block
+
+-- what is wrong with the block at the head of `rest`, and its number
+pub data BlockStop (n : ℕ) (rest : List ℕ) (r : Refusal) : Type 0 where
+  cut : BlockMissing n rest → BytesMissing ≡ r → BlockStop n rest r
+  over : BlockBad n rest → NumberNotBelow ≡ r → BlockStop n rest r
+
+-- a block whose children were taken
+abbrev taken : ℕ → ℕ → Field (List ℕ) → Answer (Field Block)
+taken n p w = refuseIf (not (allBelow n (w .value))) NumberNotBelow (given (field (record { parent = p; word = w .value }) (w .rest)))
+
+pub block-stop : (n : ℕ) (s : List ℕ) (r : Refusal) → blockOf n s ≡ refused r → BlockStop n s r
+unfolding blockOf byteOf blockBytes
+block-stop n [] r e = cut (inl refl) (refused-same {A = Field Block} BytesMissing r e)
+block-stop n (p ∷ []) r e =
+    ⊎-elim (λ h. over (inl (p, [], refl, ltb-false p n (not-true (ltb p n) (h .0)))) (h .1))
+    (λ h. cut (inr (inl (p, refl, ltb-true p n (not-false (ltb p n) (h .0))))) (refused-same {A = Field Block} BytesMissing r (h .1)))
+    (check-refused (not (ltb p n)) NumberNotBelow _ r e)
+block-stop n (p ∷ size ∷ more) r e =
+    ⊎-elim (λ h. over (inl (p, size ∷ more, refl, ltb-false p n (not-true (ltb p n) (h .0)))) (h .1)) (λ h. whole (ltb-true p n (not-false (ltb p n) (h .0))) (h .1))
+    (check-refused (not (ltb p n)) NumberNotBelow _ r e)
+  where
+    read : p < n → (w : Field (List ℕ)) → bytesOf size more ≡ given w → taken n p w ≡ refused r → BlockStop n (p ∷ size ∷ more) r
+    read l w b e =
+        let t = bytes-told size more w b in
+        let s : (p ∷ size ∷ more) ≡ blockBytes (record { parent = p; word = w .value }) (w .rest) = rw (t .0, t .1) refl in
+        ⊎-elim (λ h. over (inr (record { parent = p; word = w .value }, w .rest, s, l, not-true _ (h .0))) (h .1)) (λ h. absurd (given-refused _ r (h .1)))
+        (check-refused (not (allBelow n (w .value))) NumberNotBelow _ r e)
+
+    whole : p < n → onward (bytesOf size more) (taken n p) ≡ refused r → BlockStop n (p ∷ size ∷ more) r
+    whole l e =
+        ⊎-elim (λ h. let k = bytes-stop size more r h in cut (inr (inr (p, size, more, refl, l, k .0))) (k .1)) (λ h. read l (h .0) (h .1) (h .2))
+        (onward-refused (bytesOf size more) (taken n p) r e)
+
+pub block-missing : (n : ℕ) (rest : List ℕ) → BlockMissing n rest → blockOf n rest ≡ refused BytesMissing
+unfolding blockOf byteOf
+block-missing n rest (inl e) = rw e
+block-missing n rest (inr (inl (p, e, l))) = rw (e, lt-ltb p n l)
+block-missing n rest (inr (inr (p, size, more, e, l, k))) = rw (e, lt-ltb p n l, bytes-missing size more k)
+
+pub block-bad : (n : ℕ) (rest : List ℕ) → BlockBad n rest → blockOf n rest ≡ refused NumberNotBelow
+unfolding blockOf byteOf blockBytes
+block-bad n rest (inl (p, more, e, h)) = rw (e, le-ltb p n h)
+block-bad n rest (inr (b, more, e, l, k)) = rw (e, lt-ltb (b .parent) n l, bytes-given (b .word) more, k)
+
+block-given : (n : ℕ) (b : Block) (rest : List ℕ) → b .parent < n → allBelow n (b .word) ≡ true → blockOf n (blockBytes b rest) ≡ given (field b rest)
+unfolding blockOf byteOf blockBytes
+block-given n b rest l k = rw (lt-ltb (b .parent) n l, bytes-given (b .word) rest, k)
+
+-- ---- blocks
+
+-- some blocks stand there, and the one behind them is refused
+pub record BlocksStop (n k : ℕ) (s : List ℕ) (r : Refusal) : Type 0 where
+  pub blocks : List Block
+  pub rest : List ℕ
+  pub within : Within n blocks
+  pub stand : s ≡ blocksBytes blocks rest
+  pub fewer : length blocks < k
+  pub at : blockOf n rest ≡ refused r
+
+pub blocks-stop : (n k : ℕ) (s : List ℕ) (r : Refusal) → blocksOf n k s ≡ refused r → BlocksStop n k s r
+unfolding blocksOf blocksBytes
+blocks-stop n zero s r e = absurd (given-refused _ r e)
+blocks-stop n (suc k) s r e = more (λ t h. blocks-stop n k t r h) (onward-refused (blockOf n s) _ r e)
+  where
+    behind : (b : Field Block) → blockOf n s ≡ given b → BlocksStop n k (b .rest) r → BlocksStop n (suc k) s r
+    behind b h u =
+        let t = block-told n s b h in
+        record {
+          blocks = b .value ∷ u .blocks;
+          rest = u .rest;
+          within = (t .parent, t .children, u .within);
+          stand = t .bytes ∙ ap (blockBytes (b .value)) (u .stand);
+          fewer = omega (arith, u .fewer);
+          at = u .at;
+        }
+
+    more : ((t : List ℕ) → blocksOf n k t ≡ refused r → BlocksStop n k t r) →
+        (blockOf n s ≡ refused r) ⊎ ((b : Field Block) × (blockOf n s ≡ given b) × (onward (blocksOf n k (b .rest)) (joined b) ≡ refused r)) → BlocksStop n (suc k) s r
+    more again (inl h) = record { blocks = []; rest = s; within = tt; stand = refl; fewer = omega arith; at = h }
+    more again (inr (b, h, e)) =
+        ⊎-elim (λ q. behind b h (again (b .rest) q)) (λ q. absurd (given-refused _ r (q .2))) (onward-refused (blocksOf n k (b .rest)) (joined b) r e)
+
+pub blocks-refused : (n : ℕ) (bs : List Block) (rest : List ℕ) (r : Refusal) (k : ℕ) → Within n bs → length bs < k → blockOf n rest ≡ refused r →
+    blocksOf n k (blocksBytes bs rest) ≡ refused r
+unfolding blocksOf blocksBytes
+blocks-refused n [] rest r zero w l e = absurd (omega arith)
+blocks-refused n [] rest r (suc k) w l e = rw e
+blocks-refused n (b ∷ bs) rest r zero w l e = absurd (omega arith)
+blocks-refused n (b ∷ bs) rest r (suc k) (p, c, w) l e = rw (block-given n b (blocksBytes bs rest) p c, blocks-refused n bs rest r k w (le-of-suc-le-suc l) e)
+
+pub blocks-given : (n : ℕ) (bs : List Block) (rest : List ℕ) → Within n bs → blocksOf n (length bs) (blocksBytes bs rest) ≡ given (field bs rest)
+unfolding blocksOf blocksBytes
+blocks-given n [] rest w = refl
+blocks-given n (b ∷ bs) rest (p, c, w) = rw (block-given n b (blocksBytes bs rest) p c, blocks-given n bs rest w)

@@ -1,0 +1,136 @@
+-- Rows 1 to 7 of paper 01's "Where a call stops", without any reader: which bytes are refused by which number. Read from `Stops`, at the end, upwards.
+-- Assumes nothing.
+use Prim.Native.Nat.{ℕ, _+_, _*_, _≤_, _<_}
+use mathlib.Core.Path.{_≡_}
+use mathlib.Core.Bool.{true, false}
+use mathlib.Core.List.{List, [], _∷_}
+use mathlib.Core.Logic.{_⊎_}
+use lib.ListN.{length, drop, getD}
+use Rattle.refusal.specs.declared.Refusal.{Refusal}
+use Rattle.refusal.specs.declared.Refusal.the-variants.{BookTooLong, BytesMissing, BadNameCount, BadName, NameNotAbove, NumberNotBelow, BytesLeftOver, BadParent, NoBlock, NotAChain, BadWord, BufferTooShort, NotADeclaration, UnknownName, NameTwice}
+use Rattle.nameset.specs.Places.{places}
+use Rattle.name.specs.Rule.{goodLength, goodBytes}
+use Rattle.name.specs.Order.{rises}
+use Rattle.book.specs.Book.{Block, longestBook, allBelow}
+use Rattle.book.specs.Bytes.{nameBytes, namesBytes, blockBytes, blocksBytes}
+
+-- ---- what was read before a place
+
+-- the two-byte count that stands at a place, the low byte first
+abbrev pub countAt : List ℕ → ℕ → ℕ
+countAt s at = getD s at 0 + 256 * getD s (at + 1) 0
+
+-- names behind the name `before`: each keeps the rule and stands above the one before it
+pub data Rising : List ℕ → List (List ℕ) → Type 0 where
+  none : {before : List ℕ} → Rising before []
+  one : {before x : List ℕ} {xs : List (List ℕ)} → goodLength (length x) ≡ true → goodBytes x ≡ true → rises before x ≡ true → Rising x xs →
+      Rising before (x ∷ xs)
+
+-- the last of the names, `before` where there is none
+unfoldable pub lastOf : List ℕ → List (List ℕ) → List ℕ
+lastOf before [] = before
+lastOf before (x ∷ xs) = lastOf x xs
+
+-- blocks over n names
+abbrev pub Within : ℕ → List Block → Type 0
+Within n [] = Unit {0}
+Within n (b ∷ bs) = (b .parent < n) × (allBelow n (b .word) ≡ true) × Within n bs
+
+-- The count N is good and these names stand behind it, in order; `rest` follows them. N is `countAt s 0`.
+pub record NamesRead (s : List ℕ) (names : List (List ℕ)) (rest : List ℕ) : Type 0 where
+  pub short : length s ≤ longestBook
+  pub enough : 2 ≤ length s
+  pub some : 1 ≤ countAt s 0
+  pub few : countAt s 0 ≤ places
+  pub rising : Rising [] names
+  pub stand : drop 2 s ≡ namesBytes names rest
+
+-- The next to be read, in `rest`, is a name: they are fewer than N. `last` is the one before it.
+pub record AtName (s last rest : List ℕ) : Type 0 where
+  pub names : List (List ℕ)
+  pub read : NamesRead s names rest
+  pub fewer : length names < countAt s 0
+  pub before : lastOf [] names ≡ last
+
+-- The next to be read, in `rest`, is section 2: they are N.
+pub record AtSection (s rest : List ℕ) : Type 0 where
+  pub names : List (List ℕ)
+  pub read : NamesRead s names rest
+  pub all : length names ≡ countAt s 0
+
+-- All names are read, the count of section 2 is m, and these blocks stand behind it; `rest` follows them.
+pub record BlocksRead (s : List ℕ) (m : ℕ) (blocks : List Block) (rest : List ℕ) : Type 0 where
+  pub section : List ℕ
+  pub before : AtSection s section
+  pub enough : 2 ≤ length section
+  pub count : countAt section 0 ≡ m
+  pub within : Within (countAt s 0) blocks
+  pub stand : drop 2 section ≡ blocksBytes blocks rest
+
+-- The next to be read, in `rest`, is a block: they are fewer than M.
+pub record AtBlock (s rest : List ℕ) : Type 0 where
+  pub m : ℕ
+  pub blocks : List Block
+  pub read : BlocksRead s m blocks rest
+  pub fewer : length blocks < m
+
+-- The last block was read: they are M.
+pub record AtEnd (s rest : List ℕ) : Type 0 where
+  pub m : ℕ
+  pub blocks : List Block
+  pub read : BlocksRead s m blocks rest
+  pub all : length blocks ≡ m
+
+-- ---- what is wrong there
+
+-- A name's length byte is missing; or the length is good, and bytes of the name are missing.
+abbrev pub NameMissing : List ℕ → Type 0
+NameMissing rest = (rest ≡ []) ⊎ ((size : ℕ) × (more : List ℕ) × (rest ≡ size ∷ more) × (goodLength size ≡ true) × (length more < size))
+
+-- The length is bad; or the name is there, and has a bad byte.
+abbrev pub NameBad : List ℕ → Type 0
+NameBad rest = ((size : ℕ) × (more : List ℕ) × (rest ≡ size ∷ more) × (goodLength size ≡ false))
+    ⊎ ((x more : List ℕ) × (rest ≡ nameBytes x more) × (goodLength (length x) ≡ true) × (goodBytes x ≡ false))
+
+-- The name keeps the rule, and is not above the one before.
+abbrev pub NameLow : List ℕ → List ℕ → Type 0
+NameLow last rest = (x more : List ℕ) × (rest ≡ nameBytes x more) × (goodLength (length x) ≡ true) × (goodBytes x ≡ true) × (rises last x ≡ false)
+
+-- The parent is missing; or it is below n, and the child count is missing; or there are fewer children than it says.
+abbrev pub BlockMissing : ℕ → List ℕ → Type 0
+BlockMissing n rest = (rest ≡ []) ⊎ (((p : ℕ) × (rest ≡ p ∷ []) × (p < n))
+    ⊎ ((p size : ℕ) × (more : List ℕ) × (rest ≡ p ∷ size ∷ more) × (p < n) × (length more < size)))
+
+-- The parent is not below n; or the block is there, and has a child that is not.
+abbrev pub BlockBad : ℕ → List ℕ → Type 0
+BlockBad n rest = ((p : ℕ) × (more : List ℕ) × (rest ≡ p ∷ more) × (n ≤ p))
+    ⊎ ((b : Block) × (more : List ℕ) × (rest ≡ blockBytes b more) × (b .parent < n) × (allBelow n (b .word) ≡ false))
+
+-- ---- the rows
+
+-- 2: bytes are missing for the count N, for a name, for the count M, or for a block.
+abbrev pub Missing : List ℕ → Type 0
+Missing s = (length s < 2) ⊎ (((last rest : List ℕ) × AtName s last rest × NameMissing rest)
+    ⊎ (((rest : List ℕ) × AtSection s rest × (length rest < 2)) ⊎ ((rest : List ℕ) × AtBlock s rest × BlockMissing (countAt s 0) rest)))
+
+-- 3: the count N is 0 or above 64.
+abbrev pub BadCount : List ℕ → Type 0
+BadCount s = (length s ≤ longestBook) × (2 ≤ length s) × (¬ ((1 ≤ countAt s 0) × (countAt s 0 ≤ places)))
+
+-- The bytes are refused by this number, and no number above 7 is one of a book.
+abbrev pub Stops : List ℕ → Refusal → Type 0
+Stops s BookTooLong = longestBook < length s
+Stops s BytesMissing = Missing s
+Stops s BadNameCount = BadCount s
+Stops s BadName = (last rest : List ℕ) × AtName s last rest × NameBad rest
+Stops s NameNotAbove = (last rest : List ℕ) × AtName s last rest × NameLow last rest
+Stops s NumberNotBelow = (rest : List ℕ) × AtBlock s rest × BlockBad (countAt s 0) rest
+Stops s BytesLeftOver = (rest : List ℕ) × AtEnd s rest × (0 < length rest)
+Stops s BadParent = ⊥
+Stops s NoBlock = ⊥
+Stops s NotAChain = ⊥
+Stops s BadWord = ⊥
+Stops s BufferTooShort = ⊥
+Stops s NotADeclaration = ⊥
+Stops s UnknownName = ⊥
+Stops s NameTwice = ⊥
