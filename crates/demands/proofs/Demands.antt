@@ -55,9 +55,8 @@ use Rattle.demands.proofs.Texts.{Writes}
 
 -- ---- demand 1, the refusals
 
--- "No book, word, model record or declaration can make a call reach outside its memory, lose part of a number or run without end": that is what it means for a function to be
--- proved, and no call has a requirement.
--- "Each refusal is given for its condition and for no other": one record for each call, number by number. `Refuses f` says that the call was refused for f.
+-- That no input whatever makes a call leave its memory, cut a number short or go on for ever is what it means for a function to be proved, and no call has a requirement.
+-- That a refusal comes exactly with its condition: one record for each call, number by number. `Refuses f` says that the call was refused for f.
 
 -- 1 to 7, of every call that takes a book. What stands before the place and what is wrong there is said of the bytes alone, in crates/book/specs/Stops.antt.
 pub record BookRefusals (bytes : List ℕ) (Refuses : Refusal → Type 0) : Type 0 where
@@ -182,8 +181,8 @@ read-refusals bytes text r call =
 
 -- ---- demand 1, what a refused call answers and leaves
 
--- "A refused call changes nothing that it was lent": a buffer keeps every byte; all else is lent for reading alone, and the language lets no function change it.
--- "A model due is the empty model; a yes or no due is no, a length or parent number due is 0."
+-- What was lent to a refused call stays as it was: a buffer keeps every byte; all else is lent for reading alone, and the language lets no function change it.
+-- It answers no, the empty model, length 0 or parent 0, by what the call was to give.
 
 pub acceptance-due : (r : Acceptance) (f : Refusal) → r ≡ Stopped f → (acceptanceNumber r ≡ numberOf f) × (acceptanceYes r ≡ false)
 unfolding acceptanceNumber acceptanceYes
@@ -207,7 +206,7 @@ pub read-due : (bytes text : List ℕ) (r : Declaration) (call : ReadsDeclaratio
     (r .parent ≡ 0) × (r .model ≡ emptyModel places)
 read-due = Reading.refused-due
 
--- "On success a writer returns the length and bytes past it keep their values."
+-- A call that has written answers the length, and the buffer's bytes behind it are as they were.
 
 pub write-past : (bytes : List ℕ) (parent : ℕ) (m : Model) (w : Written) (before after : List ℕ) (call : Writes (writeAnswer bytes parent m (length before)) w before after) →
     w .outcome ≡ Done → drop (w .length) after ≡ drop (w .length) before
@@ -219,13 +218,12 @@ sample-past = Text.sample-past
 
 -- ---- demand 2
 
--- "A word is accepted exactly when XML 1.0, section 3.2, lets the model match it": the call says yes exactly when no check stops it and the word is a joining of one part for each
--- factor of the model in order.
+-- Acceptance is matching as XML 1.0 has it in section 3.2: the call says yes exactly when no check stops it and the word is a joining of one part for each factor of the model
+-- in order.
 pub accepted-exactly : (n : ℕ) (m : Model) (w : List ℕ) (r : Acceptance) (call : AcceptsWord n m w r) → (r ≡ Yes) ↔ (Passes n m w × Accepts m w)
 accepted-exactly = yes-exactly
 
--- "A model written as a declaration reads back as the same model": what the call that writes left in the buffer, up to the length that it answered, reads back as the same parent
--- and record.
+-- What is written reads back: what the call that writes left in the buffer, up to the length that it answered, is read as the same parent and record.
 pub written-reads-back : (bytes : List ℕ) (parent : ℕ) (m : Model) (w : Written) (before after : List ℕ) (call : Writes (writeAnswer bytes parent m (length before)) w before after) →
     w .outcome ≡ Done → (r : Declaration) → ReadsDeclaration bytes (take (w .length) after) r → Reads r parent m
 written-reads-back = Text.written-reads-back
@@ -235,8 +233,8 @@ pub sample-reads-back : (bytes : List ℕ) (parent : ℕ) (w : Written) (before 
     (x : Inferred) → x ≡ inferred (modelAnswer bytes parent) → (r : Declaration) → ReadsDeclaration bytes (take (w .length) after) r → Reads r parent (x .model)
 sample-reads-back = Text.sample-reads-back
 
--- "A text is read exactly when it is a spelling, allowed by document 01, of the declaration then written": it is read as this parent and this record exactly when it is a spelling
--- of them and the record is a chain; and what was read is then written, wherever there is room for the longest declaration.
+-- What is read is a spelling: a text is read as this parent and this record exactly when it is a spelling of them that paper 01 allows and the record is a chain; and what was read
+-- is then written, wherever there is room for the longest declaration.
 pub read-exactly : (bytes text : List ℕ) (r : Declaration) (call : ReadsDeclaration bytes text r) (parent : ℕ) (m : Model) →
     Reads r parent m ↔ (IsBook bytes × Spelled (namesIn bytes) text parent m × IsChain places (length (namesIn bytes)) m)
 read-exactly = Reading.read-exactly
@@ -253,8 +251,8 @@ pub record Asked (bytes : List ℕ) (parent : ℕ) (r : Inferred) (b : Book) : T
   pub read : bookOf bytes ≡ given b
   pub block : ¬ (sampleOf b parent ≡ [])
 
--- "Our model for that parent is a chain expression that accepts every one of them. Every other chain expression that accepts every word of that sample also accepts some word that
--- ours does not accept": the word is handed over. Chain expressions are the same exactly when the records are equal.
+-- The model is a chain over the book's names that accepts every word of the sample, and any other such chain accepts a word that the model does not: the word is handed over.
+-- Two chains are the same exactly when their records are equal.
 pub no-better-model : (bytes : List ℕ) (parent : ℕ) (r : Inferred) (b : Book) → Asked bytes parent r b →
     (r .outcome ≡ Done) × IsChain places (length (b .names)) (r .model) × AcceptsAll (r .model) (sampleOf b parent) ×
     ((other : Model) → IsChain places (length (b .names)) other → AcceptsAll other (sampleOf b parent) → ¬ (other ≡ r .model) →
@@ -266,13 +264,13 @@ no-better-model bytes parent r b a = (
   Model3.no-better bytes parent r (a .call) b (a .read) (a .block),
 )
 
--- Document 01: "that record is the chain which the levels above give".
+-- The record is the chain that paper 01's levels give.
 pub model-is-chain : (bytes : List ℕ) (parent : ℕ) (r : Inferred) (b : Book) → Asked bytes parent r b →
     r .model ≡ chainOf places (followOf (length (b .names)) (sampleOf b parent))
 unfolding chainOfWords
 model-is-chain bytes parent r b a = sym (Model3.model-is bytes parent r (a .call) b (a .read) (a .block))
 
--- "Whatever words a parent's non-empty sample holds, in whatever order and however often": samples of the same words, over as many names, have the same model.
+-- Neither the order of the words nor how often one comes matters: samples of the same words, over as many names, have the same model.
 pub same-model : (s t : List ℕ) (p q : ℕ) (x y : Inferred) (b c : Book) → Asked s p x b → Asked t q y c →
     length (b .names) ≡ length (c .names) → SameWords (sampleOf b p) (sampleOf c q) → x .model ≡ y .model
 same-model s t p q x y b c one other names same =
