@@ -7,6 +7,7 @@ use lib.Dec.{ltb}
 use lib.ListN.{length}
 use Rattle.refusal.specs.declared.Refusal.{Refusal}
 use Rattle.refusal.specs.declared.Refusal.the-variants.{BadParent, NotAChain, BufferTooShort}
+use Rattle.refusal.specs.Table.{stoppedBy}
 use Rattle.refusal.specs.Answer.{Answer, given, refused, onward, refuseIf, valueOr, outcomeOf}
 use Rattle.nameset.specs.Places.{places}
 use Rattle.book.specs.Book.{bookOf}
@@ -32,9 +33,14 @@ writeAnswer bytes parent m room =
 unfoldable pub noText : Refusal → Answer (List ℕ)
 noText r = refused r
 
--- How the call ends: the text's length, 0 where it was refused.
+-- The text's length; "a length or parent number due is 0".
+abbrev pub lengthDue : Answer (List ℕ) → ℕ
+lengthDue (given text) = length text
+lengthDue (refused r) = stoppedBy r .length
+
+-- How the call ends: the text's length, or the one due of a refused call.
 unfoldable pub written : Answer (List ℕ) → Written
-written a = record { outcome = outcomeOf a; length = length (valueOr [] a) }
+written a = record { outcome = outcomeOf a; length = lengthDue a }
 
 -- The buffer then: the text stands at its start and all other bytes keep their values; a refused call leaves every byte.
 unfoldable pub bufferAfter : List ℕ → Answer (List ℕ) → List ℕ

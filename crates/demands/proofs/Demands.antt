@@ -20,7 +20,7 @@ use Rattle.book.specs.Book.{Book, longestBook, bookOf, namesIn}
 use Rattle.book.specs.Stops.{countAt, AtName, AtBlock, AtEnd, NameBad, NameLow, BlockBad, Missing, BadCount, Stops}
 use Rattle.book.proofs.Stops.{book-refused}
 use Rattle.model.specs.declared.Model.{Model}
-use Rattle.model.specs.Record.{IsChain, emptyModel}
+use Rattle.model.specs.Record.{IsChain, emptyModel, dueModel}
 use Rattle.model.specs.Accept.{Accepts, Names}
 use Rattle.language.specs.Word.{AcceptsAll}
 use Rattle.follow.specs.Follow.{followOf}
@@ -75,21 +75,21 @@ pub record BookRefusals (bytes : List ℕ) (Refuses : Refusal → Type 0) : Type
   -- "after the last block: bytes left over"
   pub seven : Refuses BytesLeftOver ↔ ((rest : List ℕ) × AtEnd bytes rest × (0 < length rest))
 
--- Acceptance of a word.
+-- Acceptance of a word: 3, the count N "when given alone"; 10, "no chain over N names"; 11, "above 255 names, or a number not below N"; each where none before it applies.
 pub record AcceptanceRefusals (n : ℕ) (m : Model) (w : List ℕ) (Refuses : Refusal → Type 0) : Type 0 where
   pub three : Refuses BadNameCount ↔ (¬ ((0 < n) × (n ≤ places)))
   pub ten : Refuses NotAChain ↔ ((0 < n) × (n ≤ places) × (¬ IsChain places n m))
   pub eleven : Refuses BadWord ↔ ((0 < n) × (n ≤ places) × IsChain places n m × (¬ ((length w ≤ longest) × Names n w)))
   pub no-other : (f : Refusal) → Refuses f → (BadNameCount ≡ f) ⊎ ((NotAChain ≡ f) ⊎ (BadWord ≡ f))
 
--- The model of a parent.
+-- The model of a parent, where the bytes are a book: 8, "not below N"; 9, "no block has it".
 pub record ModelRefusals (bytes : List ℕ) (parent : ℕ) (Refuses : Refusal → Type 0) : Type 0 where
   pub book : BookRefusals bytes Refuses
   pub eight : Refuses BadParent ↔ ((b : Book) × Read bytes b × (length (b .names) ≤ parent))
   pub nine : Refuses NoBlock ↔ ((b : Book) × Read bytes b × (parent < length (b .names)) × (sampleOf b parent ≡ []))
   pub no-other : (f : Refusal) → Refuses f → (numberOf f ≤ 7) ⊎ ((BadParent ≡ f) ⊎ (NoBlock ≡ f))
 
--- A declaration written for a record, into a buffer of so many bytes.
+-- A declaration written for a record, into a buffer of so many bytes: 8; 10; 12, "shorter than the declaration".
 pub record WriteRefusals (bytes : List ℕ) (parent : ℕ) (m : Model) (room : ℕ) (Refuses : Refusal → Type 0) : Type 0 where
   pub book : BookRefusals bytes Refuses
   pub eight : Refuses BadParent ↔ ((b : Book) × Read bytes b × (length (b .names) ≤ parent))
@@ -98,7 +98,7 @@ pub record WriteRefusals (bytes : List ℕ) (parent : ℕ) (m : Model) (room : �
       ((b : Book) × Read bytes b × (parent < length (b .names)) × IsChain places (length (b .names)) m × (room < length (declaration (b .names) parent m)))
   pub no-other : (f : Refusal) → Refuses f → (numberOf f ≤ 7) ⊎ ((BadParent ≡ f) ⊎ ((NotAChain ≡ f) ⊎ (BufferTooShort ≡ f)))
 
--- A declaration written from the sample.
+-- A declaration written from the sample: 8; 9; 12, shorter than the declaration of the sample's chain.
 pub record SampleRefusals (bytes : List ℕ) (parent room : ℕ) (Refuses : Refusal → Type 0) : Type 0 where
   pub book : BookRefusals bytes Refuses
   pub eight : Refuses BadParent ↔ ((b : Book) × Read bytes b × (length (b .names) ≤ parent))
@@ -108,7 +108,7 @@ pub record SampleRefusals (bytes : List ℕ) (parent room : ℕ) (Refuses : Refu
       (room < length (declaration (b .names) parent (chainOfWords (length (b .names)) (sampleOf b parent)))))
   pub no-other : (f : Refusal) → Refuses f → (numberOf f ≤ 7) ⊎ ((BadParent ≡ f) ⊎ ((NoBlock ≡ f) ⊎ (BufferTooShort ≡ f)))
 
--- A declaration read. A text that has the form of a declaration has it by one parent and factors d.
+-- A declaration read: 13, "not the form above"; 14, "a name not in the book"; 15, "a name twice in the model". d is the parent and the factors by which a text has the form.
 pub record ReadRefusals (bytes text : List ℕ) (Refuses : Refusal → Type 0) : Type 0 where
   pub book : BookRefusals bytes Refuses
   pub thirteen : Refuses NotADeclaration ↔ (IsBook bytes × ((d : Form) → HasForm text d → ⊥))
@@ -192,7 +192,7 @@ pub model-due : (bytes : List ℕ) (parent : ℕ) (r : Inferred) (call : r ≡ i
 unfolding inferred
 model-due bytes parent r call f o =
     let e = outcome-refused (modelAnswer bytes parent) f .0 (sym (ap (λ (x : Inferred). x .outcome) call) ∙ o) in
-    ap (λ (x : Inferred). x .model) call ∙ ap (valueOr (emptyModel places)) e
+    ap (λ (x : Inferred). x .model) call ∙ ap (valueOr dueModel) e
 
 pub write-due : (bytes : List ℕ) (parent : ℕ) (m : Model) (w : Written) (before after : List ℕ) (call : Writes (writeAnswer bytes parent m (length before)) w before after) →
     (f : Refusal) → w .outcome ≡ Refused f → (w .length ≡ 0) × (after ≡ before)

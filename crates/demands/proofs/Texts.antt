@@ -14,10 +14,10 @@ use Rattle.refusal.proofs.Answers.{onward-given}
 use Rattle.nameset.specs.Places.{places}
 use Rattle.book.specs.Book.{Book, bookOf}
 use Rattle.model.specs.declared.Model.{Model}
-use Rattle.model.specs.Record.{IsChain, emptyModel}
+use Rattle.model.specs.Record.{IsChain, dueModel}
 use Rattle.model.proofs.Chain.{chain-law}
 use Rattle.declaration.specs.declared.Written.{Written}
-use Rattle.declaration.specs.Write.{writeAnswer, written, bufferAfter}
+use Rattle.declaration.specs.Write.{writeAnswer, lengthDue, written, bufferAfter}
 use Rattle.putting.proofs.Puts.{wrote-back}
 use Rattle.declaration.proofs.Back.{text-due, buffer-due, buffer-kept}
 use Rattle.reading.specs.declared.Declaration.{Declaration}
@@ -39,7 +39,7 @@ pub writes-due : (a : Answer (List ℕ)) (w : Written) (before after : List ℕ)
 unfolding written
 writes-due a w before after call f o =
     let e : a ≡ refused f = outcome-refused a f .0 (sym (ap (λ (x : Written). x .outcome) (call .0)) ∙ o) in
-    (ap (λ (x : Written). x .length) (call .0) ∙ ap (λ (x : Answer (List ℕ)). length (valueOr [] x)) e, call .1 ∙ ap (bufferAfter before) e ∙ buffer-kept before f)
+    (ap (λ (x : Written). x .length) (call .0) ∙ ap lengthDue e, call .1 ∙ ap (bufferAfter before) e ∙ buffer-kept before f)
 
 -- a call that was not refused
 done-text : (a : Answer (List ℕ)) → outcomeOf a ≡ Done → a ≡ given (valueOr [] a)
@@ -50,12 +50,14 @@ done-writes : (a : Answer (List ℕ)) (w : Written) (before after : List ℕ) �
 unfolding written
 done-writes a w before after call done = done-text a (sym (ap (λ (x : Written). x .outcome) (call .0)) ∙ done)
 
-writes-past : (a : Answer (List ℕ)) (w : Written) (before after t : List ℕ) → Writes a w before after → a ≡ given t → length t ≤ length before → drop (w .length) after ≡ drop (w .length) before
+writes-length : (a : Answer (List ℕ)) (w : Written) (before after t : List ℕ) → Writes a w before after → a ≡ given t → w .length ≡ length t
 unfolding written
+writes-length a w before after t call e = ap (λ (x : Written). x .length) (call .0) ∙ ap lengthDue e
+
+writes-past : (a : Answer (List ℕ)) (w : Written) (before after t : List ℕ) → Writes a w before after → a ≡ given t → length t ≤ length before → drop (w .length) after ≡ drop (w .length) before
 writes-past a w before after t call e fits =
-    let l : w .length ≡ length t = ap (λ (x : Written). x .length) (call .0) ∙ ap (λ (x : Answer (List ℕ)). length (valueOr [] x)) e in
     let b : after ≡ t ++ drop (length t) before = call .1 ∙ ap (bufferAfter before) e ∙ buffer-due before t fits in
-    rw (l, b) (drop-append-seam t (drop (length t) before))
+    rw (writes-length a w before after t call e, b) (drop-append-seam t (drop (length t) before))
 
 -- ---- a declaration written for a record
 
@@ -71,12 +73,12 @@ written-past bytes parent m w before after call done =
 
 pub written-reads-back : (bytes : List ℕ) (parent : ℕ) (m : Model) (w : Written) (before after : List ℕ) (call : Writes (writeAnswer bytes parent m (length before)) w before after) →
     w .outcome ≡ Done → (r : Declaration) → ReadsDeclaration bytes (take (w .length) after) r → Reads r parent m
-unfolding written bufferAfter
+unfolding bufferAfter
 written-reads-back bytes parent m w before after call done r reads =
     let a = writeAnswer bytes parent m (length before) in
     let e : a ≡ given (valueOr [] a) = done-writes a w before after call done in
     let text : take (w .length) after ≡ valueOr [] a =
-    ap (λ (x : Written). take (x .length) after) (call .0) ∙ ap (take (length (valueOr [] a))) (call .1) ∙ wrote-back before (valueOr [] a) (fits bytes parent m (length before) e) in
+    ap (λ (n : ℕ). take n after) (writes-length a w before after (valueOr [] a) call e) ∙ ap (take (length (valueOr [] a))) (call .1) ∙ wrote-back before (valueOr [] a) (fits bytes parent m (length before) e) in
     read-written bytes parent m (length before) (valueOr [] a) e r (subst (λ (t : List ℕ). ReadsDeclaration bytes t r) text reads)
 
 -- ---- a declaration written from the sample
@@ -118,5 +120,5 @@ pub sample-reads-back : (bytes : List ℕ) (parent : ℕ) (w : Written) (before 
 unfolding inferred
 sample-reads-back bytes parent w before after call done x asked r reads =
     let k = as-written bytes parent w before after call done in
-    let same : x .model ≡ k .0 = ap (λ (y : Inferred). y .model) asked ∙ ap (valueOr (emptyModel places)) (k .1) in
+    let same : x .model ≡ k .0 = ap (λ (y : Inferred). y .model) asked ∙ ap (valueOr dueModel) (k .1) in
     subst (Reads r parent) (sym same) (written-reads-back bytes parent (k .0) w before after (k .2) done r reads)

@@ -5,13 +5,13 @@ use mathlib.Core.Path.{_≡_, refl}
 use mathlib.Core.Bool.{Bool, true, false, not}
 use mathlib.Core.List.{List}
 use Rattle.refusal.specs.declared.Refusal.the-variants.{BadNameCount, NotAChain, BadWord}
-use Rattle.refusal.specs.Answer.{Answer, given, refused, outcomeOf, outcomeNumber, valueOr}
+use Rattle.refusal.specs.Answer.{Answer, given, refused, outcomeOf, outcomeNumber}
 use Rattle.nameset.specs.Places.{places, goodCount}
 use Rattle.model.specs.declared.Model.{Model}
 use Rattle.model.specs.Check.{isChain}
 use Rattle.model.specs.Run.{accepts}
 use Rattle.intake.specs.declared.Acceptance.the-variants.{Refused}
-use Rattle.intake.specs.Acceptance.{badModel, badWord, answerOf, acceptance, acceptanceNumber, acceptanceYes, AcceptsWord}
+use Rattle.intake.specs.Acceptance.{badModel, badWord, answerOf, acceptance, acceptanceNumber, acceptanceYes, yesDue, AcceptsWord}
 
 -- ---- each way through the checks
 
@@ -21,7 +21,7 @@ number-law (given true) = refl
 number-law (given false) = refl
 number-law (refused r) = refl
 
-yes-law : (a : Answer Bool) → acceptanceYes (acceptance a) ≡ valueOr false a
+yes-law : (a : Answer Bool) → acceptanceYes (acceptance a) ≡ yesDue a
 unfolding acceptance acceptanceYes
 yes-law (given true) = refl
 yes-law (given false) = refl

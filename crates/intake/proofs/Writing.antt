@@ -19,7 +19,7 @@ use Rattle.book.specs.Layout.{readingOf, layoutOf}
 use Rattle.book.specs.Access.{LaidOut}
 use Rattle.book.proofs.Laws.{names-in}
 use Rattle.model.specs.declared.Model.{Model}
-use Rattle.model.specs.Record.{none, IsChain, emptyModel}
+use Rattle.model.specs.Record.{none, IsChain, dueModel}
 use Rattle.spelling.specs.House.{declaration}
 use Rattle.declaration.specs.declared.Written.{Written}
 use Rattle.declaration.specs.Write.{fitted, written, bufferAfter, noText}
@@ -83,7 +83,7 @@ module _ (s : List ℕ) (p : ℕ) (x : Found) (call : x ≡ found (readingOf (bo
     unfolding found
     told =
         let q : outcomeOf (modelAnswer s p) ≡ Done = sym (ap (λ (y : Found). y .outcome) call) ∙ done in
-        model-given s p (x .model) (answer-done (modelAnswer s p) (emptyModel places) q ∙ ap given (sym (ap (λ (y : Found). y .model) call)))
+        model-given s p (x .model) (answer-done (modelAnswer s p) dueModel q ∙ ap given (sym (ap (λ (y : Found). y .model) call)))
 
     layout-is : x .layout ≡ layoutOf (told .book)
     unfolding found readingOf

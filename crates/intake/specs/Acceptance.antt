@@ -8,7 +8,7 @@ use lib.Dec.{ltb}
 use lib.ListN.{length}
 use Rattle.refusal.specs.declared.Refusal.the-variants.{BadNameCount, NotAChain, BadWord}
 use Rattle.refusal.specs.Table.{stoppedBy}
-use Rattle.refusal.specs.Answer.{Answer, given, refused, refuseIf, valueOr, outcomeOf, outcomeNumber}
+use Rattle.refusal.specs.Answer.{Answer, given, refused, refuseIf, outcomeOf, outcomeNumber}
 use Rattle.nameset.specs.Places.{places, goodCount}
 use Rattle.book.specs.Book.{allBelow}
 use Rattle.model.specs.declared.Model.{Model}
@@ -52,8 +52,13 @@ acceptanceYes Yes = true
 acceptanceYes No = false
 acceptanceYes (Refused r) = stoppedBy r .yes
 
+-- The same of the definition's answer: "a yes or no due is no".
+abbrev pub yesDue : Answer Bool → Bool
+yesDue (given b) = b
+yesDue (refused r) = stoppedBy r .yes
+
 -- What the call promises of its answer r.
 pub record AcceptsWord (n : ℕ) (m : Model) (w : List ℕ) (r : Acceptance) : Type 0 where
   pub same : r ≡ acceptance (answerOf n m w)
   pub number : acceptanceNumber r ≡ outcomeNumber (outcomeOf (answerOf n m w))
-  pub yes : acceptanceYes r ≡ valueOr false (answerOf n m w)
+  pub yes : acceptanceYes r ≡ yesDue (answerOf n m w)

@@ -8,11 +8,10 @@ use lib.ListN.{length}
 use Rattle.refusal.specs.declared.Refusal.{Refusal}
 use Rattle.refusal.specs.declared.Refusal.the-variants.{BadParent, NoBlock}
 use Rattle.refusal.specs.Answer.{Answer, given, refused, onward, refuseIf, valueOr, outcomeOf}
-use Rattle.nameset.specs.Places.{places}
 use Rattle.book.specs.declared.Reading.{Reading}
 use Rattle.book.specs.Book.{Book, bookOf}
 use Rattle.model.specs.declared.Model.{Model}
-use Rattle.model.specs.Record.{emptyModel}
+use Rattle.model.specs.Record.{dueModel}
 use Rattle.follow.specs.Sample.{wordsOf}
 use Rattle.sample.specs.Sample.{chainOfWords}
 use Rattle.intake.specs.declared.Inferred.{Inferred}
@@ -43,13 +42,13 @@ modelIn b parent = refuseIf (badParent b parent) BadParent (refuseIf (noWord (sa
 unfoldable pub modelAnswer : List ℕ → ℕ → Answer Model
 modelAnswer bytes parent = onward (bookOf bytes) (λ b. modelIn b parent)
 
--- The answer as the code has it: a refused call answers the empty model.
+-- The answer as the code has it: a refused call answers the model due.
 unfoldable pub inferred : Answer Model → Inferred
-inferred a = record { outcome = outcomeOf a; model = valueOr (emptyModel places) a }
+inferred a = record { outcome = outcomeOf a; model = valueOr dueModel a }
 
 -- The same, with the layout of the book for whoever goes back to its names.
 unfoldable pub found : Reading → Answer Model → Found
-found r a = record { outcome = outcomeOf a; layout = r .layout; model = valueOr (emptyModel places) a }
+found r a = record { outcome = outcomeOf a; layout = r .layout; model = valueOr dueModel a }
 
 -- No model, for this refusal.
 unfoldable pub noModel : Refusal → Answer Model

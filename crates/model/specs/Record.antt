@@ -4,6 +4,7 @@ use Prim.Native.Nat.{ℕ, _≤_, _<_}
 use mathlib.Core.Path.{_≡_}
 use mathlib.Core.Logic.{_⊎_}
 use lib.ListN.{length, getD, replicate}
+use Rattle.nameset.specs.Places.{places}
 use Rattle.model.specs.declared.Model.{Model}
 
 -- The entry of a name that no factor holds.
@@ -36,6 +37,10 @@ pub record IsChain (size n : ℕ) (m : Model) : Type 0 where
   -- "the rest are 0."
   pub rest : (i : ℕ) → m .count ≤ i → modeOf m i ≡ 0
 
--- The model of a parent whose words are all empty, and the one due of a refused call: "F = 0, all 255, all modes 0".
+-- The model of a parent whose words are all empty: "F = 0, all 255, all modes 0".
 unfoldable pub emptyModel : ℕ → Model
 emptyModel size = record { count = 0; factor = replicate size none; mode = replicate size 0 }
+
+-- What a refused call answers for a model: "a model due is the empty model".
+abbrev pub dueModel : Model
+dueModel = emptyModel places

@@ -11,7 +11,7 @@ use Rattle.refusal.specs.Answer.{Answer, given, refused, onward, outcomeOf}
 use Rattle.nameset.specs.Places.{places}
 use Rattle.book.specs.Book.{bookOf}
 use Rattle.model.specs.declared.Model.{Model}
-use Rattle.model.specs.Record.{emptyModel}
+use Rattle.model.specs.Record.{dueModel}
 use Rattle.spelling.specs.Read.{Declared, readText}
 use Rattle.reading.specs.declared.Declaration.{Declaration}
 
@@ -27,7 +27,7 @@ parentDue (refused r) = stoppedBy r .parent
 -- The record, "a model due is the empty model".
 unfoldable pub modelDue : Answer Declared → Model
 modelDue (given d) = d .model
-modelDue (refused r) = emptyModel places
+modelDue (refused r) = dueModel
 
 -- The answer as the code has it.
 unfoldable pub declarationOf : Answer Declared → Declaration

@@ -24,7 +24,7 @@ numberOf UnknownName = 14
 numberOf NameTwice = 15
 
 -- What a refused call answers: its number, and "a yes or no due is no, a length or parent number due is 0".
--- The model due, the empty model, is defined with the model record.
+-- The model due, the empty model, is `dueModel` in crates/model/specs/Record.antt, with the record.
 pub record Stopped : Type 0 where
   pub number : ℕ
   pub yes : Bool
