@@ -9,10 +9,21 @@ fn print(text: &[u8]) {
     }
 }
 
+// A read that fails is not the end of the book: says so where one fails again.
+fn tell_failed_read() {
+    let mut one = [0u8; 1];
+    if libc::read(IN, &mut one) < 0 {
+        io::write_all(ERR, b"dtd: the input could not be read\n");
+    }
+}
+
 fn main() {
     // one byte more than a book may have: a longer input is refused whatever follows
     let mut book = [0u8; 60001];
     let size = io::read_full(IN, &mut book);
+    if size < 60001 {
+        tell_failed_read();
+    }
     let mut text = [0u8; 144256];
     let length = output::put_output(&mut text, &book[..size]);
     print(&text[..length]);

@@ -12,6 +12,9 @@ slice-aggregate-read-full c = search needs
 read-full-requires : tie.Need-read-full-requires
 read-full-requires c κs = search needs
 
+tell-failed-read-requires : tie.Need-tell-failed-read-requires
+tell-failed-read-requires c κs = search needs
+
 slice-aggregate-put-output : tie.Need-slice-aggregate-put-output
 slice-aggregate-put-output c = search needs
 
@@ -42,6 +45,7 @@ main-spec =
     (tie.spec
     slice-aggregate-read-full
     read-full-requires
+    tell-failed-read-requires
     slice-aggregate-put-output
     array-share-prefix-book
     slice-aggregate-put-output-2
