@@ -11,7 +11,7 @@ use lib.ListN.{length}
 use borrow.Author.Tests.{lt-ltb, le-ltb, ltb-true, ltb-false, not-true, not-false}
 use Rattle.refusal.specs.declared.Refusal.{Refusal}
 use Rattle.refusal.specs.declared.Refusal.the-variants.{BookTooLong, BytesMissing, BadNameCount, BadName, NameNotAbove, NumberNotBelow, BytesLeftOver, BadParent, NoBlock, NotAChain, BadWord, BufferTooShort, NotADeclaration, UnknownName, NameTwice}
-use Rattle.refusal.specs.Table.{numberOf}
+use Rattle.refusal.specs.Table.{ofBook}
 use Rattle.refusal.specs.Answer.{Answer, given, refused, onward, refuseIf}
 use Rattle.refusal.proofs.Answers.{given-refused, onward-refused, check-refused}
 use Rattle.nameset.specs.Places.{places, goodCount}
@@ -211,23 +211,23 @@ module _ (s : List ℕ) where
 pub book-refused : (s : List ℕ) (r : Refusal) → (bookOf s ≡ refused r) ↔ Stops s r
 book-refused s r = (refused-stops s r, stops-refused s r)
 
--- So they are refused by 1 to 7 and by no other number.
-pub book-stops : (s : List ℕ) (r : Refusal) → bookOf s ≡ refused r → numberOf r ≤ 7
-book-stops s r e = small r (refused-stops s r e)
+-- So they are refused by the numbers of a book and by no other.
+pub book-stops : (s : List ℕ) (r : Refusal) → bookOf s ≡ refused r → ofBook r ≡ true
+book-stops s r e = own r (refused-stops s r e)
   where
-    small : (r : Refusal) → Stops s r → numberOf r ≤ 7
-    small BookTooLong h = omega arith
-    small BytesMissing h = omega arith
-    small BadNameCount h = omega arith
-    small BadName h = omega arith
-    small NameNotAbove h = omega arith
-    small NumberNotBelow h = omega arith
-    small BytesLeftOver h = omega arith
-    small BadParent h = absurd h
-    small NoBlock h = absurd h
-    small NotAChain h = absurd h
-    small BadWord h = absurd h
-    small BufferTooShort h = absurd h
-    small NotADeclaration h = absurd h
-    small UnknownName h = absurd h
-    small NameTwice h = absurd h
+    own : (r : Refusal) → Stops s r → ofBook r ≡ true
+    own BookTooLong h = refl
+    own BytesMissing h = refl
+    own BadNameCount h = refl
+    own BadName h = refl
+    own NameNotAbove h = refl
+    own NumberNotBelow h = refl
+    own BytesLeftOver h = refl
+    own BadParent h = absurd h
+    own NoBlock h = absurd h
+    own NotAChain h = absurd h
+    own BadWord h = absurd h
+    own BufferTooShort h = absurd h
+    own NotADeclaration h = absurd h
+    own UnknownName h = absurd h
+    own NameTwice h = absurd h

@@ -1,12 +1,16 @@
 -- Each reply is that of the call's definition.
 -- Assumes nothing.
-use Prim.Native.Nat.{ℕ}
-use mathlib.Core.Path.{_≡_, _∙_, ap}
+use Prim.Native.Nat.{ℕ, _<_}
+use mathlib.Core.Path.{_≡_, refl, sym, _∙_, ap}
 use mathlib.Core.Bool.{true, false}
 use mathlib.Core.List.{List}
+use mathlib.Core.Logic.{_↔_}
+use native.Mathlib.Omega.{arith}
 use Rattle.refusal.specs.declared.Refusal.{Refusal}
 use Rattle.refusal.specs.Table.{numberOf}
-use Rattle.refusal.specs.Answer.{Answer, outcomeNumber}
+use Rattle.refusal.specs.Answer.{Answer, given, refused, outcomeNumber}
+use Rattle.refusal.proofs.Answers.{given-refused, refused-same}
+use Rattle.refusal.proofs.Laws.{number-injective, number-positive}
 use Rattle.model.specs.declared.Model.{Model}
 use Rattle.declaration.specs.declared.Written.{Written}
 use Rattle.declaration.specs.Write.{written}
@@ -61,3 +65,17 @@ unfolding textReply declarationOf refusalIn
 text-replied s text x n h k =
     ap (λ (y : ℕ). record { refusal = y; parent = x .parent; model = x .model }) k
     ∙ ap (λ (y : Declaration). record { refusal = outcomeNumber (y .outcome); parent = y .parent; model = y .model }) (h .same)
+
+-- ---- what the number of a reply tells
+
+-- A number of the table is given exactly where the call was refused for it,
+pub reply-refused : {A : Type 0} (a : Answer A) (f : Refusal) → (refusalIn a ≡ numberOf f) ↔ (a ≡ refused f)
+unfolding refusalIn
+reply-refused (given x) f = (λ e. absurd (let p : 0 < numberOf f = number-positive f in omega arith), λ e. absurd (given-refused x f e))
+reply-refused {A} (refused g) f = (λ e. ap refused (number-injective g f e), λ e. ap numberOf (refused-same {A = A} g f e))
+
+-- and 0 exactly where it was not refused.
+pub reply-given : {A : Type 0} (a : Answer A) → (refusalIn a ≡ 0) ↔ ((x : A) × (a ≡ given x))
+unfolding refusalIn
+reply-given (given x) = (λ e. (x, refl), λ e. refl)
+reply-given (refused g) = (λ e. absurd (let p : 0 < numberOf g = number-positive g in omega arith), λ (x, e). absurd (given-refused x g (sym e)))

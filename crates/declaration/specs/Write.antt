@@ -1,6 +1,7 @@
 -- What the call that writes a declaration answers: 1 to 7, 8, 10, 12, in this order, else the declaration.
 -- Assumes nothing.
 use Prim.Native.Nat.{ℕ}
+use mathlib.Core.Path.{_≡_}
 use mathlib.Core.Bool.{not}
 use mathlib.Core.List.{List, []}
 use lib.Dec.{ltb}
@@ -45,3 +46,7 @@ written a = record { outcome = outcomeOf a; length = lengthDue a }
 -- The buffer then: the text stands at its start and all other bytes keep their values; a refused call leaves every byte.
 unfoldable pub bufferAfter : List ℕ → Answer (List ℕ) → List ℕ
 bufferAfter buffer a = wrote buffer 0 (valueOr [] a)
+
+-- What a call that writes promises, for the text or refusal a that is due: its answer w, and what the buffer, which held `before`, then holds.
+abbrev pub Writes : Answer (List ℕ) → Written → List ℕ → List ℕ → Type 0
+Writes a w before after = (w ≡ written a) × (after ≡ bufferAfter before a)

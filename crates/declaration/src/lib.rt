@@ -13,7 +13,7 @@ ghost use Rattle.book.specs.Book.{namesIn};
 ghost use Rattle.book.specs.Access.{LaidOut};
 ghost use Rattle.model.specs.Record.{IsChain};
 ghost use Rattle.spelling.specs.House.{declaration};
-ghost use Rattle.declaration.specs.Write.{fitted, written, bufferAfter, writeAnswer, noText};
+ghost use Rattle.declaration.specs.Write.{fitted, written, writeAnswer, noText, Writes};
 
 // The most bytes that a declaration has.
 const LONGEST: usize = 2253;
@@ -43,8 +43,7 @@ pub fn write_chain(
     buffer: &mut [u8],
 ) -> Written
     requires { ⌜ LaidOut (now bytes) layout × (parent < layout .names) × IsChain places (layout .names) m ⌝ }
-    ensures { λ r. ⌜ (r ≡ written (fitted (length (now (buffer .entry))) (declaration (namesIn (now (bytes .entry))) parent m)))
-        × (now (buffer .exit) ≡ bufferAfter (now (buffer .entry)) (fitted (length (now (buffer .entry))) (declaration (namesIn (now (bytes .entry))) parent m))) ⌝ }
+    ensures { λ r. ⌜ Writes (fitted (length (now (buffer .entry))) (declaration (namesIn (now (bytes .entry))) parent m)) r (now (buffer .entry)) (now (buffer .exit)) ⌝ }
 {
     let mut text = [0u8; LONGEST];
     let size = put_declaration(&mut text, 0, bytes, layout, parent, m);
@@ -60,8 +59,7 @@ pub fn write_chain(
 
 // The call: any bytes as the book, any parent, any record, any buffer.
 pub fn write_declaration(bytes: &[u8], parent: usize, m: Model, buffer: &mut [u8]) -> Written
-    ensures { λ r. ⌜ (r ≡ written (writeAnswer (now (bytes .entry)) parent m (length (now (buffer .entry)))))
-        × (now (buffer .exit) ≡ bufferAfter (now (buffer .entry)) (writeAnswer (now (bytes .entry)) parent m (length (now (buffer .entry))))) ⌝ }
+    ensures { λ r. ⌜ Writes (writeAnswer (now (bytes .entry)) parent m (length (now (buffer .entry)))) r (now (buffer .entry)) (now (buffer .exit)) ⌝ }
 {
     let reading = book_reading::read_book(bytes);
     let outcome = reading.outcome;

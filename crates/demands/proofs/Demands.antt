@@ -4,16 +4,15 @@
 -- `Writes a w before after`, for the text or refusal a that is due: the call answered `written a`, and the buffer, which held `before`, then holds `bufferAfter before a`.
 -- Assumes nothing.
 use Prim.Native.Nat.{ℕ, _+_, _≤_, _<_}
-use mathlib.Core.Path.{_≡_, sym, _∙_, ap}
+use mathlib.Core.Path.{_≡_, refl, sym, _∙_, ap}
 use mathlib.Core.Bool.{true, false}
 use mathlib.Core.List.{List, []}
 use mathlib.Core.Logic.{_↔_, _⊎_}
-use native.Mathlib.Omega.{arith}
 use lib.ListN.{length, take, drop}
 use Rattle.refusal.specs.declared.Refusal.{Refusal}
 use Rattle.refusal.specs.declared.Refusal.the-variants.{BookTooLong, BytesMissing, BadNameCount, BadName, NameNotAbove, NumberNotBelow, BytesLeftOver, BadParent, NoBlock, NotAChain, BadWord, BufferTooShort, NotADeclaration, UnknownName, NameTwice}
 use Rattle.refusal.specs.declared.Outcome.the-variants.{Done, Refused}
-use Rattle.refusal.specs.Table.{numberOf}
+use Rattle.refusal.specs.Table.{numberOf, ofBook}
 use Rattle.refusal.specs.Answer.{given, refused, valueOr}
 use Rattle.nameset.specs.Places.{places}
 use Rattle.book.specs.Book.{Book, longestBook, bookOf, namesIn}
@@ -34,7 +33,7 @@ use Rattle.spelling.specs.Form.{Form, allForm}
 use Rattle.spelling.specs.Stops.{HasForm}
 use Rattle.spelling.specs.Read.{known, numbered, total}
 use Rattle.declaration.specs.declared.Written.{Written}
-use Rattle.declaration.specs.Write.{writeAnswer, written}
+use Rattle.declaration.specs.Write.{writeAnswer, Writes, written}
 use Rattle.reading.specs.declared.Declaration.{Declaration}
 use Rattle.reading.specs.Read.{ReadsDeclaration}
 use Rattle.reading.proofs.Theorem as Reading
@@ -51,7 +50,6 @@ use Rattle.demands.proofs.Checks.{outcome-refused}
 use Rattle.demands.proofs.Refusals as Law
 use Rattle.demands.proofs.Refusals.{Read}
 use Rattle.demands.proofs.Texts as Text
-use Rattle.demands.proofs.Texts.{Writes}
 
 -- ---- demand 1, the refusals
 
@@ -87,7 +85,7 @@ pub record ModelRefusals (bytes : List ℕ) (parent : ℕ) (Refuses : Refusal �
   pub book : BookRefusals bytes Refuses
   pub eight : Refuses BadParent ↔ ((b : Book) × Read bytes b × (length (b .names) ≤ parent))
   pub nine : Refuses NoBlock ↔ ((b : Book) × Read bytes b × (parent < length (b .names)) × (sampleOf b parent ≡ []))
-  pub no-other : (f : Refusal) → Refuses f → (numberOf f ≤ 7) ⊎ ((BadParent ≡ f) ⊎ (NoBlock ≡ f))
+  pub no-other : (f : Refusal) → Refuses f → (ofBook f ≡ true) ⊎ ((BadParent ≡ f) ⊎ (NoBlock ≡ f))
 
 -- A declaration written for a record, into a buffer of so many bytes: 8; 10; 12, "shorter than the declaration".
 pub record WriteRefusals (bytes : List ℕ) (parent : ℕ) (m : Model) (room : ℕ) (Refuses : Refusal → Type 0) : Type 0 where
@@ -96,7 +94,7 @@ pub record WriteRefusals (bytes : List ℕ) (parent : ℕ) (m : Model) (room : �
   pub ten : Refuses NotAChain ↔ ((b : Book) × Read bytes b × (parent < length (b .names)) × (¬ IsChain places (length (b .names)) m))
   pub twelve : Refuses BufferTooShort ↔
       ((b : Book) × Read bytes b × (parent < length (b .names)) × IsChain places (length (b .names)) m × (room < length (declaration (b .names) parent m)))
-  pub no-other : (f : Refusal) → Refuses f → (numberOf f ≤ 7) ⊎ ((BadParent ≡ f) ⊎ ((NotAChain ≡ f) ⊎ (BufferTooShort ≡ f)))
+  pub no-other : (f : Refusal) → Refuses f → (ofBook f ≡ true) ⊎ ((BadParent ≡ f) ⊎ ((NotAChain ≡ f) ⊎ (BufferTooShort ≡ f)))
 
 -- A declaration written from the sample: 8; 9; 12, shorter than the declaration of the sample's chain.
 pub record SampleRefusals (bytes : List ℕ) (parent room : ℕ) (Refuses : Refusal → Type 0) : Type 0 where
@@ -106,7 +104,7 @@ pub record SampleRefusals (bytes : List ℕ) (parent room : ℕ) (Refuses : Refu
   pub twelve : Refuses BufferTooShort ↔
       ((b : Book) × Read bytes b × (parent < length (b .names)) × (¬ (sampleOf b parent ≡ [])) ×
       (room < length (declaration (b .names) parent (chainOfWords (length (b .names)) (sampleOf b parent)))))
-  pub no-other : (f : Refusal) → Refuses f → (numberOf f ≤ 7) ⊎ ((BadParent ≡ f) ⊎ ((NoBlock ≡ f) ⊎ (BufferTooShort ≡ f)))
+  pub no-other : (f : Refusal) → Refuses f → (ofBook f ≡ true) ⊎ ((BadParent ≡ f) ⊎ ((NoBlock ≡ f) ⊎ (BufferTooShort ≡ f)))
 
 -- A declaration read: 13, "not the form above"; 14, "a name not in the book"; 15, "a name twice in the model". d is the parent and the factors by which a text has the form.
 pub record ReadRefusals (bytes text : List ℕ) (Refuses : Refusal → Type 0) : Type 0 where
@@ -115,26 +113,26 @@ pub record ReadRefusals (bytes text : List ℕ) (Refuses : Refusal → Type 0) :
   pub fourteen : Refuses UnknownName ↔ (IsBook bytes × ((d : Form) × HasForm text d × (allForm (known (namesIn bytes)) d ≡ false)))
   pub fifteen : Refuses NameTwice ↔ (IsBook bytes × ((d : Form) × HasForm text d × (allForm (known (namesIn bytes)) d ≡ true) ×
       ((x : ℕ) × (x < length (namesIn bytes)) × (1 < total x (numbered (namesIn bytes) (d .factors))))))
-  pub no-other : (f : Refusal) → Refuses f → (numberOf f ≤ 7) ⊎ ((NotADeclaration ≡ f) ⊎ ((UnknownName ≡ f) ⊎ (NameTwice ≡ f)))
+  pub no-other : (f : Refusal) → Refuses f → (ofBook f ≡ true) ⊎ ((NotADeclaration ≡ f) ⊎ ((UnknownName ≡ f) ⊎ (NameTwice ≡ f)))
 
 -- The five calls keep to them.
 
 pub acceptance-refusals : (n : ℕ) (m : Model) (w : List ℕ) (r : Acceptance) (call : AcceptsWord n m w r) → AcceptanceRefusals n m w (λ f. r ≡ Stopped f)
 acceptance-refusals n m w r call = record { three = Law.word-3 n m w r call; ten = Law.word-10 n m w r call; eleven = Law.word-11 n m w r call; no-other = Law.word-only n m w r call }
 
-book-rows : (bytes : List ℕ) (Refuses : Refusal → Type 0) → ((f : Refusal) → numberOf f ≤ 7 → Refuses f ↔ (bookOf bytes ≡ refused f)) → BookRefusals bytes Refuses
+book-rows : (bytes : List ℕ) (Refuses : Refusal → Type 0) → ((f : Refusal) → ofBook f ≡ true → Refuses f ↔ (bookOf bytes ≡ refused f)) → BookRefusals bytes Refuses
 book-rows bytes Refuses law =
     record {
-      one = row BookTooLong (omega arith);
-      two = row BytesMissing (omega arith);
-      three = row BadNameCount (omega arith);
-      four = row BadName (omega arith);
-      five = row NameNotAbove (omega arith);
-      six = row NumberNotBelow (omega arith);
-      seven = row BytesLeftOver (omega arith);
+      one = row BookTooLong refl;
+      two = row BytesMissing refl;
+      three = row BadNameCount refl;
+      four = row BadName refl;
+      five = row NameNotAbove refl;
+      six = row NumberNotBelow refl;
+      seven = row BytesLeftOver refl;
     }
   where
-    row : (f : Refusal) → numberOf f ≤ 7 → Refuses f ↔ Stops bytes f
+    row : (f : Refusal) → ofBook f ≡ true → Refuses f ↔ Stops bytes f
     row f l = (λ h. book-refused bytes f .0 (law f l .0 h), λ h. law f l .1 (book-refused bytes f .1 h))
 
 pub model-refusals : (bytes : List ℕ) (parent : ℕ) (r : Inferred) (call : r ≡ inferred (modelAnswer bytes parent)) → ModelRefusals bytes parent (λ f. r .outcome ≡ Refused f)

@@ -13,7 +13,7 @@ use borrow.Author.Tests.{lt-ltb, le-ltb, ltb-true, ltb-false, not-true, not-fals
 use Rattle.refusal.specs.declared.Refusal.{Refusal}
 use Rattle.refusal.specs.declared.Refusal.the-variants.{BadNameCount, BadParent, NoBlock, NotAChain, BadWord, BufferTooShort}
 use Rattle.refusal.specs.declared.Outcome.the-variants.{Refused}
-use Rattle.refusal.specs.Table.{numberOf}
+use Rattle.refusal.specs.Table.{ofBook}
 use Rattle.refusal.specs.Answer.{Answer, given, refused, onward, refuseIf, outcomeOf}
 use Rattle.nameset.specs.Places.{places, goodCount}
 use Rattle.nameset.proofs.Count.{count-bounds, bounds-count}
@@ -35,7 +35,7 @@ use Rattle.intake.specs.Inference.{sampleOf, noWord, badParent, chainIn, modelI
 use Rattle.intake.specs.Writing.{sampleText}
 use Rattle.intake.proofs.Theorem.{good-word, word-good}
 use Rattle.intake.proofs.Samples.{no-word, some-word}
-use Rattle.demands.proofs.Checks.{outcome-refused, late, early, own, own-or-next, book-or-next, fails, first-stops, second-stops, third-stops, above-first}
+use Rattle.demands.proofs.Checks.{outcome-refused, late, early, own, own-or-next, book-or-next, fails, first-stops, second-stops, third-stops, one-of}
 
 -- ---- what the tests mean
 
@@ -69,14 +69,13 @@ module _ (bytes : List ℕ) (parent : ℕ) (r : Inferred) (call : r ≡ inferred
       (λ e. h .0 (sym o ∙ e), λ e. o ∙ h .1 e)
 
   -- 1 to 7: the bytes are no book, for this reason.
-  pub model-1-7 : (f : Refusal) → numberOf f ≤ 7 → (r .outcome ≡ Refused f) ↔ (bookOf bytes ≡ refused f)
+  pub model-1-7 : (f : Refusal) → ofBook f ≡ true → (r .outcome ≡ Refused f) ↔ (bookOf bytes ≡ refused f)
   unfolding modelAnswer modelIn
   model-1-7 f l = (λ e. h .0 (stops f .0 e), λ q. stops f .1 (h .1 q))
     where
-      above : (b : Book) → modelIn b parent ≡ refused f → 7 < numberOf f
+      above : (b : Book) → modelIn b parent ≡ refused f → ofBook f ≡ false
       above b e =
-          let k = above-first BadParent NoBlock NotAChain (omega arith) (omega arith) (chainIn b parent) (badParent b parent) (noWord (sampleOf b parent)) false f e in
-          omega arith
+          one-of BadParent NoBlock NotAChain (omega arith) (omega arith) (chainIn b parent) (λ r. ofBook r ≡ false) refl refl refl (badParent b parent) (noWord (sampleOf b parent)) false f e
 
       h : (modelAnswer bytes parent ≡ refused f) ↔ (bookOf bytes ≡ refused f)
       h = early bytes (λ b. modelIn b parent) f l above
@@ -88,7 +87,7 @@ module _ (bytes : List ℕ) (parent : ℕ) (r : Inferred) (call : r ≡ inferred
     where
       to : modelAnswer bytes parent ≡ refused BadParent → (b : Book) × Read bytes b × (length (b .names) ≤ parent)
       to e =
-          let k = late bytes (λ b. modelIn b parent) BadParent (omega arith) e in
+          let k = late bytes (λ b. modelIn b parent) BadParent refl e in
           (k .0, k .1, above-law parent (length (k .0 .names)) .0
           (first-stops BadParent NoBlock NotAChain (omega arith) (omega arith) (chainIn (k .0) parent) (not (ltb parent (length (k .0 .names)))) (noWord (sampleOf (k .0) parent)) false .0 (k .2)))
 
@@ -102,7 +101,7 @@ module _ (bytes : List ℕ) (parent : ℕ) (r : Inferred) (call : r ≡ inferred
     where
       to : modelAnswer bytes parent ≡ refused NoBlock → (b : Book) × Read bytes b × (parent < length (b .names)) × (sampleOf b parent ≡ [])
       to e =
-          let k = late bytes (λ b. modelIn b parent) NoBlock (omega arith) e in
+          let k = late bytes (λ b. modelIn b parent) NoBlock refl e in
           let h = second-stops BadParent NoBlock NotAChain (omega arith) (omega arith) (chainIn (k .0) parent) (not (ltb parent (length (k .0 .names)))) (noWord (sampleOf (k .0) parent)) false .0 (k .2) in
           (k .0, k .1, not-above parent (length (k .0 .names)) .0 (h .0), no-word (sampleOf (k .0) parent) .0 (h .1))
 
@@ -110,7 +109,7 @@ module _ (bytes : List ℕ) (parent : ℕ) (r : Inferred) (call : r ≡ inferred
       from (b, q, h, z) = rw (q, lt-ltb parent (length (b .names)) h, no-word (sampleOf b parent) .1 z)
 
   -- no number but 1 to 7, 8 and 9
-  pub model-only : (f : Refusal) → r .outcome ≡ Refused f → (numberOf f ≤ 7) ⊎ ((BadParent ≡ f) ⊎ (NoBlock ≡ f))
+  pub model-only : (f : Refusal) → r .outcome ≡ Refused f → (ofBook f ≡ true) ⊎ ((BadParent ≡ f) ⊎ (NoBlock ≡ f))
   unfolding modelAnswer modelIn
   model-only f e =
       ⊎-map (λ l. l) (λ k. ⊎-map (λ q. q) (own (noWord (sampleOf (k .0) parent)) NoBlock (chainIn (k .0) parent) f) (own-or-next (badParent (k .0) parent) BadParent _ f (k .1)))
@@ -135,14 +134,13 @@ module _ (bytes : List ℕ) (parent : ℕ) (m : Model) (room : ℕ) (r : Written
   next b = refuseIf (not (ltb parent (length (b .names)))) BadParent (refuseIf (not (isChain places (length (b .names)) m)) NotAChain (fitted room (declaration (b .names) parent m)))
 
   -- 1 to 7: the bytes are no book, for this reason.
-  pub write-1-7 : (f : Refusal) → numberOf f ≤ 7 → (r .outcome ≡ Refused f) ↔ (bookOf bytes ≡ refused f)
+  pub write-1-7 : (f : Refusal) → ofBook f ≡ true → (r .outcome ≡ Refused f) ↔ (bookOf bytes ≡ refused f)
   unfolding writeAnswer next fitted
   write-1-7 f l = (λ e. h .0 (halts f .0 e), λ q. halts f .1 (h .1 q))
     where
-      above : (b : Book) → next b ≡ refused f → 7 < numberOf f
+      above : (b : Book) → next b ≡ refused f → ofBook f ≡ false
       above b e =
-          let k = above-first BadParent NotAChain BufferTooShort (omega arith) (omega arith) (due b) (not (ltb parent (length (b .names)))) (not (isChain places (length (b .names)) m)) (ltb room (length (due b))) f e in
-          omega arith
+          one-of BadParent NotAChain BufferTooShort (omega arith) (omega arith) (due b) (λ r. ofBook r ≡ false) refl refl refl (not (ltb parent (length (b .names)))) (not (isChain places (length (b .names)) m)) (ltb room (length (due b))) f e
 
       h : (writeAnswer bytes parent m room ≡ refused f) ↔ (bookOf bytes ≡ refused f)
       h = early bytes next f l above
@@ -154,7 +152,7 @@ module _ (bytes : List ℕ) (parent : ℕ) (m : Model) (room : ℕ) (r : Written
     where
       to : writeAnswer bytes parent m room ≡ refused BadParent → (b : Book) × Read bytes b × (length (b .names) ≤ parent)
       to e =
-          let k = late bytes next BadParent (omega arith) e in
+          let k = late bytes next BadParent refl e in
           (k .0, k .1, above-law parent (length (k .0 .names)) .0
           (first-stops BadParent NotAChain BufferTooShort (omega arith) (omega arith) (due (k .0)) (not (ltb parent (length (k .0 .names)))) (not (isChain places (length (k .0 .names)) m)) (ltb room (length (due (k .0)))) .0 (k .2)))
 
@@ -168,7 +166,7 @@ module _ (bytes : List ℕ) (parent : ℕ) (m : Model) (room : ℕ) (r : Written
     where
       to : writeAnswer bytes parent m room ≡ refused NotAChain → (b : Book) × Read bytes b × (parent < length (b .names)) × (¬ IsChain places (length (b .names)) m)
       to e =
-          let k = late bytes next NotAChain (omega arith) e in
+          let k = late bytes next NotAChain refl e in
           let h = second-stops BadParent NotAChain BufferTooShort (omega arith) (omega arith) (due (k .0)) (not (ltb parent (length (k .0 .names)))) (not (isChain places (length (k .0 .names)) m)) (ltb room (length (due (k .0)))) .0 (k .2) in
           (k .0, k .1, not-above parent (length (k .0 .names)) .0 (h .0), not-chain (length (k .0 .names)) m .0 (h .1))
 
@@ -183,7 +181,7 @@ module _ (bytes : List ℕ) (parent : ℕ) (m : Model) (room : ℕ) (r : Written
     where
       to : writeAnswer bytes parent m room ≡ refused BufferTooShort → (b : Book) × Read bytes b × (parent < length (b .names)) × IsChain places (length (b .names)) m × (room < length (due b))
       to e =
-          let k = late bytes next BufferTooShort (omega arith) e in
+          let k = late bytes next BufferTooShort refl e in
           let h = third-stops BadParent NotAChain BufferTooShort (omega arith) (omega arith) (due (k .0)) (not (ltb parent (length (k .0 .names)))) (not (isChain places (length (k .0 .names)) m)) (ltb room (length (due (k .0)))) .0 (k .2) in
           (k .0, k .1, not-above parent (length (k .0 .names)) .0 (h .0), is-chain (length (k .0 .names)) m .0 (h .1), below-law room (length (due (k .0))) .0 (h .2))
 
@@ -191,7 +189,7 @@ module _ (bytes : List ℕ) (parent : ℕ) (m : Model) (room : ℕ) (r : Written
       from (b, q, h, c, l) = rw (q, lt-ltb parent (length (b .names)) h, is-chain (length (b .names)) m .1 c, lt-ltb room (length (due b)) l)
 
   -- no number but 1 to 7, 8, 10 and 12
-  pub write-only : (f : Refusal) → r .outcome ≡ Refused f → (numberOf f ≤ 7) ⊎ ((BadParent ≡ f) ⊎ ((NotAChain ≡ f) ⊎ (BufferTooShort ≡ f)))
+  pub write-only : (f : Refusal) → r .outcome ≡ Refused f → (ofBook f ≡ true) ⊎ ((BadParent ≡ f) ⊎ ((NotAChain ≡ f) ⊎ (BufferTooShort ≡ f)))
   unfolding writeAnswer next fitted
   write-only f e = ⊎-map (λ l. l) (λ k. behind (k .0) (k .1)) (book-or-next bytes next f (halts f .0 e))
     where
@@ -228,14 +226,13 @@ module _ (bytes : List ℕ) (parent room : ℕ) (r : Written) (call : r ≡ writ
   row-is b = in-row BadParent NoBlock (chainIn b parent) (λ m. fitted room (declaration (b .names) parent m)) (not (ltb parent (length (b .names)))) (noWord (sampleOf b parent))
 
   -- 1 to 7: the bytes are no book, for this reason.
-  pub sample-1-7 : (f : Refusal) → numberOf f ≤ 7 → (r .outcome ≡ Refused f) ↔ (bookOf bytes ≡ refused f)
+  pub sample-1-7 : (f : Refusal) → ofBook f ≡ true → (r .outcome ≡ Refused f) ↔ (bookOf bytes ≡ refused f)
   unfolding sampleText row
   sample-1-7 f l = (λ e. h .0 (ends f .0 e), λ q. ends f .1 (h .1 q))
     where
-      above : (b : Book) → row b ≡ refused f → 7 < numberOf f
+      above : (b : Book) → row b ≡ refused f → ofBook f ≡ false
       above b e =
-          let k = above-first BadParent NoBlock BufferTooShort (omega arith) (omega arith) (sampled b) (not (ltb parent (length (b .names)))) (noWord (sampleOf b parent)) (ltb room (length (sampled b))) f (sym (row-is b) ∙ e) in
-          omega arith
+          one-of BadParent NoBlock BufferTooShort (omega arith) (omega arith) (sampled b) (λ r. ofBook r ≡ false) refl refl refl (not (ltb parent (length (b .names)))) (noWord (sampleOf b parent)) (ltb room (length (sampled b))) f (sym (row-is b) ∙ e)
 
       h : (sampleText bytes parent room ≡ refused f) ↔ (bookOf bytes ≡ refused f)
       h = early bytes row f l above
@@ -249,7 +246,7 @@ module _ (bytes : List ℕ) (parent room : ℕ) (r : Written) (call : r ≡ writ
       stop b = let h = first-stops BadParent NoBlock BufferTooShort (omega arith) (omega arith) (sampled b) (not (ltb parent (length (b .names)))) (noWord (sampleOf b parent)) (ltb room (length (sampled b))) in (λ e. h .0 (sym (row-is b) ∙ e), λ e. row-is b ∙ h .1 e)
 
       to : sampleText bytes parent room ≡ refused BadParent → (b : Book) × Read bytes b × (length (b .names) ≤ parent)
-      to e = let k = late bytes row BadParent (omega arith) e in (k .0, k .1, above-law parent (length (k .0 .names)) .0 (stop (k .0) .0 (k .2)))
+      to e = let k = late bytes row BadParent refl e in (k .0, k .1, above-law parent (length (k .0 .names)) .0 (stop (k .0) .0 (k .2)))
 
       from : (b : Book) × Read bytes b × (length (b .names) ≤ parent) → sampleText bytes parent room ≡ refused BadParent
       from (b, q, h) = rw q (stop b .1 (above-law parent (length (b .names)) .1 h))
@@ -264,7 +261,7 @@ module _ (bytes : List ℕ) (parent room : ℕ) (r : Written) (call : r ≡ writ
 
       to : sampleText bytes parent room ≡ refused NoBlock → (b : Book) × Read bytes b × (parent < length (b .names)) × (sampleOf b parent ≡ [])
       to e =
-          let k = late bytes row NoBlock (omega arith) e in
+          let k = late bytes row NoBlock refl e in
           let h = stop (k .0) .0 (k .2) in
           (k .0, k .1, not-above parent (length (k .0 .names)) .0 (h .0), no-word (sampleOf (k .0) parent) .0 (h .1))
 
@@ -282,7 +279,7 @@ module _ (bytes : List ℕ) (parent room : ℕ) (r : Written) (call : r ≡ writ
 
       to : sampleText bytes parent room ≡ refused BufferTooShort → (b : Book) × Read bytes b × (parent < length (b .names)) × (¬ (sampleOf b parent ≡ [])) × (room < length (sampled b))
       to e =
-          let k = late bytes row BufferTooShort (omega arith) e in
+          let k = late bytes row BufferTooShort refl e in
           let h = stop (k .0) .0 (k .2) in
           (k .0, k .1, not-above parent (length (k .0 .names)) .0 (h .0), some-word (sampleOf (k .0) parent) .0 (h .1), below-law room (length (sampled (k .0))) .0 (h .2))
 
@@ -290,7 +287,7 @@ module _ (bytes : List ℕ) (parent room : ℕ) (r : Written) (call : r ≡ writ
       from (b, q, h, d, l) = rw q (stop b .1 (not-above parent (length (b .names)) .1 h, some-word (sampleOf b parent) .1 d, below-law room (length (sampled b)) .1 l))
 
   -- no number but 1 to 7, 8, 9 and 12
-  pub sample-only : (f : Refusal) → r .outcome ≡ Refused f → (numberOf f ≤ 7) ⊎ ((BadParent ≡ f) ⊎ ((NoBlock ≡ f) ⊎ (BufferTooShort ≡ f)))
+  pub sample-only : (f : Refusal) → r .outcome ≡ Refused f → (ofBook f ≡ true) ⊎ ((BadParent ≡ f) ⊎ ((NoBlock ≡ f) ⊎ (BufferTooShort ≡ f)))
   unfolding sampleText row
   sample-only f e = ⊎-map (λ l. l) (λ k. behind (k .0) (sym (row-is (k .0)) ∙ k .1)) (book-or-next bytes row f (ends f .0 e))
     where

@@ -17,7 +17,7 @@ use Rattle.model.specs.declared.Model.{Model}
 use Rattle.model.specs.Record.{IsChain, dueModel}
 use Rattle.model.proofs.Chain.{chain-law}
 use Rattle.declaration.specs.declared.Written.{Written}
-use Rattle.declaration.specs.Write.{writeAnswer, lengthDue, written, bufferAfter}
+use Rattle.declaration.specs.Write.{writeAnswer, lengthDue, written, bufferAfter, Writes}
 use Rattle.putting.proofs.Puts.{wrote-back}
 use Rattle.declaration.proofs.Back.{text-due, buffer-due, buffer-kept}
 use Rattle.reading.specs.declared.Declaration.{Declaration}
@@ -29,10 +29,6 @@ use Rattle.intake.specs.Writing.{sampleText}
 use Rattle.intake.proofs.Writing.{model-given}
 use Rattle.intake.proofs.NoBetterModel as Model3
 use Rattle.demands.proofs.Checks.{outcome-refused}
-
--- What the contracts of the two calls that write say, of their answer and of the buffer before and after.
-abbrev pub Writes : Answer (List ℕ) → Written → List ℕ → List ℕ → Type 0
-Writes a w before after = (w ≡ written a) × (after ≡ bufferAfter before a)
 
 -- a refused call
 pub writes-due : (a : Answer (List ℕ)) (w : Written) (before after : List ℕ) → Writes a w before after → (f : Refusal) → w .outcome ≡ Refused f → (w .length ≡ 0) × (after ≡ before)

@@ -2,15 +2,13 @@
 use declaration::Written;
 use refusal::Outcome;
 use super::infer::find_model;
-ghost use mathlib.Core.Path.{_≡_};
 ghost use lib.ListN.{length};
-ghost use Rattle.declaration.specs.Write.{written, bufferAfter};
+ghost use Rattle.declaration.specs.Write.{Writes};
 ghost use Rattle.intake.specs.Writing.{sampleText};
 
 // The call: any bytes as the book, any parent, any buffer. 1 to 7, then 8, then 9, then 12, else the declaration.
 pub fn write_from_sample(bytes: &[u8], parent: usize, buffer: &mut [u8]) -> Written
-    ensures { λ r. ⌜ (r ≡ written (sampleText (now (bytes .entry)) parent (length (now (buffer .entry)))))
-        × (now (buffer .exit) ≡ bufferAfter (now (buffer .entry)) (sampleText (now (bytes .entry)) parent (length (now (buffer .entry))))) ⌝ }
+    ensures { λ r. ⌜ Writes (sampleText (now (bytes .entry)) parent (length (now (buffer .entry)))) r (now (buffer .entry)) (now (buffer .exit)) ⌝ }
 {
     let found = find_model(bytes, parent);
     let outcome = found.outcome;

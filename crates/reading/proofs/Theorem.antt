@@ -2,7 +2,7 @@
 -- Assumes nothing.
 use Prim.Native.Nat.{ℕ, _≤_, _<_}
 use mathlib.Core.Path.{_≡_, refl, sym, _∙_, ap, subst}
-use mathlib.Core.Bool.{Bool, true, false, not}
+use mathlib.Core.Bool.{Bool, true, false, not, false≢true}
 use mathlib.Core.List.{List}
 use mathlib.Core.Option.{Option, none, some}
 use mathlib.Core.Logic.{_↔_, _⊎_, inl, inr, ⊎-elim}
@@ -12,7 +12,7 @@ use borrow.Author.Tests.{lt-ltb, le-ltb}
 use Rattle.refusal.specs.declared.Refusal.{Refusal}
 use Rattle.refusal.specs.declared.Refusal.the-variants.{NotADeclaration, UnknownName, NameTwice}
 use Rattle.refusal.specs.declared.Outcome.the-variants.{Done, Refused}
-use Rattle.refusal.specs.Table.{numberOf}
+use Rattle.refusal.specs.Table.{ofBook}
 use Rattle.refusal.specs.Answer.{Answer, given, refused, onward, refuseIf, outcomeOf}
 use Rattle.refusal.proofs.Answers.{onward-given, refused-same, given-refused, onward-refused, check-refused}
 use Rattle.nameset.specs.Places.{places}
@@ -64,14 +64,14 @@ by-text : (s text : List ℕ) → IsBook s → readAnswer s text ≡ readText pl
 unfolding readAnswer
 by-text s text (b, q) = rw (q, names-of s b q) refl
 
--- a number above 7 is the text's
-late : (s text : List ℕ) (r : Refusal) → 7 < numberOf r → readAnswer s text ≡ refused r → IsBook s
+-- a number that is not a book's is the text's
+late : (s text : List ℕ) (r : Refusal) → ofBook r ≡ false → readAnswer s text ≡ refused r → IsBook s
 unfolding readAnswer
 late s text r l e = go (bookOf s) refl e
   where
     go : (a : Answer Book) → bookOf s ≡ a → onward a (λ b. readText places (b .names) text) ≡ refused r → IsBook s
     go (given b) q f = (b, q)
-    go (refused g) q f = let z : g ≡ r = cc in absurd (omega (arith, book-stops s r (q ∙ ap refused z)))
+    go (refused g) q f = let z : g ≡ r = cc in absurd (false≢true (sym l ∙ book-stops s r (q ∙ ap refused z)))
 
 -- and the text's numbers are 13, 14 and 15
 abbrev OfText : Refusal → Type 0
@@ -89,10 +89,10 @@ text-only names text f e = go (formOf text) e
         (check-refused (not (noneTwice (length names) (numbered names (d .factors)))) NameTwice _ f (h .1)))
         (check-refused (not (allForm (known names) d)) UnknownName _ f q)
 
-text-late : (f : Refusal) → OfText f → 12 < numberOf f
-text-late f (inl z) = subst (λ (r : Refusal). 12 < numberOf r) z (omega arith)
-text-late f (inr (inl z)) = subst (λ (r : Refusal). 12 < numberOf r) z (omega arith)
-text-late f (inr (inr z)) = subst (λ (r : Refusal). 12 < numberOf r) z (omega arith)
+text-late : (f : Refusal) → OfText f → ofBook f ≡ false
+text-late f (inl z) = ap ofBook (sym z)
+text-late f (inr (inl z)) = ap ofBook (sym z)
+text-late f (inr (inr z)) = ap ofBook (sym z)
 
 given-book : (s text : List ℕ) (d : Declared) → readAnswer s text ≡ given d → IsBook s
 unfolding readAnswer
@@ -160,16 +160,16 @@ module _ (s text : List ℕ) (r : Declaration) (call : ReadsDeclaration s text r
   -- ---- when exactly the call is refused
 
   -- 1 to 7: the bytes are no book, for this reason.
-  pub read-1-7 : (f : Refusal) → numberOf f ≤ 7 → (r .outcome ≡ Refused f) ↔ (bookOf s ≡ refused f)
+  pub read-1-7 : (f : Refusal) → ofBook f ≡ true → (r .outcome ≡ Refused f) ↔ (bookOf s ≡ refused f)
   unfolding readAnswer
   read-1-7 f l = (λ o. to (bookOf s) refl (refusal-is f .0 o), λ q. refusal-is f .1 (rw q refl))
     where
       to : (a : Answer Book) → bookOf s ≡ a → onward a (λ b. readText places (b .names) text) ≡ refused f → bookOf s ≡ refused f
-      to (given b) q e = absurd (omega (arith, text-late f (text-only (b .names) text f e)))
+      to (given b) q e = absurd (false≢true (sym (text-late f (text-only (b .names) text f e)) ∙ l))
       to (refused g) q e = let z : g ≡ f = cc in q ∙ ap refused z
 
   -- No number but 1 to 7, 13, 14 and 15 is given.
-  pub read-only : (f : Refusal) → r .outcome ≡ Refused f → (numberOf f ≤ 7) ⊎ ((NotADeclaration ≡ f) ⊎ ((UnknownName ≡ f) ⊎ (NameTwice ≡ f)))
+  pub read-only : (f : Refusal) → r .outcome ≡ Refused f → (ofBook f ≡ true) ⊎ ((NotADeclaration ≡ f) ⊎ ((UnknownName ≡ f) ⊎ (NameTwice ≡ f)))
   unfolding readAnswer
   read-only f o =
       ⊎-elim (λ q. inl (book-stops s f q)) (λ q. inr (text-only (q .0 .names) text f (q .2))) (onward-refused (bookOf s) _ f (refusal-is f .0 o))
@@ -184,14 +184,14 @@ module _ (s text : List ℕ) (r : Declaration) (call : ReadsDeclaration s text r
   read-13 = (λ o. to (refusal-is NotADeclaration .0 o), λ h. refusal-is NotADeclaration .1 (by-text s text (h .0) ∙ refused-13 places (namesIn s) text .1 (h .1)))
     where
       to : readAnswer s text ≡ refused NotADeclaration → IsBook s × ((d : Form) → HasForm text d → ⊥)
-      to e = let k = late s text NotADeclaration (omega arith) e in (k, refused-13 places (namesIn s) text .0 (sym (by-text s text k) ∙ e))
+      to e = let k = late s text NotADeclaration refl e in (k, refused-13 places (namesIn s) text .0 (sym (by-text s text k) ∙ e))
 
   -- 14: it has the form, and a name in it, the parent's included, is not in the book.
   pub read-14 : (r .outcome ≡ Refused UnknownName) ↔ (IsBook s × ((d : Form) × HasForm text d × (allForm (known (namesIn s)) d ≡ false)))
   read-14 = (λ o. to (refusal-is UnknownName .0 o), λ h. refusal-is UnknownName .1 (by-text s text (h .0) ∙ refused-14 places (namesIn s) text .1 (h .1)))
     where
       to : readAnswer s text ≡ refused UnknownName → IsBook s × ((d : Form) × HasForm text d × (allForm (known (namesIn s)) d ≡ false))
-      to e = let k = late s text UnknownName (omega arith) e in (k, refused-14 places (namesIn s) text .0 (sym (by-text s text k) ∙ e))
+      to e = let k = late s text UnknownName refl e in (k, refused-14 places (namesIn s) text .0 (sym (by-text s text k) ∙ e))
 
   -- A name of the book stands in the model more than once.
   abbrev Twice : Form → Type 0
@@ -206,7 +206,7 @@ module _ (s text : List ℕ) (r : Declaration) (call : ReadsDeclaration s text r
       shown (d, F, k, t) = (d, F, k, twice-law (length (namesIn s)) (numbered (namesIn s) (d .factors)) .0 t)
 
       to : readAnswer s text ≡ refused NameTwice → IsBook s × ((d : Form) × HasForm text d × (allForm (known (namesIn s)) d ≡ true) × Twice d)
-      to e = let k = late s text NameTwice (omega arith) e in (k, shown (refused-15 places (namesIn s) text .0 (sym (by-text s text k) ∙ e)))
+      to e = let k = late s text NameTwice refl e in (k, shown (refused-15 places (namesIn s) text .0 (sym (by-text s text k) ∙ e)))
 
       from : IsBook s × ((d : Form) × HasForm text d × (allForm (known (namesIn s)) d ≡ true) × Twice d) → readAnswer s text ≡ refused NameTwice
       from (b, (d, F, k, t)) = by-text s text b ∙ refused-15 places (namesIn s) text .1 (d, F, k, twice-law (length (namesIn s)) (numbered (namesIn s) (d .factors)) .1 t)

@@ -1,7 +1,7 @@
 -- Paper 01, "Where a call stops": the number of each refusal, and what a refused call answers.
 -- Assumes nothing.
 use Prim.Native.Nat.{ℕ}
-use mathlib.Core.Bool.{Bool, false}
+use mathlib.Core.Bool.{Bool, true, false}
 use Rattle.refusal.specs.declared.Refusal.{Refusal}
 use Rattle.refusal.specs.declared.Refusal.the-variants.{BookTooLong, BytesMissing, BadNameCount, BadName, NameNotAbove, NumberNotBelow, BytesLeftOver, BadParent, NoBlock, NotAChain, BadWord, BufferTooShort, NotADeclaration, UnknownName, NameTwice}
 
@@ -22,6 +22,24 @@ numberOf BufferTooShort = 12
 numberOf NotADeclaration = 13
 numberOf UnknownName = 14
 numberOf NameTwice = 15
+
+-- Whether it is one of a book: rows 1 to 7.
+abbrev pub ofBook : Refusal → Bool
+ofBook BookTooLong = true
+ofBook BytesMissing = true
+ofBook BadNameCount = true
+ofBook BadName = true
+ofBook NameNotAbove = true
+ofBook NumberNotBelow = true
+ofBook BytesLeftOver = true
+ofBook BadParent = false
+ofBook NoBlock = false
+ofBook NotAChain = false
+ofBook BadWord = false
+ofBook BufferTooShort = false
+ofBook NotADeclaration = false
+ofBook UnknownName = false
+ofBook NameTwice = false
 
 -- What a refused call answers: its number, and "a yes or no due is no, a length or parent number due is 0".
 -- The model due, the empty model, is `dueModel` in crates/model/specs/Record.antt, with the record.
