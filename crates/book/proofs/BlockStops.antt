@@ -17,7 +17,7 @@ use Rattle.refusal.proofs.Answers.{refused-same, given-refused, onward-refused,
 use Rattle.book.specs.Field.{Field, field, byteOf, bytesOf}
 use Rattle.book.specs.Book.{Block, allBelow, blockOf, blocksOf}
 use Rattle.book.specs.Bytes.{blockBytes, blocksBytes}
-use Rattle.book.specs.Stops.{one, Within, BlockMissing, BlockBad}
+use Rattle.book.specs.Stops.{Within, BlockMissing, BlockBad}
 use Rattle.book.proofs.Told.{bytes-told, block-told}
 use Rattle.book.proofs.FieldStops.{bytes-missing, bytes-given, bytes-stop, joined}
 

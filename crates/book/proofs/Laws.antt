@@ -2,7 +2,7 @@
 -- Assumes nothing.
 use Prim.Native.Nat.{ℕ, zero, suc, _+_, _-_, _≤_, _<_}
 use mathlib.Core.Path.{_≡_, refl, sym, _∙_, ap, subst}
-use mathlib.Core.Bool.{Bool, true, false, _&&_, not}
+use mathlib.Core.Bool.{Bool, true, false, _&&_}
 use mathlib.Core.List.{List, [], _∷_, _++_}
 use native.Mathlib.Omega.{arith}
 use native.Mathlib.Decide.{decLt}
@@ -14,25 +14,25 @@ use borrow.Author.Tests.{ltb-true, ltb-false}
 use Rattle.refusal.specs.declared.Refusal.{Refusal}
 use Rattle.refusal.specs.declared.Refusal.the-variants.{BookTooLong}
 use Rattle.refusal.specs.declared.Outcome.the-variants.{Done, Refused}
-use Rattle.refusal.specs.Answer.{Answer, given, refused, onward, refuseIf}
+use Rattle.refusal.specs.Answer.{Answer, given, refused, onward}
 use Rattle.refusal.proofs.Answers.{onward-given, check-given, given-same}
 use Rattle.nameset.specs.Places.{places}
 use Rattle.nameset.proofs.Count.{count-bounds}
 use Rattle.name.specs.declared.Order.the-variants.{Below, Same}
-use Rattle.name.specs.Rule.{goodLength, goodBytes, isName}
-use Rattle.name.specs.Order.{orderOf, rises}
+use Rattle.name.specs.Rule.{isName}
+use Rattle.name.specs.Order.{orderOf}
 use Rattle.name.proofs.Ordering.{rises-below, below-trans, same-refl}
 use Rattle.book.specs.declared.Layout.{Layout}
 use Rattle.book.specs.declared.Reading.{Reading}
-use Rattle.book.specs.Field.{Field, field}
+use Rattle.book.specs.Field.{Field}
 use Rattle.book.specs.Book.{Block, Book, allBelow, longestBook, nameSection, blockSection, bookOf, namesIn, blocksIn}
-use Rattle.book.specs.Bytes.{nameBytes, namesBytes, blockBytes, blocksBytes}
-use Rattle.book.specs.Layout.{placesFrom, endFrom, noPlaces, placeTable, layoutOf, noLayout, noReading, readingOf}
+use Rattle.book.specs.Bytes.{nameBytes, namesBytes, blocksBytes}
+use Rattle.book.specs.Layout.{placesFrom, endFrom, noPlaces, placeTable, layoutOf, noReading, readingOf}
 use Rattle.book.specs.Access.{LaidOut, BlockFits}
 use Rattle.book.specs.Stops.{Rising, none, one, Within}
-use Rattle.book.proofs.Parts.{byte-at, reaches}
+use Rattle.book.proofs.Parts.{byte-at}
 use Rattle.book.proofs.Placed.{name-placed, BlockPlaced, block-placed}
-use Rattle.book.proofs.Sections.{NameSectionTold, name-section-told, BlockSectionTold, block-section-told, behind-names}
+use Rattle.book.proofs.Sections.{name-section-told, block-section-told, behind-names}
 
 -- ---- the whole book
 

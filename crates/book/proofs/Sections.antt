@@ -1,9 +1,9 @@
 -- What is known of the two sections of a book that were read.
 -- Assumes nothing.
-use Prim.Native.Nat.{ℕ, zero, suc, _+_, _-_, _≤_, _<_}
+use Prim.Native.Nat.{ℕ, _+_, _-_, _≤_, _<_}
 use mathlib.Core.Path.{_≡_, refl, sym, _∙_, ap, subst}
-use mathlib.Core.Bool.{Bool, true, false, not}
-use mathlib.Core.List.{List, [], _∷_, _++_}
+use mathlib.Core.Bool.{true, not}
+use mathlib.Core.List.{List, [], _∷_}
 use native.Mathlib.Omega.{arith}
 use native.Mathlib.Decide.{decLt}
 use lib.Dec.{ltb}
@@ -19,7 +19,7 @@ use Rattle.book.specs.Bytes.{namesBytes, blocksBytes}
 use Rattle.book.specs.Layout.{endFrom}
 use Rattle.book.specs.Stops.{countAt, Rising, Within}
 use Rattle.book.proofs.Counts.{count-missing, count-given}
-use Rattle.book.proofs.Told.{not-refused, NamesTold, names-told, BlocksTold, blocks-told}
+use Rattle.book.proofs.Told.{not-refused, names-told, blocks-told}
 use Rattle.book.proofs.Placed.{name-placed}
 
 -- where names end, and what stands behind them

@@ -1,21 +1,21 @@
 -- What is known of the parts of a book that was read: which bytes they are, and which rules they keep.
 -- Assumes nothing.
-use Prim.Native.Nat.{ℕ, zero, suc, _+_, _*_, _≤_, _<_}
+use Prim.Native.Nat.{ℕ, zero, suc, _+_, _<_}
 use mathlib.Core.Path.{_≡_, refl, sym, _∙_, ap, subst}
-use mathlib.Core.Bool.{Bool, true, false, not}
+use mathlib.Core.Bool.{true, not}
 use mathlib.Core.List.{List, [], _∷_, _++_}
 use native.Mathlib.Omega.{arith}
 use lib.Dec.{ltb}
-use lib.ListN.{length, take, drop, getD, take-append-drop}
+use lib.ListN.{length, take, drop, take-append-drop}
 use lib.Seq.{length-take-le}
 use borrow.Author.Tests.{ltb-true, ltb-false, not-false}
 use Rattle.refusal.specs.declared.Refusal.the-variants.{BytesMissing, BadName, NameNotAbove, NumberNotBelow}
-use Rattle.refusal.specs.Answer.{Answer, given, refused, onward, refuseIf}
+use Rattle.refusal.specs.Answer.{given, refused, onward, refuseIf}
 use Rattle.refusal.proofs.Answers.{onward-given, check-given, given-same}
 use Rattle.name.specs.Rule.{goodLength, goodBytes}
 use Rattle.name.specs.Order.{rises}
-use Rattle.book.specs.Field.{Field, field, byteOf, bytesOf, countOf}
-use Rattle.book.specs.Book.{Block, Book, allBelow, nameOf, namesOf, blockOf, blocksOf}
+use Rattle.book.specs.Field.{Field, field, byteOf, bytesOf}
+use Rattle.book.specs.Book.{Block, allBelow, nameOf, namesOf, blockOf, blocksOf}
 use Rattle.book.specs.Bytes.{nameBytes, namesBytes, blockBytes, blocksBytes}
 use Rattle.book.specs.Stops.{Rising, none, one, Within}
 

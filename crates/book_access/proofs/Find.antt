@@ -1,18 +1,16 @@
 -- Finding a name among names that rise.
 -- Assumes nothing.
 use Prim.Native.Nat.{ℕ, zero, suc, _+_, _≤_, _<_, suc-le-suc}
-use mathlib.Core.Path.{_≡_, refl, sym, _∙_, ap, subst}
-use mathlib.Core.Bool.{Bool, true, false}
+use mathlib.Core.Path.{_≡_, refl, sym, _∙_, ap}
+use mathlib.Core.Bool.{false}
 use mathlib.Core.List.{List, [], _∷_}
 use native.Mathlib.Omega.{arith}
 use native.Mathlib.Decide.{decLt}
 use native.Mathlib.Nat.{le-of-suc-le-suc, zero-lt-suc, zero-add}
 use lib.ListN.{length, getD}
-use Rattle.name.specs.declared.Order.{Order}
 use Rattle.name.specs.declared.Order.the-variants.{Below, Same, Above}
 use Rattle.name.specs.Order.{orderOf, isSame}
 use Rattle.name.proofs.Ordering.{same-equal, above-flip, below-flip, below-trans}
-use Rattle.book.specs.declared.Found.{Found}
 use Rattle.book.specs.declared.Found.the-variants.{At, Nothing}
 use Rattle.book.specs.Access.{numberFrom, numberIn}
 use Rattle.book.specs.Stops.{Rising}

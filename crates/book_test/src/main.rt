@@ -4,7 +4,6 @@
 use book::Found;
 use book::Layout;
 use refusal::Outcome;
-ghost use mathlib.Core.Path.{_≡_};
 ghost use Prim.Native.Nat.{_≤_, _<_};
 ghost use lib.ListN.{length};
 ghost use Rattle.book.specs.Access.{LaidOut};

@@ -3,7 +3,6 @@ ghost use mathlib.Core.Path.{_≡_};
 ghost use mathlib.Core.Bool.{cond, _&&_, _||_, not};
 ghost use Prim.Native.Nat.{ℕ, _+_, _≤_, _<_};
 ghost use lib.Dec.{eqb};
-ghost use lib.ListN.{length};
 ghost use Rattle.nameset.specs.Places.{places};
 ghost use Rattle.nameset.specs.Set.{member};
 ghost use Rattle.levels.specs.Below.{anyBelow, countBelow};

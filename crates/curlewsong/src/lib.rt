@@ -4,7 +4,7 @@ use intake::Acceptance;
 use model::Model;
 ghost use mathlib.Core.Path.{_≡_};
 ghost use lib.ListN.{length};
-ghost use Rattle.declaration.specs.Write.{written, bufferAfter, writeAnswer};
+ghost use Rattle.declaration.specs.Write.{bufferAfter, writeAnswer};
 ghost use Rattle.reading.specs.Read.{readAnswer};
 ghost use Rattle.intake.specs.Acceptance.{answerOf};
 ghost use Rattle.intake.specs.Inference.{modelAnswer};

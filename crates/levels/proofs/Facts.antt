@@ -1,15 +1,15 @@
 -- Follow facts mean what they say: the steps of `followOf n words` are the facts of the words.
 -- Assumes nothing.
 use Prim.Native.Nat.{ℕ, _<_}
-use mathlib.Core.Path.{_≡_, refl, sym, _∙_, ap}
-use mathlib.Core.Bool.{Bool, true, false, _&&_, false≢true}
+use mathlib.Core.Path.{_≡_, refl, sym, ap}
+use mathlib.Core.Bool.{true, false, _&&_, false≢true}
 use mathlib.Core.List.{List, [], _∷_, List·Memᴰ, List·Memᴰ·head, List·Memᴰ·tail, List·Memᴰ·not-nil, List·Memᴰ·cases-cons}
 use mathlib.Core.Logic.{_⊎_, inl, inr, _↔_}
 use native.Mathlib.Omega.{arith}
 use lib.Dec.{eqb}
 use Rattle.model.specs.Accept.{Names}
 use Rattle.language.specs.Word.{Point, start, name, end, Beside, Shows, Fact}
-use Rattle.follow.specs.Follow.{someWord, beginsWith, endsWith, hasPair, isEmpty, followOf, steps}
+use Rattle.follow.specs.Follow.{beginsWith, endsWith, hasPair, isEmpty, followOf, steps}
 use Rattle.follow.proofs.Laws.{some-word}
 use Rattle.levels.proofs.Tests.{and-is, or-is, eqb-is}
 

@@ -1,7 +1,6 @@
 -- The marked samples of paper 01, computed.
 -- Assumes nothing.
-use mathlib.Core.Path.{_≡_, refl}
-use mathlib.Core.List.{List, [], _∷_}
+use mathlib.Core.Path.{refl}
 use Rattle.model.specs.Record.{emptyModel}
 use Rattle.model.specs.Build.{entriesWith, withFactor}
 use Rattle.follow.specs.Follow.{someWord, beginsWith, endsWith, hasPair, isEmpty}

@@ -1,14 +1,13 @@
 -- Paper 01, "Levels", said and computed.
 -- Assumes nothing.
 use Prim.Native.Nat.{ℕ, zero, suc, _≤_}
-use mathlib.Core.Path.{_≡_}
-use mathlib.Core.Bool.{Bool, true, false, _&&_, _||_, not}
+use mathlib.Core.Bool.{Bool, _&&_, _||_, not}
 use lib.Dec.{ltb}
 use Rattle.language.specs.Word.{Point, start, name, end}
 use Rattle.language.specs.Step.{Reach}
 use Rattle.follow.specs.Follow.{Follow, steps}
 use Rattle.levels.specs.Below.{anyBelow, largestBelow}
-use Rattle.levels.specs.Reach.{reaches, sameGroup}
+use Rattle.levels.specs.Reach.{reaches}
 
 -- ---- said
 

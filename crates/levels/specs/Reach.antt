@@ -1,7 +1,7 @@
 -- Paper 01, "Loop groups". What reach means is `Reach (steps f)` of the crates language and follow; here it is computed.
 -- Assumes nothing.
 use Prim.Native.Nat.{ℕ, zero, suc}
-use mathlib.Core.Bool.{Bool, true, false, _&&_, _||_, not}
+use mathlib.Core.Bool.{Bool, _&&_, _||_, not}
 use lib.Dec.{ltb, eqb}
 use Rattle.follow.specs.Follow.{Follow}
 use Rattle.levels.specs.Below.{anyBelow, firstBelow}

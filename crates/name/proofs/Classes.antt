@@ -4,7 +4,7 @@ use Prim.Native.Nat.{ℕ}
 use mathlib.Core.Path.{_≡_, refl}
 use mathlib.Core.Bool.{Bool, true, false, cond, _||_}
 use native.Mathlib.Omega.{arith}
-use Rattle.name.specs.Class.{startByte, laterByte, classOf, between}
+use Rattle.name.specs.Class.{startByte, laterByte, classOf}
 
 -- the class where a is the rule for a first byte, and a or b that for a later one
 abbrev kind : Bool → Bool → ℕ

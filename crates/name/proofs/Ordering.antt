@@ -1,17 +1,15 @@
 -- The order of names is a strict order: equal bytes alone are the same, and below goes on.
 -- Assumes nothing.
 use Prim.Native.Nat.{ℕ, _≤_, _<_}
-use mathlib.Core.Path.{_≡_, refl, sym, _∙_, ap}
-use mathlib.Core.Bool.{Bool, true, false, cond}
-use mathlib.Core.Logic.{_⊎_, inl, inr}
+use mathlib.Core.Path.{_≡_, refl, sym, _∙_}
+use mathlib.Core.Bool.{true}
 use mathlib.Core.List.{List, [], _∷_}
 use native.Mathlib.Omega.{arith}
 use native.Mathlib.Decide.{decLt}
-use lib.Dec.{ltb}
 use borrow.Author.Tests.{lt-ltb, le-ltb}
 use Rattle.name.specs.declared.Order.{Order}
 use Rattle.name.specs.declared.Order.the-variants.{Below, Same, Above}
-use Rattle.name.specs.Order.{orderOf, isBelow, isSame, rises}
+use Rattle.name.specs.Order.{orderOf, isBelow, rises}
 
 -- ---- two names by their first bytes
 

@@ -6,9 +6,9 @@ use mathlib.Core.Bool.{true}
 use mathlib.Core.List.{List, List·Memᴰ}
 use mathlib.Core.Logic.{_⊎_, inl, inr}
 use Rattle.model.specs.Accept.{Names}
-use Rattle.language.specs.Word.{Point, start, name, end}
+use Rattle.language.specs.Word.{start, name, end}
 use Rattle.language.specs.Step.{one}
-use Rattle.follow.specs.Follow.{Follow, followOf, steps}
+use Rattle.follow.specs.Follow.{Follow, followOf}
 use Rattle.follow.specs.Sample.{Over}
 use Rattle.follow.proofs.Laws.{over-in}
 use Rattle.levels.specs.Reach.{reaches}

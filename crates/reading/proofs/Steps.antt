@@ -12,7 +12,7 @@ use lib.Dec.{eqb, ltb}
 use lib.ListN.{length, getD, set, take, drop, replicate, length-set}
 use borrow.Author.Tests.{ne-eqb, eqb-true, ltb-true}
 use Rattle.refusal.specs.declared.Refusal.{Refusal}
-use Rattle.refusal.specs.declared.Refusal.the-variants.{NotADeclaration, UnknownName, NameTwice}
+use Rattle.refusal.specs.declared.Refusal.the-variants.{NotADeclaration, UnknownName}
 use Rattle.refusal.specs.declared.Outcome.the-variants.{Done, Refused}
 use Rattle.refusal.specs.Answer.{refused, refuseIf}
 use Rattle.nameset.specs.Places.{places}

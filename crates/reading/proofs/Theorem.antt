@@ -1,8 +1,8 @@
 -- What callers may rely on, in the words of paper 01: demand 2 for declarations, and when exactly a text is refused. The statements to read first.
 -- Assumes nothing.
 use Prim.Native.Nat.{ℕ, _≤_, _<_}
-use mathlib.Core.Path.{_≡_, refl, sym, _∙_, ap, subst}
-use mathlib.Core.Bool.{Bool, true, false, not, false≢true}
+use mathlib.Core.Path.{_≡_, refl, sym, _∙_, ap}
+use mathlib.Core.Bool.{true, false, not, false≢true}
 use mathlib.Core.List.{List}
 use mathlib.Core.Option.{Option, none, some}
 use mathlib.Core.Logic.{_↔_, _⊎_, inl, inr, ⊎-elim}
@@ -13,7 +13,7 @@ use Rattle.refusal.specs.declared.Refusal.{Refusal}
 use Rattle.refusal.specs.declared.Refusal.the-variants.{NotADeclaration, UnknownName, NameTwice}
 use Rattle.refusal.specs.declared.Outcome.the-variants.{Done, Refused}
 use Rattle.refusal.specs.Table.{ofBook}
-use Rattle.refusal.specs.Answer.{Answer, given, refused, onward, refuseIf, outcomeOf}
+use Rattle.refusal.specs.Answer.{Answer, given, refused, onward, outcomeOf}
 use Rattle.refusal.proofs.Answers.{onward-given, refused-same, given-refused, onward-refused, check-refused}
 use Rattle.nameset.specs.Places.{places}
 use Rattle.book.specs.Book.{Book, bookOf, namesIn}

@@ -1,6 +1,6 @@
 // Steps along a text: its next unread byte, white space, a run of name bytes, a token.
 ghost use mathlib.Core.Path.{_≡_};
-ghost use mathlib.Core.Bool.{Bool, false};
+ghost use mathlib.Core.Bool.{false};
 ghost use Prim.Native.Nat.{_+_, _≤_};
 ghost use lib.ListN.{length, drop};
 ghost use Rattle.name.specs.Class.{laterByte, classTable};

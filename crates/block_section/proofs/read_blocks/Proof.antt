@@ -2,7 +2,7 @@
 -- Assumes nothing.
 use Prim.Native.Nat.{ℕ, zero, suc, _+_, _-_, _≤_, _<_}
 use mathlib.Core.Path.{_≡_, refl, sym, _∙_, ap}
-use mathlib.Core.List.{List, [], _∷_}
+use mathlib.Core.List.{List, _∷_}
 use native.Mathlib.Omega.{arith}
 use lib.ListN.{length, drop}
 use borrow.Author.Needs.{needs}
@@ -11,7 +11,7 @@ use Rattle.refusal.specs.Answer.{Answer, given, refused, onward}
 use Rattle.block_section.specs.declared.BlocksEnd.the-variants.{End, Stopped}
 use Rattle.book.specs.Field.{Field, field}
 use Rattle.book.specs.Book.{Block, blockOf, blocksOf}
-use Rattle.block_section.specs.Tables.{blockStep, blocksEnd, behindBlocks}
+use Rattle.block_section.specs.Tables.{blocksEnd, behindBlocks}
 use Rattle.block_section.proofs.Steps.{BlockRead, block-read, block-stopped}
 use Rattle.block_section.proofs.read_blocks.Statement.{statement}
 use Rattle.block_section.proofs.read_blocks.Tie as tie

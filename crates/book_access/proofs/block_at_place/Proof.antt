@@ -1,6 +1,5 @@
 -- `block_at_place` meets its contract.
 -- Assumes nothing.
-use mathlib.Core.Path.{_≡_, refl}
 use Rattle.book.specs.Access.{blockPlace}
 use borrow.Author.Needs.{needs}
 use Rattle.book_access.proofs.block_at_place.Statement.{statement}

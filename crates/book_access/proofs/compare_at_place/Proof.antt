@@ -1,6 +1,6 @@
 -- `compare_at_place` meets its contract.
 -- Assumes nothing.
-use mathlib.Core.Path.{_≡_, refl, _∙_}
+use mathlib.Core.Path.{_∙_}
 use borrow.Author.Needs.{needs}
 use Rattle.book_access.proofs.compare_at_place.Statement.{statement}
 use Rattle.book_access.proofs.compare_at_place.Tie as tie

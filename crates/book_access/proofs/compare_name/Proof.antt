@@ -1,7 +1,7 @@
 -- `compare_name` meets its contract: name i stands where the layout says.
 -- Assumes nothing.
 use Prim.Native.Nat.{ℕ}
-use mathlib.Core.Path.{_≡_, _∙_, ap}
+use mathlib.Core.Path.{_∙_, ap}
 use mathlib.Core.List.{List}
 use native.Mathlib.Omega.{arith}
 use Rattle.name.specs.Order.{orderOf}

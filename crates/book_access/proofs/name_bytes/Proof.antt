@@ -1,6 +1,6 @@
 -- `name_bytes` meets its contract: name i stands where the layout says.
 -- Assumes nothing.
-use mathlib.Core.Path.{_≡_, _∙_}
+use mathlib.Core.Path.{_∙_}
 use native.Mathlib.Omega.{arith}
 use Rattle.book.proofs.Laws.{few-names, name-laid}
 use borrow.Author.Needs.{needs}

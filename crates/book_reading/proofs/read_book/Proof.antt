@@ -10,8 +10,6 @@ use Rattle.refusal.specs.declared.Refusal.{Refusal}
 use Rattle.refusal.specs.declared.Refusal.the-variants.{BookTooLong}
 use Rattle.refusal.specs.declared.Outcome.the-variants.{Done, Refused}
 use Rattle.refusal.specs.Answer.{Answer, given, refused}
-use Rattle.book.specs.declared.Layout.{Layout}
-use Rattle.book.specs.declared.Reading.{Reading}
 use Rattle.name_section.specs.declared.NameTable.{NameTable}
 use Rattle.block_section.specs.declared.BlockCount.the-variants.{Blocks, Stopped}
 use Rattle.book.specs.Field.{Field}

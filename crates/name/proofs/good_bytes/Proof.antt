@@ -1,15 +1,15 @@
 -- `good_bytes` meets its contract: what is left to test is whether the bytes from i on may stand later.
 -- Assumes nothing.
-use Prim.Native.Nat.{ℕ, zero, suc, _≤_, _<_, _-_, _+_}
-use mathlib.Core.Path.{_≡_, refl, sym, _∙_, ap}
-use mathlib.Core.Bool.{Bool, true, false, _&&_}
+use Prim.Native.Nat.{ℕ, _≤_, _<_, _-_, _+_}
+use mathlib.Core.Path.{_≡_, refl, sym, _∙_}
+use mathlib.Core.Bool.{Bool, true, false}
 use mathlib.Core.List.{List, [], _∷_}
 use native.Mathlib.Omega.{arith}
 use native.Mathlib.Numerals.{add-one}
 use lib.ListN.{length, getD, drop, drop-of-length-le}
 use lib.Seq.{drop-cons}
 use borrow.Author.Needs.{needs}
-use Rattle.name.specs.Class.{classOf, classTable, startByte, laterByte}
+use Rattle.name.specs.Class.{classOf, classTable}
 use Rattle.name.specs.Rule.{allLater, goodBytes}
 use Rattle.name.proofs.Table.{whole-table}
 use Rattle.name.proofs.Classes.{class-start, class-not-start, class-neither, class-later}

@@ -1,7 +1,6 @@
 -- `good_length` meets its contract.
 -- Assumes nothing.
 use borrow.Author.Tests.{le-leb, lt-leb}
-use mathlib.Core.Path.{_≡_, refl}
 use Rattle.name.specs.Rule.{goodLength}
 use Rattle.name.proofs.good_length.Statement.{statement}
 use Rattle.name.proofs.good_length.Tie as tie

@@ -1,19 +1,18 @@
 -- `name_at` meets its contract.
 -- Assumes nothing.
 use Prim.Native.Nat.{ℕ, suc, _+_, _-_, _≤_, _<_}
-use mathlib.Core.Path.{_≡_, refl, sym, _∙_, ap}
+use mathlib.Core.Path.{_≡_, refl, sym, _∙_}
 use mathlib.Core.Bool.{Bool, true, false, not}
-use mathlib.Core.List.{List, [], _∷_}
+use mathlib.Core.List.{List}
 use native.Mathlib.Omega.{arith}
 use native.Mathlib.Numerals.{add-one}
 use lib.ListN.{length, getD, take, drop, length-drop, drop-of-length-le}
 use lib.Seq.{drop-cons}
 use borrow.Author.Tests.{lt-ltb, le-ltb}
 use Rattle.refusal.specs.declared.Refusal.the-variants.{BytesMissing, BadName, NameNotAbove}
-use Rattle.refusal.specs.Answer.{Answer, given, refuseIf}
+use Rattle.refusal.specs.Answer.{given, refuseIf}
 use Rattle.name.specs.Rule.{goodLength, goodBytes}
 use Rattle.name.specs.Order.{rises}
-use Rattle.name_section.specs.declared.NameStep.{NameStep}
 use Rattle.name_section.specs.declared.NameStep.the-variants.{Stopped}
 use Rattle.book.specs.Field.{field, byteOf, bytesOf}
 use Rattle.book.specs.Book.{nameOf}

@@ -1,8 +1,8 @@
 -- `read_names` meets its contract: the names read so far stand in the table, and what is left to read decides the rest of the answer.
 -- Assumes nothing.
-use Prim.Native.Nat.{ℕ, zero, suc, _+_, _-_, _≤_, _<_}
-use mathlib.Core.Path.{_≡_, refl, sym, _∙_, ap}
-use mathlib.Core.List.{List, [], _∷_, _++_}
+use Prim.Native.Nat.{ℕ, suc, _+_, _-_, _≤_, _<_}
+use mathlib.Core.Path.{_≡_, refl, sym, _∙_}
+use mathlib.Core.List.{List, [], _∷_}
 use native.Mathlib.Omega.{arith}
 use native.Mathlib.Numerals.{add-one}
 use lib.ListN.{length, take, drop, set}
@@ -11,13 +11,11 @@ use borrow.Author.Needs.{needs}
 use Rattle.refusal.specs.declared.Refusal.{Refusal}
 use Rattle.refusal.specs.declared.Outcome.the-variants.{Done}
 use Rattle.refusal.specs.Answer.{Answer, given, refused, onward}
-use Rattle.name_section.specs.declared.NameStep.{NameStep}
-use Rattle.name_section.specs.declared.NameStep.the-variants.{Name, Stopped}
 use Rattle.name_section.specs.declared.NameTable.{NameTable}
 use Rattle.book.specs.Field.{Field, field}
 use Rattle.book.specs.Book.{nameOf, namesOf}
-use Rattle.book.specs.Layout.{namesAt, noPlaces, placeTable, placesFrom, endFrom}
-use Rattle.name_section.specs.Tables.{nameStep, nameTable, noNames}
+use Rattle.book.specs.Layout.{noPlaces, placeTable, placesFrom, endFrom}
+use Rattle.name_section.specs.Tables.{nameTable, noNames}
 use Rattle.name_section.proofs.Steps.{NameRead, name-read, name-stopped}
 use Rattle.name_section.proofs.read_names.Statement.{statement}
 use Rattle.name_section.proofs.read_names.Tie as tie

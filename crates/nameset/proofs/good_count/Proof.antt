@@ -1,7 +1,6 @@
 -- `good_count` meets its contract.
 -- Assumes nothing.
 use borrow.Author.Tests.{le-leb, lt-leb}
-use mathlib.Core.Path.{_≡_, refl}
 use Rattle.nameset.specs.Places.{goodCount}
 use Rattle.nameset.proofs.good_count.Statement.{statement}
 use Rattle.nameset.proofs.good_count.Tie as tie
