@@ -24,11 +24,12 @@ unfolding countOf bytesOf
 count-given s at h =
     let l : 2 ≤ length (drop at s) = rw (length-drop at s) (omega arith) in
     let z : at + 0 ≡ at = omega arith in
-    rw
-    (le-ltb (length (drop at s)) 2 l,
-    getD-take 2 (drop at s) 0 0 (lit< tt),
-    getD-take 2 (drop at s) 1 0 (lit< tt),
-    getD-drop at s 0 0,
-    getD-drop at s 1 0,
-    z,
-    drop-drop 2 at s)
+    rw (
+      le-ltb (length (drop at s)) 2 l,
+      getD-take 2 (drop at s) 0 0 (lit< tt),
+      getD-take 2 (drop at s) 1 0 (lit< tt),
+      getD-drop at s 0 0,
+      getD-drop at s 1 0,
+      z,
+      drop-drop 2 at s,
+    )

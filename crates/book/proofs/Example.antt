@@ -47,10 +47,10 @@ block word = record { parent = 1; word = word }
 example :
     bookOf bytes
     ≡ given
-        (record {
-          names = contribution ∷ entry ∷ leaver ∷ member ∷ reason ∷ total ∷ [];
-          blocks = block (3 ∷ 0 ∷ 5 ∷ []) ∷ block (3 ∷ 2 ∷ 4 ∷ []) ∷ block (3 ∷ 0 ∷ 4 ∷ []) ∷ [];
-        })
+    (record {
+      names = contribution ∷ entry ∷ leaver ∷ member ∷ reason ∷ total ∷ [];
+      blocks = block (3 ∷ 0 ∷ 5 ∷ []) ∷ block (3 ∷ 2 ∷ 4 ∷ []) ∷ block (3 ∷ 0 ∷ 4 ∷ []) ∷ [];
+    })
 unfolding contribution entry leaver member reason total bytes block goodCount startByte laterByte between goodLength goodBytes allLater orderOf rises byteOf bytesOf countOf allBelow nameOf namesOf blockOf blocksOf nameSection blockSection bookOf
 example = refl
 

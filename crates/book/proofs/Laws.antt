@@ -74,9 +74,11 @@ book-told s b e = named (check-given (ltb longestBook (length s)) BookTooLong _ 
           names-stand = t .bytes;
           blocks-stand = sym (drop-drop 2 (endFrom 2 (f .value)) s) ∙ ap (drop 2) (z .1) ∙ u .bytes;
         }
+
     blocked : length s ≤ longestBook → (f : Field (List (List ℕ))) → nameSection s ≡ given f →
         ((bs : List Block) × (blockSection (length (f .value)) (f .rest) ≡ given bs) × (given (record { names = f .value; blocks = bs }) ≡ given b)) → BookTold s b
     blocked l f p (bs, q, e) = subst (BookTold s) (given-same _ b e) (whole f bs l p q)
+
     named : ((ltb longestBook (length s) ≡ false) × (onward (nameSection s) (λ names.
         onward (blockSection (length (names .value)) (names .rest)) (λ blocks. given (record { names = names .value; blocks = blocks }))) ≡ given b)) →
         BookTold s b
@@ -108,6 +110,7 @@ one-number before xs r i j hi hj e = go (decLt i j) (decLt j i)
         let s : orderOf a b ≡ Same = ap (orderOf a) (sym p) ∙ same-refl a in
         let z : _≡_ {A = ℕ} 0 1 = cc in
         omega arith
+
     go : Dec (i < j) → Dec (j < i) → i ≡ j
     go (yes h) k = absurd (differ (getD xs i []) (getD xs j []) e (names-rise before xs r i j h hj))
     go (no h) (yes k) = absurd (differ (getD xs j []) (getD xs i []) (sym e) (names-rise before xs r j i k hi))

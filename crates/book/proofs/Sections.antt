@@ -101,6 +101,7 @@ block-section-told n s bs e = counted (onward-given (countOf s) _ bs e)
           bytes = k .rest ∙ t .bytes ∙ ap (blocksBytes (f .value)) none;
           within = t .within;
         })
+
     counted : ((m : Field ℕ) × (countOf s ≡ given m)
         × (onward (blocksOf n (m .value) (m .rest)) (λ blocks. refuseIf (ltb 0 (length (blocks .rest))) BytesLeftOver (given (blocks .value))) ≡ given bs)) →
         BlockSectionTold n s bs

@@ -32,9 +32,10 @@ pub bytes-told : (n : ℕ) (s : List ℕ) (f : Field (List ℕ)) → bytesOf n s
 unfolding bytesOf
 bytes-told n s f e =
     let c = check-given (ltb (length s) n) BytesMissing (given (field (take n s) (drop n s))) f e in
-    let g : field (take n s) (drop n s) ≡ f = given-same (field (take n s) (drop n s)) f (c .1) in
-    (sym (take-append-drop n s) ∙ ap (λ (x : Field (List ℕ)). x .value ++ x .rest) g,
-    ap (λ (x : Field (List ℕ)). length (x .value)) (sym g) ∙ length-take-le n s (ltb-false (length s) n (c .0)))
+    let g : field (take n s) (drop n s) ≡ f = given-same (field (take n s) (drop n s)) f (c .1) in (
+      sym (take-append-drop n s) ∙ ap (λ (x : Field (List ℕ)). x .value ++ x .rest) g,
+      ap (λ (x : Field (List ℕ)). length (x .value)) (sym g) ∙ length-take-le n s (ltb-false (length s) n (c .0)),
+    )
 
 -- a name that was read
 pub record NameTold (before s : List ℕ) (f : Field (List ℕ)) : Type 0 where
@@ -62,6 +63,7 @@ name-told before s f e = sized (onward-given (byteOf s) _ f e)
           good = not-false _ (c .0);
           above = not-false _ (d .0);
         })
+
     sized : ((size : Field ℕ) × (byteOf s ≡ given size)
         × (refuseIf (not (goodLength (size .value))) BadName
         (onward (bytesOf (size .value) (size .rest)) (λ name.
@@ -122,6 +124,7 @@ block-told n s f e = started (onward-given (byteOf s) _ f e)
           parent = below;
           children = not-false _ (c .0);
         })
+
     counted : (p : Field ℕ) → byteOf s ≡ given p → p .value < n →
         ((k : Field ℕ) × (byteOf (p .rest) ≡ given k)
         × (onward (bytesOf (k .value) (k .rest)) (λ w. refuseIf (not (allBelow n (w .value))) NumberNotBelow (given (made (p .value) w))) ≡ given f)) →
@@ -129,6 +132,7 @@ block-told n s f e = started (onward-given (byteOf s) _ f e)
     counted p hp below (k, hk, e) =
         let o = onward-given (bytesOf (k .value) (k .rest)) _ f e in
         ended p k (o .0) hp below hk (o .1) (o .2)
+
     started : ((p : Field ℕ) × (byteOf s ≡ given p)
         × (refuseIf (not (ltb (p .value) n)) NumberNotBelow
         (onward (byteOf (p .rest)) (λ k.

@@ -60,7 +60,12 @@ fn print_case(label: &[u8], bytes: &[u8], text: &[u8]) {
     let reading = book_reading::read_book(bytes);
     let outcome = reading.outcome;
     let layout = reading.layout;
-    print_head(label, refusal::outcome_number(outcome), layout.names, layout.blocks);
+    print_head(
+        label,
+        refusal::outcome_number(outcome),
+        layout.names,
+        layout.blocks,
+    );
     if let Outcome::Done = outcome {
         print_rest(bytes, layout, text);
     }
@@ -118,7 +123,11 @@ fn run(stream: &[u8]) {
         let label = field_end(stream, at);
         let bytes = field_end(stream, label);
         let text = field_end(stream, bytes);
-        print_case(field(stream, at, label), field(stream, label, bytes), field(stream, bytes, text));
+        print_case(
+            field(stream, at, label),
+            field(stream, label, bytes),
+            field(stream, bytes, text),
+        );
         if text <= at {
             return;
         }

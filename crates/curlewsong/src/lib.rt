@@ -93,7 +93,12 @@ pub extern "C" fn curlewsong_accepts_word(names: usize, model: Model, word: &[u8
 
 // Writes the declaration of a parent with a model: 1 to 7, 8, 10, 12.
 #[no_mangle]
-pub extern "C" fn curlewsong_write_declaration(book: &[u8], parent: usize, model: Model, buffer: &mut [u8]) -> LengthReply
+pub extern "C" fn curlewsong_write_declaration(
+    book: &[u8],
+    parent: usize,
+    model: Model,
+    buffer: &mut [u8],
+) -> LengthReply
     ensures { λ r. ⌜ (r ≡ lengthReply (writeAnswer (now (book .entry)) parent model (length (now (buffer .entry)))))
         × (now (buffer .exit) ≡ bufferAfter (now (buffer .entry)) (writeAnswer (now (book .entry)) parent model (length (now (buffer .entry))))) ⌝ }
 {
@@ -102,7 +107,11 @@ pub extern "C" fn curlewsong_write_declaration(book: &[u8], parent: usize, model
 
 // Writes the declaration of a parent with the model from its blocks: 1 to 7, 8, 9, 12.
 #[no_mangle]
-pub extern "C" fn curlewsong_write_from_sample(book: &[u8], parent: usize, buffer: &mut [u8]) -> LengthReply
+pub extern "C" fn curlewsong_write_from_sample(
+    book: &[u8],
+    parent: usize,
+    buffer: &mut [u8],
+) -> LengthReply
     ensures { λ r. ⌜ (r ≡ lengthReply (sampleText (now (book .entry)) parent (length (now (buffer .entry)))))
         × (now (buffer .exit) ≡ bufferAfter (now (buffer .entry)) (sampleText (now (book .entry)) parent (length (now (buffer .entry))))) ⌝ }
 {

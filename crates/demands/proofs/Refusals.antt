@@ -87,9 +87,12 @@ module _ (bytes : List ℕ) (parent : ℕ) (r : Inferred) (call : r ≡ inferred
     where
       to : modelAnswer bytes parent ≡ refused BadParent → (b : Book) × Read bytes b × (length (b .names) ≤ parent)
       to e =
-          let k = late bytes (λ b. modelIn b parent) BadParent refl e in
-          (k .0, k .1, above-law parent (length (k .0 .names)) .0
-          (first-stops BadParent NoBlock NotAChain (omega arith) (omega arith) (chainIn (k .0) parent) (not (ltb parent (length (k .0 .names)))) (noWord (sampleOf (k .0) parent)) false .0 (k .2)))
+          let k = late bytes (λ b. modelIn b parent) BadParent refl e in (
+            k .0,
+            k .1,
+            above-law parent (length (k .0 .names)) .0
+                (first-stops BadParent NoBlock NotAChain (omega arith) (omega arith) (chainIn (k .0) parent) (not (ltb parent (length (k .0 .names)))) (noWord (sampleOf (k .0) parent)) false .0 (k .2)),
+          )
 
       from : (b : Book) × Read bytes b × (length (b .names) ≤ parent) → modelAnswer bytes parent ≡ refused BadParent
       from (b, q, h) = rw (q, le-ltb parent (length (b .names)) h)
@@ -152,9 +155,12 @@ module _ (bytes : List ℕ) (parent : ℕ) (m : Model) (room : ℕ) (r : Written
     where
       to : writeAnswer bytes parent m room ≡ refused BadParent → (b : Book) × Read bytes b × (length (b .names) ≤ parent)
       to e =
-          let k = late bytes next BadParent refl e in
-          (k .0, k .1, above-law parent (length (k .0 .names)) .0
-          (first-stops BadParent NotAChain BufferTooShort (omega arith) (omega arith) (due (k .0)) (not (ltb parent (length (k .0 .names)))) (not (isChain places (length (k .0 .names)) m)) (ltb room (length (due (k .0)))) .0 (k .2)))
+          let k = late bytes next BadParent refl e in (
+            k .0,
+            k .1,
+            above-law parent (length (k .0 .names)) .0
+                (first-stops BadParent NotAChain BufferTooShort (omega arith) (omega arith) (due (k .0)) (not (ltb parent (length (k .0 .names)))) (not (isChain places (length (k .0 .names)) m)) (ltb room (length (due (k .0)))) .0 (k .2)),
+          )
 
       from : (b : Book) × Read bytes b × (length (b .names) ≤ parent) → writeAnswer bytes parent m room ≡ refused BadParent
       from (b, q, h) = rw (q, le-ltb parent (length (b .names)) h)

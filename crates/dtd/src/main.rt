@@ -1,6 +1,8 @@
 // The program of paper 01: reads a book from standard input and prints its declarations, or why it was refused.
 const IN: i32 = 0;
+
 const OUT: i32 = 1;
+
 const ERR: i32 = 2;
 
 fn print(text: &[u8]) {

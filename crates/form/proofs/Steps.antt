@@ -160,7 +160,7 @@ module _ (s : List ℕ) (kind from to : ℕ) (is : kind ≡ kindOf (nextOf (drop
         → stepOf state signal ≡ advance state bw gap (tokenAt s from)
     step-word signal e k g = ⊎-elim
         (λ w.
-            ap (stepOf state) (e ∙ word-signal (tokenAt s from) (take (to - from) (drop from s)) (w .1))
-            ∙ good state bw gap (tokenAt s from) fit (word-good (tokenAt s from) (take (to - from) (drop from s)) (w .1) (w .2 ∙ g)))
+        ap (stepOf state) (e ∙ word-signal (tokenAt s from) (take (to - from) (drop from s)) (w .1))
+        ∙ good state bw gap (tokenAt s from) fit (word-good (tokenAt s from) (take (to - from) (drop from s)) (w .1) (w .2 ∙ g)))
         (λ q. absurd (eqb-false kind 1 (q .5) k))
         (here s kind from to is ends h)

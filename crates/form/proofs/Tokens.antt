@@ -110,10 +110,11 @@ module _ (s : List ℕ) (kind from to : ℕ) (is : kind ≡ kindOf (nextOf (drop
 
   word-here : laterByte (getD s from 0) ≡ true → WordHere
   unfolding tokenAt kindOf
-  word-here e =
-      (kind-first ∙ rw e,
-       rw (size-is, drop-cons s from 0 h) (word-token (getD s from 0) (drop (suc from) s) e),
-       rw (size-is, drop-cons s from 0 h) (name-word (getD s from 0) (drop (suc from) s) e))
+  word-here e = (
+    kind-first ∙ rw e,
+    rw (size-is, drop-cons s from 0 h) (word-token (getD s from 0) (drop (suc from) s) e),
+    rw (size-is, drop-cons s from 0 h) (name-word (getD s from 0) (drop (suc from) s) e),
+  )
 
   sign-here : laterByte (getD s from 0) ≡ false → SignOf kind (tokenAt s from)
   unfolding tokenAt

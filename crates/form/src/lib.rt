@@ -17,6 +17,7 @@ const START: u8 = 2;
 
 // Behind `>`, and nowhere.
 const CLOSED: u8 = 10;
+
 const NOWHERE: u8 = 11;
 
 // The signal of each kind of token: 0 any other byte, 1 a word, 3 `(`, 4 `)`, 5 `,`, 6 `|`, 7 `>`, 8 a mark; 2 is the word `EMPTY`.
@@ -64,7 +65,11 @@ fn word_signal(text: &[u8], from: usize, to: usize) -> u8
     if to - from != 5 {
         return 1;
     }
-    if begins_at(text, from, b"EMPTY") { 2 } else { 1 }
+    if begins_at(text, from, b"EMPTY") {
+        2
+    } else {
+        1
+    }
 }
 
 // The signal of a token that is no word, by its kind.
@@ -79,7 +84,11 @@ fn sign_signal(kind: u8) -> u8
 fn good_word(size: usize, first: u8) -> bool
     ensures { λ r. ⌜ r ≡ (goodLength size && startByte first) ⌝ }
 {
-    if name::good_length(size) { name::class_of(first) == START } else { false }
+    if name::good_length(size) {
+        name::class_of(first) == START
+    } else {
+        false
+    }
 }
 
 // Whether white space stands where it has to, behind a word.
@@ -156,5 +165,9 @@ fn walks(text: &[u8], at: usize) -> bool
 pub fn has_form(text: &[u8]) -> bool
     ensures { λ r. ⌜ r ≡ hasForm (now (text .entry)) ⌝ }
 {
-    if begins_at(text, 0, b"<!ELEMENT") { walks(text, 9) } else { false }
+    if begins_at(text, 0, b"<!ELEMENT") {
+        walks(text, 9)
+    } else {
+        false
+    }
 }

@@ -228,7 +228,7 @@ module _ (size n : ℕ) (fits : size ≤ 255) (few : n ≤ size) where
           let P = names-placed n (f .names) g h (omega arith) (omega (arith, w .0)) (b .0) p in
           let x : withMode (f .mode) h .index ≡ g .index = mode-index (f .mode) h ∙ P .index in
           let free : (y : ℕ) → 0 < total y fs → row (withMode (f .mode) h .factor) y ≡ noFactor
-              = λ y t. ap (λ (l : List ℕ). row l y) (mode-factor (f .mode) h) ∙ P .kept y (omega (arith, o y)) ∙ r y (omega arith) in
+          = λ y t. ap (λ (l : List ℕ). row l y) (mode-factor (f .mode) h) ∙ P .kept y (omega (arith, o y)) ∙ r y (omega arith) in
           let t = others (withMode (f .mode) h) (omega arith) (wide-on f g h w P) (b .1) (λ y. omega (arith, o y)) free in
           (t .0, then-join (placeFactor f g) (placeOthers size fs) (withMode (f .mode) h) (t .0) q (t .1))
 

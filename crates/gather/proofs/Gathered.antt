@@ -61,9 +61,9 @@ module _ (size : ℕ) (fs : List (Factor ℕ)) (k : Rows) (F : Filled 0 fs (repl
   record-filled =
       let p : suc (k .index) ≡ length fs = omega (arith, F .count) in
       let q : valuesFrom 0 size (placeFrom 0 fs) ≡ k .factor
-          = values-is 0 size (placeFrom 0 fs) noFactor (k .factor) (F .places ∙ length-replicate {A = ℕ} size noFactor) (λ x h. ap (placeFrom 0 fs) (zero-add x) ∙ factor-at x) in
+      = values-is 0 size (placeFrom 0 fs) noFactor (k .factor) (F .places ∙ length-replicate {A = ℕ} size noFactor) (λ x h. ap (placeFrom 0 fs) (zero-add x) ∙ factor-at x) in
       let s : valuesFrom 0 size (modeAt fs) ≡ k .mode
-          = values-is 0 size (modeAt fs) 0 (k .mode) (F .modes ∙ length-replicate {A = ℕ} size 0) (λ x h. ap (modeAt fs) (zero-add x) ∙ mode-at x) in
+      = values-is 0 size (modeAt fs) 0 (k .mode) (F .modes ∙ length-replicate {A = ℕ} size 0) (λ x h. ap (modeAt fs) (zero-add x) ∙ mode-at x) in
       sym (λ i. record { count = sym p i; factor = q i; mode = s i })
 
 -- ---- by numbers: 15, else the record
@@ -104,7 +104,7 @@ empty-record : (size : ℕ) → recordOf size [] ≡ emptyModel size
 unfolding emptyModel placeFrom modeAt
 empty-record size =
     let q : valuesFrom 0 size (placeFrom 0 []) ≡ replicate size noFactor
-        = values-is 0 size (placeFrom 0 []) noFactor (replicate size noFactor) (length-replicate {A = ℕ} size noFactor) (λ x h. sym (all-same size x noFactor)) in
+    = values-is 0 size (placeFrom 0 []) noFactor (replicate size noFactor) (length-replicate {A = ℕ} size noFactor) (λ x h. sym (all-same size x noFactor)) in
     let s : valuesFrom 0 size (modeAt []) ≡ replicate size 0 = values-is 0 size (modeAt []) 0 (replicate size 0) (length-replicate {A = ℕ} size 0) (λ x h. sym (all-same size x 0)) in
     λ i. record { count = 0; factor = q i; mode = s i }
 

@@ -1,7 +1,7 @@
 // The declaration of a parent, with the model that its sample gives.
+use super::infer::find_model;
 use declaration::Written;
 use refusal::Outcome;
-use super::infer::find_model;
 ghost use lib.ListN.{length};
 ghost use Rattle.declaration.specs.Write.{Writes};
 ghost use Rattle.intake.specs.Writing.{sampleText};

@@ -1,5 +1,6 @@
 // The model record, the record under construction, and the states of a run through a word.
 mod build; // build.rt: the record under construction
+
 ghost use mathlib.Core.Path.{_≡_};
 ghost use lib.ListN.{getD};
 use nameset::PLACES;

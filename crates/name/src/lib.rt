@@ -9,6 +9,7 @@ const LONGEST: usize = 32;
 
 // The classes that the code asks for: of a byte that no name has, and of one that may start a name.
 const NEITHER: u8 = 0;
+
 const START: u8 = 2;
 
 // The class of each byte value: 0 neither, 1 later only, 2 start.
@@ -107,7 +108,11 @@ pub fn compare(a: &[u8], b: &[u8]) -> Order
         }
         i += 1;
     }
-    if i < b.len() { Order::Below } else { Order::Same }
+    if i < b.len() {
+        Order::Below
+    } else {
+        Order::Same
+    }
 }
 
 // Whether b comes after a, strictly.

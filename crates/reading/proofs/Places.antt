@@ -36,7 +36,7 @@ abbrev Next : List ℕ → ℕ → Type 0
 Next s at =
     ((pieceAt s at .kind ≡ 0) × (tokensAt s at ≡ []) × (tokensAt s (pieceAt s at .to) ≡ []))
     ⊎ ((b : ℕ) × (bs : List ℕ) × (pieceAt s at .kind ≡ kindOf b) × (tokensAt s at ≡ tokenOf (first b bs) ∷ tokensAt s (pieceAt s at .to))
-        × (partOf s (pieceAt s at .from) (pieceAt s at .to) ≡ first b bs))
+    × (partOf s (pieceAt s at .from) (pieceAt s at .to) ≡ first b bs))
 
 pub tokens-over : (s : List ℕ) (at : ℕ) → length s ≤ at → tokensAt s at ≡ []
 unfolding tokensAt cut tokens
@@ -44,10 +44,11 @@ tokens-over s at h = rw (drop-of-length-le s h)
 
 at-end : (s : List ℕ) (at : ℕ) → drop (spaceEnd s at) s ≡ [] → (pieceAt s at .kind ≡ 0) × (tokensAt s at ≡ []) × (tokensAt s (pieceAt s at .to) ≡ [])
 unfolding pieceAt nextOf wordEnd tokenLength tokensAt cut tokens
-at-end s at e =
-    (rw e (sym end-kind),
-     ap (λ (c : Cut). tokens (c .pieces)) (piece-over s at e),
-     rw (e, add-zero (spaceEnd s at), e))
+at-end s at e = (
+  rw e (sym end-kind),
+  ap (λ (c : Cut). tokens (c .pieces)) (piece-over s at e),
+  rw (e, add-zero (spaceEnd s at), e),
+)
 
 at-token : (s : List ℕ) (at b : ℕ) (bs : List ℕ) → drop (spaceEnd s at) s ≡ b ∷ bs →
     (pieceAt s at .kind ≡ kindOf b) × (tokensAt s at ≡ tokenOf (first b bs) ∷ tokensAt s (pieceAt s at .to)) × (partOf s (pieceAt s at .from) (pieceAt s at .to) ≡ first b bs)
@@ -91,22 +92,49 @@ piece-onward s at h = go (runOf isSpace (drop at s)) refl
 known-agrees : (names : List (List ℕ)) → Agree (knownToken names) (knownKind names)
 unfolding knownToken knownKind
 known-agrees names = record {
-  words = λ w. refl; lpars = λ w. refl; rpars = λ w. refl; commas = λ w. refl; bars = λ w. refl; ends = λ w. refl;
-  optionals = λ w. refl; repeats = λ w. refl; anys = λ w. refl; nones = λ b w. refl; others = λ b w. refl;
+  words = λ w. refl;
+  lpars = λ w. refl;
+  rpars = λ w. refl;
+  commas = λ w. refl;
+  bars = λ w. refl;
+  ends = λ w. refl;
+  optionals = λ w. refl;
+  repeats = λ w. refl;
+  anys = λ w. refl;
+  nones = λ b w. refl;
+  others = λ b w. refl;
 }
 
 take-agrees : (size : ℕ) (names : List (List ℕ)) (g : Rows) → Agree (λ t. takeToken size names t g) (λ kind w. takeKind size kind (numberFor names w) g)
 unfolding takeToken takeKind kindMode withMode
 take-agrees size names g = record {
-  words = λ w. refl; lpars = λ w. refl; rpars = λ w. refl; commas = λ w. refl; bars = λ w. refl; ends = λ w. refl;
-  optionals = λ w. refl; repeats = λ w. refl; anys = λ w. refl; nones = λ b w. refl; others = λ b w. refl;
+  words = λ w. refl;
+  lpars = λ w. refl;
+  rpars = λ w. refl;
+  commas = λ w. refl;
+  bars = λ w. refl;
+  ends = λ w. refl;
+  optionals = λ w. refl;
+  repeats = λ w. refl;
+  anys = λ w. refl;
+  nones = λ b w. refl;
+  others = λ b w. refl;
 }
 
 word-agrees : Agree isWord (λ kind w. eqb kind 1)
 unfolding isWord
 word-agrees = record {
-  words = λ w. refl; lpars = λ w. refl; rpars = λ w. refl; commas = λ w. refl; bars = λ w. refl; ends = λ w. refl;
-  optionals = λ w. refl; repeats = λ w. refl; anys = λ w. refl; nones = λ b w. refl; others = λ b w. refl;
+  words = λ w. refl;
+  lpars = λ w. refl;
+  rpars = λ w. refl;
+  commas = λ w. refl;
+  bars = λ w. refl;
+  ends = λ w. refl;
+  optionals = λ w. refl;
+  repeats = λ w. refl;
+  anys = λ w. refl;
+  nones = λ b w. refl;
+  others = λ b w. refl;
 }
 
 known-end : (names : List (List ℕ)) (w : List ℕ) → true ≡ (knownKind names 0 w && true)
@@ -139,7 +167,7 @@ take-next size names s at g = go (next-is s at)
     go (inr (b, bs, k, e, f)) =
         rw (k, e, f)
         (ap (λ (o : Option Rows). andThen o (gatherFrom size names (tokensAt s (pieceAt s at .to))))
-         (token-kind (λ t. takeToken size names t g) (λ kind w. takeKind size kind (numberFor names w) g) (take-agrees size names g) b bs))
+        (token-kind (λ t. takeToken size names t g) (λ kind w. takeKind size kind (numberFor names w) g) (take-agrees size names g) b bs))
 
 pub word-next : (s : List ℕ) (at : ℕ) → beginsWithWord (tokensAt s at) ≡ eqb (pieceAt s at .kind) 1
 unfolding beginsWithWord
@@ -154,8 +182,17 @@ answer-agrees : (size : ℕ) (names : List (List ℕ)) (ts : List Token) →
     Agree (λ t. tokensAnswer size names (t ∷ ts)) (λ kind w. cond (eqb kind 1) (refuseIf (not (known names w)) UnknownName (contentAnswer size names (numberFor names w) ts)) (refused NotADeclaration))
 unfolding tokensAnswer
 answer-agrees size names ts = record {
-  words = λ w. refl; lpars = λ w. refl; rpars = λ w. refl; commas = λ w. refl; bars = λ w. refl; ends = λ w. refl;
-  optionals = λ w. refl; repeats = λ w. refl; anys = λ w. refl; nones = λ b w. refl; others = λ b w. refl;
+  words = λ w. refl;
+  lpars = λ w. refl;
+  rpars = λ w. refl;
+  commas = λ w. refl;
+  bars = λ w. refl;
+  ends = λ w. refl;
+  optionals = λ w. refl;
+  repeats = λ w. refl;
+  anys = λ w. refl;
+  nones = λ b w. refl;
+  others = λ b w. refl;
 }
 
 answer-end : (size : ℕ) (names : List (List ℕ)) → tokensAnswer size names [] ≡ refused NotADeclaration
@@ -165,16 +202,16 @@ answer-end size names = refl
 pub answer-next : (size : ℕ) (names : List (List ℕ)) (s : List ℕ) (at : ℕ) →
     tokensAnswer size names (tokensAt s at)
     ≡ cond (eqb (pieceAt s at .kind) 1)
-        (refuseIf (not (known names (partOf s (pieceAt s at .from) (pieceAt s at .to)))) UnknownName
-          (contentAnswer size names (numberFor names (partOf s (pieceAt s at .from) (pieceAt s at .to))) (tokensAt s (pieceAt s at .to))))
-        (refused NotADeclaration)
+    (refuseIf (not (known names (partOf s (pieceAt s at .from) (pieceAt s at .to)))) UnknownName
+    (contentAnswer size names (numberFor names (partOf s (pieceAt s at .from) (pieceAt s at .to))) (tokensAt s (pieceAt s at .to))))
+    (refused NotADeclaration)
 answer-next size names s at = go (next-is s at)
   where
     go : Next s at → tokensAnswer size names (tokensAt s at)
         ≡ cond (eqb (pieceAt s at .kind) 1)
-            (refuseIf (not (known names (partOf s (pieceAt s at .from) (pieceAt s at .to)))) UnknownName
-              (contentAnswer size names (numberFor names (partOf s (pieceAt s at .from) (pieceAt s at .to))) (tokensAt s (pieceAt s at .to))))
-            (refused NotADeclaration)
+        (refuseIf (not (known names (partOf s (pieceAt s at .from) (pieceAt s at .to)))) UnknownName
+        (contentAnswer size names (numberFor names (partOf s (pieceAt s at .from) (pieceAt s at .to))) (tokensAt s (pieceAt s at .to))))
+        (refused NotADeclaration)
     go (inl (k, e, f)) = rw (k, e) (answer-end size names)
     go (inr (b, bs, k, e, f)) = rw (k, e, f) (token-kind (λ t. tokensAnswer size names (t ∷ tokensAt s (pieceAt s at .to))) _ (answer-agrees size names (tokensAt s (pieceAt s at .to))) b bs)
 

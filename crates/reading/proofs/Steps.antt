@@ -181,7 +181,7 @@ left-start names s at = refl
 
 module _ (names : List (List ℕ)) (s : List ℕ) (i : ℕ) (p : Piece) (is : p ≡ pieceAt s i) (index : ℕ) (factor mode : List ℕ) (inside : index < places)
     (free : Bool) (filled : List ℕ) (placed : (free ≡ freeKind (p .kind) factor (numberFor names (partOf s (p .from) (p .to))))
-      × (filled ≡ factorAfter (p .kind) factor (numberFor names (partOf s (p .from) (p .to))) index) × (length filled ≡ length factor))
+    × (filled ≡ factorAfter (p .kind) factor (numberFor names (partOf s (p .from) (p .to))) index) × (length filled ≡ length factor))
     (m : ℕ) (moded : m ≡ kindMode (p .kind)) (marked : List ℕ) (put : (marked ≡ modeAfter m mode index) × (length marked ≡ length mode))
     (next : ℕ) (nexted : next ≡ indexAfter (p .kind) index) (r : Bool) (fine : r ≡ (free && ltb next places)) where
   left-at : left names s i index factor mode
@@ -251,8 +251,8 @@ module _ (names : List (List ℕ)) (s : List ℕ) (at parent : ℕ) (p : Piece) 
 module _ (names : List (List ℕ)) (s : List ℕ) (at : ℕ) (p : Piece) (is : p ≡ pieceAt s at) where
   answer-at : tokensAnswer places names (tokensAt s at)
       ≡ cond (eqb (p .kind) 1)
-          (refuseIf (not (known names (partOf s (p .from) (p .to)))) UnknownName (contentAnswer places names (numberFor names (partOf s (p .from) (p .to))) (tokensAt s (p .to))))
-          (refused NotADeclaration)
+      (refuseIf (not (known names (partOf s (p .from) (p .to)))) UnknownName (contentAnswer places names (numberFor names (partOf s (p .from) (p .to))) (tokensAt s (p .to))))
+      (refused NotADeclaration)
   answer-at = rw is (answer-next places names s at)
 
   pub tokens-none : (r : Declaration) → (p .kind ≡ 1 → ⊥) → r ≡ declarationOf (noDeclaration NotADeclaration) → r ≡ declarationOf (tokensAnswer places names (tokensAt s at))

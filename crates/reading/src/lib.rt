@@ -46,7 +46,11 @@ fn twice(bytes: &[u8], layout: Layout, text: &[u8], at: usize) -> Declaration
     requires { ⌜ LaidOut (now bytes) layout × (at ≤ length (now text)) ⌝ }
     ensures { λ r. ⌜ r ≡ declarationOf (noDeclaration (twiceOrUnknown (knownTokens (namesIn (now (bytes .entry))) (tokensAt (now (text .entry)) at)))) ⌝ }
 {
-    if lookup::all_known(bytes, layout, text, at) { refused(Refusal::NameTwice) } else { refused(Refusal::UnknownName) }
+    if lookup::all_known(bytes, layout, text, at) {
+        refused(Refusal::NameTwice)
+    } else {
+        refused(Refusal::UnknownName)
+    }
 }
 
 // The factors from a place on: one token after the other, into the rows of the record.

@@ -36,11 +36,11 @@ all-both : (n : ℕ) (f g : ℕ → Bool) → allBelow n (λ k. f k && g k) ≡ 
 all-both n f g =
     same-test (allBelow n (λ k. f k && g k)) (allBelow n f && allBelow n g)
     (λ e. both (allBelow n f) (allBelow n g)
-      (all-law n f .1 (λ k l. and-left (f k) (g k) (all-law n (λ k. f k && g k) .0 e k l)))
-      (all-law n g .1 (λ k l. and-right (f k) (g k) (all-law n (λ k. f k && g k) .0 e k l))))
+    (all-law n f .1 (λ k l. and-left (f k) (g k) (all-law n (λ k. f k && g k) .0 e k l)))
+    (all-law n g .1 (λ k l. and-right (f k) (g k) (all-law n (λ k. f k && g k) .0 e k l))))
     (λ e. all-law n (λ k. f k && g k) .1 (λ k l.
-      both (f k) (g k) (all-law n f .0 (and-left (allBelow n f) (allBelow n g) e) k l)
-      (all-law n g .0 (and-right (allBelow n f) (allBelow n g) e) k l)))
+    both (f k) (g k) (all-law n f .0 (and-left (allBelow n f) (allBelow n g) e) k l)
+    (all-law n g .0 (and-right (allBelow n f) (allBelow n g) e) k l)))
 
 -- ---- an entry counted from 1
 

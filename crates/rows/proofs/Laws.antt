@@ -256,9 +256,9 @@ rows-both rows p q both b law = same-test _ _ there back
         let (k, l, e) = some-is places (λ x. both x && rows x b) .0 t in
         let (u, v) = and-is (both k) (rows k b) .0 e in
         or-is _ _ .1 (⊎-elim
-          (λ w. inl (some-is places (λ x. p x && rows x b) .1 (k, l, and-is (p k) (rows k b) .1 (w, v))))
-          (λ w. inr (some-is places (λ x. q x && rows x b) .1 (k, l, and-is (q k) (rows k b) .1 (w, v))))
-          (or-is (p k) (q k) .0 (sym (law k) ∙ u)))
+        (λ w. inl (some-is places (λ x. p x && rows x b) .1 (k, l, and-is (p k) (rows k b) .1 (w, v))))
+        (λ w. inr (some-is places (λ x. q x && rows x b) .1 (k, l, and-is (q k) (rows k b) .1 (w, v))))
+        (or-is (p k) (q k) .0 (sym (law k) ∙ u)))
 
     part : (r : ℕ → Bool) → ((j : ℕ) → r j ≡ true → both j ≡ true) → anyBelow places (λ x. r x && rows x b) ≡ true → anyBelow places (λ x. both x && rows x b) ≡ true
     part r in-both t =

@@ -115,7 +115,7 @@ unfolding pieceAt wordEnd
 piece-first s at b bs e =
     let q : isSpace b ≡ false = no-space (drop at s) b bs (drop-drop (runOf isSpace (drop at s)) at s ∙ spaced-is s at ∙ e) in
     let d : drop (spaceEnd s at + tokenLength (drop (spaceEnd s at) s)) s ≡ drop (tokenLength (b ∷ bs)) (b ∷ bs)
-        = sym (drop-drop (tokenLength (drop (spaceEnd s at) s)) (spaceEnd s at) s) ∙ ap (λ (t : List ℕ). drop (tokenLength t) t) e in
+    = sym (drop-drop (tokenLength (drop (spaceEnd s at) s)) (spaceEnd s at) s) ∙ ap (λ (t : List ℕ). drop (tokenLength t) t) e in
     behind-spaces s at
     ∙ ap (λ (t : List ℕ). record { gap = ltb at (spaceEnd s at); pieces = cut t .pieces }) e
     ∙ ap (λ (c : Cut). record { gap = ltb at (spaceEnd s at); pieces = c .pieces }) (first-token b bs q)

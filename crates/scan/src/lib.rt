@@ -13,7 +13,9 @@ const END: usize = 256;
 
 // The kinds of a token: the end of the text, a word, and each sign; the marks are 7 to 9.
 const OVER: u8 = 0;
+
 pub const WORD: u8 = 1;
+
 const OTHER: u8 = 10;
 
 // A token of the text: whether white space stands before it, its kind, and the places where it begins and ends.
@@ -28,7 +30,11 @@ pub struct Piece {
 pub fn next_unread(text: &[u8], at: usize) -> usize
     ensures { λ r. ⌜ (r ≡ nextOf (drop at (now (text .entry)))) × (r ≤ endOfText) ⌝ }
 {
-    if at < text.len() { text[at] as usize } else { END }
+    if at < text.len() {
+        text[at] as usize
+    } else {
+        END
+    }
 }
 
 // Whether the next byte is white space.
@@ -43,7 +49,11 @@ fn is_name_byte(classes: &[u8], next: usize) -> bool
     requires { ⌜ (now classes ≡ classTable) × (next ≤ endOfText) ⌝ }
     ensures { λ r. ⌜ r ≡ laterByte next ⌝ }
 {
-    if next < END { name::class_in(classes, next as u8) != 0 } else { false }
+    if next < END {
+        name::class_in(classes, next as u8) != 0
+    } else {
+        false
+    }
 }
 
 // The first place from `at` on that holds no white space.

@@ -98,9 +98,10 @@ module _ (names : List (List ℕ)) (d : Distinct names) where
 
   -- a name is known exactly when it is a name of the book
   pub known-is : (w : List ℕ) → (known names w ≡ true) ↔ ((x : ℕ) × (x < length names) × (nameAt names x ≡ w))
-  known-is w =
-      (λ e. let p = number-is names w e in (numberFor names w, p .0, p .1),
-       λ p. subst (λ (v : List ℕ). known names v ≡ true) (p .2) (name-known (p .0) (p .1)))
+  known-is w = (
+    λ e. let p = number-is names w e in (numberFor names w, p .0, p .1),
+    λ p. subst (λ (v : List ℕ). known names v ≡ true) (p .2) (name-known (p .0) (p .1)),
+  )
 
   numbers-back : (xs : List ℕ) → Below (length names) xs → numbersFor names (namesAt names xs) ≡ xs
   unfolding numbersFor namesAt

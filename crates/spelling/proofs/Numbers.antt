@@ -291,9 +291,12 @@ seen-here m i x g gs f (l, h) = go (times x (g .names)) refl l h
 reorder : (m : Model) (i : ℕ) (gs : List (Factor ℕ)) → i + length gs ≡ m .count → m .count ≤ 255 → ((x : ℕ) → Seen m i gs x) → ((k : ℕ) → modeOf m (i + k) ≡ modeAt gs k) → Reordered m i gs
 unfolding modeAt
 reorder m i [] e f h k = omega arith
-reorder m i (g ∷ gs) e f h k =
-    (omega arith, sym (k 0) ∙ ap (modeOf m) (add-zero i), λ x. seen-here m i x g gs (omega arith) (h x),
-    reorder m (suc i) gs (omega arith) f (λ x. seen-on m i x g gs (h x)) (λ j. let q : suc i + j ≡ i + suc j = omega arith in ap (modeOf m) q ∙ k (suc j)))
+reorder m i (g ∷ gs) e f h k = (
+  omega arith,
+  sym (k 0) ∙ ap (modeOf m) (add-zero i),
+  λ x. seen-here m i x g gs (omega arith) (h x),
+  reorder m (suc i) gs (omega arith) f (λ x. seen-on m i x g gs (h x)) (λ j. let q : suc i + j ≡ i + suc j = omega arith in ap (modeOf m) q ∙ k (suc j)),
+)
 
 -- a factor has a name and a mode
 order-used : (n : ℕ) (m : Model) (i : ℕ) (gs : List (Factor ℕ)) → Reordered m i gs → Full gs → AllBelow n gs → Small gs → (j : ℕ) → i ≤ j → j < m .count

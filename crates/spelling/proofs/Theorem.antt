@@ -43,11 +43,11 @@ form-sound text d e = at-strip (strip opening text) refl e
         let m : Marks (word (k .parent) ∷ bodyTokens (k .factors)) = subst Marks (w .0) (cut-marks t) in
         subst (HasForm text) (some-injective h)
         (record {
-           full = w .1;
-           small = marks-body (k .factors) (m .1);
-           good = g;
-           spelled = record { rest = t; opens = p; spaced = subst (λ (l : List Token). Spells (word opening) l t) (w .0) (cut-sound (word opening) t s) };
-         })
+          full = w .1;
+          small = marks-body (k .factors) (m .1);
+          good = g;
+          spelled = record { rest = t; opens = p; spaced = subst (λ (l : List Token). Spells (word opening) l t) (w .0) (cut-sound (word opening) t s) };
+        })
 
     at-parse : (t : List ℕ) → text ≡ opening ++ t → spaced (word opening) (cut t .gap) (cut t .pieces) ≡ true
         → (o : Option Form) → parse (tokens (cut t .pieces)) ≡ o → keptIf (allForm isName) o ≡ some d → HasForm text d
@@ -92,14 +92,15 @@ module _ (size : ℕ) (names : List (List ℕ)) (G : GoodNames size names) where
       let w = factors-known names (d .factors) (g .1) in
       let fs = numbered names (d .factors) in
       let u = full-numbered names (d .factors) (F .full) in
-      let s = small-numbered names (d .factors) (F .small) in
-      (record {
-         parent = l .0;
-         factors = fs;
-         order = from-order size (length names) (G .small) (G .few) fs u (w .1) s o;
-         spelled = rw (l .1, w .0) (F .spelled);
-       },
-       from-chain size (length names) (G .small) (G .few) fs u (w .1) s o)
+      let s = small-numbered names (d .factors) (F .small) in (
+        record {
+          parent = l .0;
+          factors = fs;
+          order = from-order size (length names) (G .small) (G .few) fs u (w .1) s o;
+          spelled = rw (l .1, w .0) (F .spelled);
+        },
+        from-chain size (length names) (G .small) (G .few) fs u (w .1) s o,
+      )
 
   -- what the reader answers is a chain, and the text is a spelling of it
   pub read-sound : (text : List ℕ) (p : ℕ) (m : Model) → readText size names text ≡ given (declared p m) → Spelled names text p m × IsChain size (length names) m
@@ -127,14 +128,20 @@ module _ (size : ℕ) (names : List (List ℕ)) (G : GoodNames size names) where
       let full = order-full size n (G .small) m c 0 fs (S .order) in
       let small = order-small size n (G .small) m c 0 fs (S .order) in
       let good : allForm isName record { parent = nameAt names p; factors = named names fs } ≡ true
-          = and-is (isName (nameAt names p)) (allFactors isName (named names fs)) .1 (G .good p (S .parent), test-factors names isName (G .good) fs low) in
+      = and-is (isName (nameAt names p)) (allFactors isName (named names fs)) .1 (G .good p (S .parent), test-factors names isName (G .good) fs low) in
       let F : HasForm text record { parent = nameAt names p; factors = named names fs }
-          = record { full = full-named names fs full; small = small-named names fs small; good = good; spelled = S .spelled } in
+      = record { full = full-named names fs full; small = small-named names fs small; good = good; spelled = S .spelled } in
       let k : allForm (known names) record { parent = nameAt names p; factors = named names fs } ≡ true
-          = and-is (known names (nameAt names p)) (allFactors (known names) (named names fs)) .1
-            (name-known names (G .distinct) p (S .parent), test-factors names (known names) (name-known names (G .distinct)) fs low) in
-      rw (form-complete text record { parent = nameAt names p; factors = named names fs } F, k, factors-back names (G .distinct) fs low,
-          order-once size n (G .small) m c fs (S .order), name-number names (G .distinct) p (S .parent), model-back size n (G .small) m c fs (S .order))
+      = and-is (known names (nameAt names p)) (allFactors (known names) (named names fs)) .1
+      (name-known names (G .distinct) p (S .parent), test-factors names (known names) (name-known names (G .distinct)) fs low) in
+      rw (
+        form-complete text record { parent = nameAt names p; factors = named names fs } F,
+        k,
+        factors-back names (G .distinct) fs low,
+        order-once size n (G .small) m c fs (S .order),
+        name-number names (G .distinct) p (S .parent),
+        model-back size n (G .small) m c fs (S .order),
+      )
 
   -- a text is read exactly when it is a spelling of the declaration for what is then answered
   pub read-exactly : (text : List ℕ) (p : ℕ) (m : Model) → (readText size names text ≡ given (declared p m)) ↔ (Spelled names text p m × IsChain size (length names) m)

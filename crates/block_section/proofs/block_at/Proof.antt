@@ -46,9 +46,17 @@ module _ (s : List ℕ) (n at : ℕ) where
         short h =
             let one : suc at ≡ at + 1 = sym (add-one at) in
             let two : suc (at + 1) ≡ at + 1 + 1 = sym (add-one (at + 1)) in
-            rw
-            (drop-cons s at 0 h₁, ← e₁, lt-ltb parent n h₂, one, drop-cons s (at + 1) 0 h₃, ← e₂, two, length-drop (at + 1 + 1) s,
-            lt-ltb (length s - (at + 1 + 1)) size h)
+            rw (
+              drop-cons s at 0 h₁,
+              ← e₁,
+              lt-ltb parent n h₂,
+              one,
+              drop-cons s (at + 1) 0 h₃,
+              ← e₂,
+              two,
+              length-drop (at + 1 + 1) s,
+              lt-ltb (length s - (at + 1 + 1)) size h,
+            )
 
         module _ (h₄ : size ≤ length s - (at + 1 + 1)) (word : List ℕ) (w : word ≡ take (at + 1 + 1 + size - (at + 1 + 1)) (drop (at + 1 + 1) s))
             (below : Bool) (e₃ : below ≡ allBelow n word) where
@@ -60,9 +68,20 @@ module _ (s : List ℕ) (n at : ℕ) where
           bad-child h =
               let one : suc at ≡ at + 1 = sym (add-one at) in
               let two : suc (at + 1) ≡ at + 1 + 1 = sym (add-one (at + 1)) in
-              rw
-              (drop-cons s at 0 h₁, ← e₁, lt-ltb parent n h₂, one, drop-cons s (at + 1) 0 h₃, ← e₂, two, length-drop (at + 1 + 1) s,
-              le-ltb (length s - (at + 1 + 1)) size h₄, same-word, ← e₃, h)
+              rw (
+                drop-cons s at 0 h₁,
+                ← e₁,
+                lt-ltb parent n h₂,
+                one,
+                drop-cons s (at + 1) 0 h₃,
+                ← e₂,
+                two,
+                length-drop (at + 1 + 1) s,
+                le-ltb (length s - (at + 1 + 1)) size h₄,
+                same-word,
+                ← e₃,
+                h,
+              )
 
           whole : below ≡ true → Block size ≡ blockStep (blockOf n (drop at s))
           unfolding blockStep blockOf byteOf bytesOf
@@ -71,9 +90,21 @@ module _ (s : List ℕ) (n at : ℕ) where
               let two : suc (at + 1) ≡ at + 1 + 1 = sym (add-one (at + 1)) in
               let l : size ≤ length (drop (at + 1 + 1) s) = rw (length-drop (at + 1 + 1) s) h₄ in
               let k : length word ≡ size = ap length (sym same-word) ∙ length-take-le size (drop (at + 1 + 1) s) l in
-              rw
-              (drop-cons s at 0 h₁, ← e₁, lt-ltb parent n h₂, one, drop-cons s (at + 1) 0 h₃, ← e₂, two, length-drop (at + 1 + 1) s,
-              le-ltb (length s - (at + 1 + 1)) size h₄, same-word, ← e₃, h, k)
+              rw (
+                drop-cons s at 0 h₁,
+                ← e₁,
+                lt-ltb parent n h₂,
+                one,
+                drop-cons s (at + 1) 0 h₃,
+                ← e₂,
+                two,
+                length-drop (at + 1 + 1) s,
+                le-ltb (length s - (at + 1 + 1)) size h₄,
+                same-word,
+                ← e₃,
+                h,
+                k,
+              )
 
 returns : tie.Need-returns
 returns c = no-parent _ _ _ (c .if1 .taken)

@@ -91,11 +91,11 @@ loop-again c = (
   c .before .before .before .before .before .before .before .before .before .before .before .before .before .before .before .before .before .loop .inv .1,
   c .before .before .before .before .before .before .before .before .before .before .before .before .before .before .before .before .before .loop .inv .2,
   stage-more (c .before .before .before .before .before .before .before .before .before .before .before .before .before .before .before .before .before .loop .inv .1) (c .before .before .before .before .before .before .before .before .before .before .before .before .before .before .before .before .before .loop .inv .0) (c .before .before .before .before .before .before .before .before .before .before .before .before .before .before .before .before .before .loop .inv .3) (c .before .before .before .before .before .before .before .before .before .before .before .before .before .before .before .before .before .loop .inv .2)
-    (some-full _ _ (c .before .before .before .before .before .before .before .before .before .before .before .before .before .before .before .before .is-empty .ensures) (not-true (c .before .before .before .before .before .before .before .before .before .before .before .before .before .before .before .before .is-empty .result) (c .before .before .before .before .before .before .before .before .before .before .before .before .before .before .before .if1 .taken)))
-    _ _ (c .before .before .before .before .before .before .before .before .before .before .before .before .before .next-level .ensures) (c .before .before .before .before .before .before .before .before .before .before .before .before .minus .ensures .members)
-    (c .before .before .before .before .before .before .before .before .before .before .steps-over .result) (skips-view (c .before .before .before .before .before .before .before .before .before .before .before .before .before .before .before .before .before .before .before .before .before .before .before .before .before .before .before .before .before .before .args .t1) (c .before .before .before .before .before .before .before .before .before .before .before .before .before .before .before .before .before .before .before .before .before .before .before .before .before .before .before .before .before .before .args .n) _ _ _ (stepped-over _ _ _ _ _ _ _ _ (c .before .before .before .before .before .before .before .before .before .before .before .before .before .before .before .before .before .loop .inv .4) (c .before .before .before .before .before .before .before .before .before .before .steps-over .ensures)))
-    _ _ (c .before .before .before .before .before .before .before .minus2 .ensures .members) (c .before .before .before .before .before .before .both .ensures .members)
-    _ _ (c .before .before .before .before .before .with-level .ensures) (c .union2 .ensures .members),
+      (some-full _ _ (c .before .before .before .before .before .before .before .before .before .before .before .before .before .before .before .before .is-empty .ensures) (not-true (c .before .before .before .before .before .before .before .before .before .before .before .before .before .before .before .before .is-empty .result) (c .before .before .before .before .before .before .before .before .before .before .before .before .before .before .before .if1 .taken)))
+      _ _ (c .before .before .before .before .before .before .before .before .before .before .before .before .before .next-level .ensures) (c .before .before .before .before .before .before .before .before .before .before .before .before .minus .ensures .members)
+      (c .before .before .before .before .before .before .before .before .before .before .steps-over .result) (skips-view (c .before .before .before .before .before .before .before .before .before .before .before .before .before .before .before .before .before .before .before .before .before .before .before .before .before .before .before .before .before .before .args .t1) (c .before .before .before .before .before .before .before .before .before .before .before .before .before .before .before .before .before .before .before .before .before .before .before .before .before .before .before .before .before .before .args .n) _ _ _ (stepped-over _ _ _ _ _ _ _ _ (c .before .before .before .before .before .before .before .before .before .before .before .before .before .before .before .before .before .loop .inv .4) (c .before .before .before .before .before .before .before .before .before .before .steps-over .ensures)))
+      _ _ (c .before .before .before .before .before .before .before .minus2 .ensures .members) (c .before .before .before .before .before .before .both .ensures .members)
+      _ _ (c .before .before .before .before .before .with-level .ensures) (c .union2 .ensures .members),
   stepped-more (c .before .before .before .before .before .before .before .before .before .before .before .before .before .before .before .before .before .loop .inv .4) _ _ _ _ (c .before .before .rows-of .ensures) (c .before .union .ensures .members) (c .union2 .ensures .members),
 )
 

@@ -143,9 +143,12 @@ loop-less c = omega arith
 loop-again : tie.Need-loop-again Inv-loop μ-loop
 loop-again c =
     let b = c .before .before .before in
-    let t = named c in
-    (omega arith, t .fits, omega arith,
-    b .before .before .before .loop .inv .3 ∙ next _ _ _ _ _ _ _ (b .before .before .loop-test .taken) (b .before .part .ensures) _ t)
+    let t = named c in (
+      omega arith,
+      t .fits,
+      omega arith,
+      b .before .before .before .loop .inv .3 ∙ next _ _ _ _ _ _ _ (b .before .before .loop-test .taken) (b .before .part .ensures) _ t,
+    )
 
 returns-2 : tie.Need-returns-2 Inv-loop μ-loop
 returns-2 c =

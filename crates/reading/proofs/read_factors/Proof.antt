@@ -76,13 +76,14 @@ loop-less : tie.Need-loop-less Inv-loop μ-loop
 loop-less c = let h = onward-to _ _ _ (c .before .before .before .before .before .before .before .before .before .before .before .before .piece-at .ensures .0) (c .before .before .before .before .before .before .before .before .before .before .before .before .before .loop-test .taken) in omega arith
 
 loop-again : tie.Need-loop-again Inv-loop μ-loop
-loop-again c =
-    (c .before .before .before .before .before .before .before .before .before .before .before .before .piece-at .ensures .1,
-    inside-on _ _ _ _ (c .before .before .before .before .before .before .before .before .before .before .before .before .piece-at .ensures .0) _ _ _ (c .before .before .before .before .before .before .before .before .before .before .before .before .before .before .loop .inv .1) _ _ (placed-same _ _ _ _ _ _ _ (number-same _ _ (c .before .before .before .before .before .before .before .before .before .before .before .before .before .before .before .before .before .pre .0) _ _ _ (c .before .before .before .before .before .before .before .before .before .before .before .number-at .ensures .0) (c .before .before .before .before .before .before .before .before .before .before .if1 .left)) (c .before .before .before .before .before .before .before .before .place-piece .ensures)) _ (c .before .before .before .before .before .mode-of .ensures) _ (c .before .before .before .before .put-mode .ensures) _ (c .before .before .next-index .ensures) _ (c .before .fine .ensures) (not-false _ (c .if2 .left)),
-    c .before .before .before .before .before .before .before .before .place-piece .ensures .2 ∙ c .before .before .before .before .before .before .before .before .before .before .before .before .before .before .loop .inv .2,
-    c .before .before .before .before .put-mode .ensures .1 ∙ c .before .before .before .before .before .before .before .before .before .before .before .before .before .before .loop .inv .3,
-    c .before .before .before .before .before .before .before .before .before .before .before .before .before .before .loop .inv .4 ∙ left-on _ _ _ _ (c .before .before .before .before .before .before .before .before .before .before .before .before .piece-at .ensures .0) _ _ _ (c .before .before .before .before .before .before .before .before .before .before .before .before .before .before .loop .inv .1) _ _ (placed-same _ _ _ _ _ _ _ (number-same _ _ (c .before .before .before .before .before .before .before .before .before .before .before .before .before .before .before .before .before .pre .0) _ _ _ (c .before .before .before .before .before .before .before .before .before .before .before .number-at .ensures .0) (c .before .before .before .before .before .before .before .before .before .before .if1 .left)) (c .before .before .before .before .before .before .before .before .place-piece .ensures)) _ (c .before .before .before .before .before .mode-of .ensures) _ (c .before .before .before .before .put-mode .ensures) _ (c .before .before .next-index .ensures) _ (c .before .fine .ensures) (not-false _ (c .if2 .left)),
-    c .before .before .before .before .before .before .before .before .before .before .before .before .before .before .loop .inv .5 ∙ known-on _ _ _ (c .before .before .before .before .before .before .before .before .before .before .before .before .piece-at .ensures .0) _ _ (known-kind _ _ (c .before .before .before .before .before .before .before .before .before .before .before .before .before .before .before .before .before .pre .0) _ _ _ (c .before .before .before .before .before .before .before .before .before .before .before .number-at .ensures .0) (c .before .before .before .before .before .before .before .before .before .before .if1 .left)) refl)
+loop-again c = (
+  c .before .before .before .before .before .before .before .before .before .before .before .before .piece-at .ensures .1,
+  inside-on _ _ _ _ (c .before .before .before .before .before .before .before .before .before .before .before .before .piece-at .ensures .0) _ _ _ (c .before .before .before .before .before .before .before .before .before .before .before .before .before .before .loop .inv .1) _ _ (placed-same _ _ _ _ _ _ _ (number-same _ _ (c .before .before .before .before .before .before .before .before .before .before .before .before .before .before .before .before .before .pre .0) _ _ _ (c .before .before .before .before .before .before .before .before .before .before .before .number-at .ensures .0) (c .before .before .before .before .before .before .before .before .before .before .if1 .left)) (c .before .before .before .before .before .before .before .before .place-piece .ensures)) _ (c .before .before .before .before .before .mode-of .ensures) _ (c .before .before .before .before .put-mode .ensures) _ (c .before .before .next-index .ensures) _ (c .before .fine .ensures) (not-false _ (c .if2 .left)),
+  c .before .before .before .before .before .before .before .before .place-piece .ensures .2 ∙ c .before .before .before .before .before .before .before .before .before .before .before .before .before .before .loop .inv .2,
+  c .before .before .before .before .put-mode .ensures .1 ∙ c .before .before .before .before .before .before .before .before .before .before .before .before .before .before .loop .inv .3,
+  c .before .before .before .before .before .before .before .before .before .before .before .before .before .before .loop .inv .4 ∙ left-on _ _ _ _ (c .before .before .before .before .before .before .before .before .before .before .before .before .piece-at .ensures .0) _ _ _ (c .before .before .before .before .before .before .before .before .before .before .before .before .before .before .loop .inv .1) _ _ (placed-same _ _ _ _ _ _ _ (number-same _ _ (c .before .before .before .before .before .before .before .before .before .before .before .before .before .before .before .before .before .pre .0) _ _ _ (c .before .before .before .before .before .before .before .before .before .before .before .number-at .ensures .0) (c .before .before .before .before .before .before .before .before .before .before .if1 .left)) (c .before .before .before .before .before .before .before .before .place-piece .ensures)) _ (c .before .before .before .before .before .mode-of .ensures) _ (c .before .before .before .before .put-mode .ensures) _ (c .before .before .next-index .ensures) _ (c .before .fine .ensures) (not-false _ (c .if2 .left)),
+  c .before .before .before .before .before .before .before .before .before .before .before .before .before .before .loop .inv .5 ∙ known-on _ _ _ (c .before .before .before .before .before .before .before .before .before .before .before .before .piece-at .ensures .0) _ _ (known-kind _ _ (c .before .before .before .before .before .before .before .before .before .before .before .before .before .before .before .before .before .pre .0) _ _ _ (c .before .before .before .before .before .before .before .before .before .before .before .number-at .ensures .0) (c .before .before .before .before .before .before .before .before .before .before .if1 .left)) refl,
+)
 
 add-t24 : tie.Need-add-t24 Inv-loop μ-loop
 add-t24 c = search needs

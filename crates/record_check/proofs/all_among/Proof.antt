@@ -44,7 +44,7 @@ loop-again c =
     let a = c .before .before .before .before .before .before .args in
     let l = c .before .before .before .before .loop in
     let v : leb (c .before .counted .result) (a .count) ≡ mayHold (a .count) true (getD (a .factor .now) (l .x) none) =
-        c .before .counted .ensures (a .count) ∙ ap (mayHold (a .count) true) (c .before .before .entry .ensures) in
+    c .before .counted .ensures (a .count) ∙ ap (mayHold (a .count) true) (c .before .before .entry .ensures) in
     (omega arith, search needs, rw (c .larger .ensures) (among-more (a .count) (a .factor .now) (a .from) (l .x) (l .top) (c .before .counted .result) (l .inv .0) (l .inv .2) v))
 
 cast-result : tie.Need-cast-result Inv-loop μ-loop
