@@ -1,7 +1,7 @@
 #!/usr/bin/env python3
 """The cases of the program book_test: books on both sides of each limit of paper 01, with what is due of each.
 
-Without an argument it writes crates/book_test/stdin and stdout; with --check it says whether they are as written here.
+Without an argument it writes crates/test_book/stdin and stdout; with --check it says whether they are as written here.
 """
 import pathlib
 import sys
@@ -131,7 +131,7 @@ def main():
     if sys.argv[1:] == ["--check"]:
         stale = [f for f, want in files.items() if not (FOLDER / f).is_file() or (FOLDER / f).read_bytes() != want]
         for f in stale:
-            print(f"crates/book_test/{f} is not what tests/book_cases.py writes")
+            print(f"crates/test_book/{f} is not what tests/book_cases.py writes")
         sys.exit(1 if stale else 0)
     for f, want in files.items():
         (FOLDER / f).write_bytes(want)

@@ -1,7 +1,7 @@
 #!/usr/bin/env python3
 """The cases of the program reading_cases: declarations read by the book of the names EMPTY, a, b, c and d, with what is due of each.
 
-The reader here is written from paper 01 alone. Without an argument it writes crates/reading_cases/stdin and stdout; with --check it says whether they
+The reader here is written from paper 01 alone. Without an argument it writes crates/test_reading/stdin and stdout; with --check it says whether they
 are as written here.
 """
 import pathlib

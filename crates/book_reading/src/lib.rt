@@ -1,9 +1,9 @@
 // A book read: its length, then its two sections.
-use block_section::BlockCount;
-use block_section::block_section;
 use book::Layout;
 use book::Reading;
-use name_section::name_section;
+use book_blocks::BlockCount;
+use book_blocks::block_section;
+use book_names::name_section;
 use nameset::PLACES;
 use refusal::Outcome;
 use refusal::Refusal;

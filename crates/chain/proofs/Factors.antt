@@ -14,11 +14,11 @@ use Rattle.nameset.specs.Set.{member, first}
 use Rattle.nameset.specs.Promise.{Emptiness}
 use Rattle.model.specs.declared.Model.{Model}
 use Rattle.model.specs.Build.{withFactor}
-use Rattle.levels.specs.Below.{anyBelow, countBelow}
-use Rattle.levels.proofs.Tests.{and-is}
-use Rattle.levels.proofs.Below.{count-more}
-use Rattle.peel.proofs.Counting.{appended}
-use Rattle.rows.specs.Rows.{groupIn}
+use Rattle.chain_levels.specs.Below.{anyBelow, countBelow}
+use Rattle.chain_levels.proofs.Tests.{and-is}
+use Rattle.chain_levels.proofs.Below.{count-more}
+use Rattle.chain_peel.proofs.Counting.{appended}
+use Rattle.chain_rows.specs.Rows.{groupIn}
 use Rattle.chain.specs.Chain.{holdsIn, factors, withAny, withEach, withBoth}
 use Rattle.chain.proofs.Sets.{some-empty, some-full}
 

@@ -20,15 +20,15 @@ use Rattle.model.proofs.Tests.{same-test}
 use Rattle.follow.specs.Follow.{Follow}
 use Rattle.follow.specs.View.{viewOf}
 use Rattle.follow.specs.declared.Facts.{Facts}
-use Rattle.levels.specs.Below.{anyBelow, countBelow}
-use Rattle.levels.specs.Reach.{reachBy, reaches, occurs}
-use Rattle.peel.specs.Shown.{Shown}
-use Rattle.peel.specs.Sets.{meets, inRows, stepsOver}
-use Rattle.levels.proofs.Tests.{and-is, or-is, ltb-is, some-is, refuted, both-ways}
-use Rattle.levels.proofs.Below.{some-count}
-use Rattle.peel.proofs.Reaching.{edge-follows}
-use Rattle.rows.specs.Rows.{inWord, inRow, Round, amongRows}
-use Rattle.rows.proofs.Laws.{rows-none, rows-both}
+use Rattle.chain_levels.specs.Below.{anyBelow, countBelow}
+use Rattle.chain_levels.specs.Reach.{reachBy, reaches, occurs}
+use Rattle.chain_peel.specs.Shown.{Shown}
+use Rattle.chain_peel.specs.Sets.{meets, inRows, stepsOver}
+use Rattle.chain_levels.proofs.Tests.{and-is, or-is, ltb-is, some-is, refuted, both-ways}
+use Rattle.chain_levels.proofs.Below.{some-count}
+use Rattle.chain_peel.proofs.Reaching.{edge-follows}
+use Rattle.chain_rows.specs.Rows.{inWord, inRow, Round, amongRows}
+use Rattle.chain_rows.proofs.Laws.{rows-none, rows-both}
 use Rattle.chain.specs.Chain.{Reached, factors}
 
 -- ---- reach

@@ -17,21 +17,21 @@ use Rattle.model.proofs.Tests.{same-test}
 use Rattle.follow.specs.Follow.{Follow}
 use Rattle.follow.specs.View.{viewOf}
 use Rattle.follow.specs.declared.Facts.{Facts}
-use Rattle.levels.specs.Below.{anyBelow, countBelow, firstBelow}
-use Rattle.levels.specs.Reach.{reaches, sameGroup, loops, leads, occurs}
-use Rattle.levels.specs.Level.{isBefore, levelOf, lastLevel, skipped}
-use Rattle.levels.specs.Chain.{singleAt, leadsAt, factorsAt, fixed, singlesMode, groupMode, withSingles, withGroups, withLevel, chainTo, chainOf}
-use Rattle.peel.specs.Shown.{Shown}
-use Rattle.peel.specs.Sets.{isLower, isAt, isHigher, inRows, stepsOver}
-use Rattle.levels.proofs.Tests.{and-is, not-is, eqb-is, some-is, some-within, refuted, both-ways}
-use Rattle.levels.proofs.Below.{first-le, first-is, count-past, count-lt}
-use Rattle.levels.proofs.Reach.{reaches-below, group-is}
-use Rattle.peel.proofs.Reaching.{occurs-small}
-use Rattle.peel.proofs.Peel.{at-is, higher-is, higher-first, lower-first, higher-next, lower-next, single-at, leads-at, peel, level-left, level-none, level-found}
-use Rattle.peel.proofs.Skips.{skipped-law}
-use Rattle.peel.proofs.Counting.{level-room}
-use Rattle.rows.specs.Rows.{inWord, inRow, OneWay, groupIn, smallestIn, leadsIn}
-use Rattle.rows.proofs.Laws.{group-law}
+use Rattle.chain_levels.specs.Below.{anyBelow, countBelow, firstBelow}
+use Rattle.chain_levels.specs.Reach.{reaches, sameGroup, loops, leads, occurs}
+use Rattle.chain_levels.specs.Level.{isBefore, levelOf, lastLevel, skipped}
+use Rattle.chain_levels.specs.Chain.{singleAt, leadsAt, factorsAt, fixed, singlesMode, groupMode, withSingles, withGroups, withLevel, chainTo, chainOf}
+use Rattle.chain_peel.specs.Shown.{Shown}
+use Rattle.chain_peel.specs.Sets.{isLower, isAt, isHigher, inRows, stepsOver}
+use Rattle.chain_levels.proofs.Tests.{and-is, not-is, eqb-is, some-is, some-within, refuted, both-ways}
+use Rattle.chain_levels.proofs.Below.{first-le, first-is, count-past, count-lt}
+use Rattle.chain_levels.proofs.Reach.{reaches-below, group-is}
+use Rattle.chain_peel.proofs.Reaching.{occurs-small}
+use Rattle.chain_peel.proofs.Peel.{at-is, higher-is, higher-first, lower-first, higher-next, lower-next, single-at, leads-at, peel, level-left, level-none, level-found}
+use Rattle.chain_peel.proofs.Skips.{skipped-law}
+use Rattle.chain_peel.proofs.Counting.{level-room}
+use Rattle.chain_rows.specs.Rows.{inWord, inRow, OneWay, groupIn, smallestIn, leadsIn}
+use Rattle.chain_rows.proofs.Laws.{group-law}
 use Rattle.chain.specs.Chain.{Reached, holdsIn, factors, withAny, withEach, withBoth}
 use Rattle.chain.proofs.Factors.{each-upto}
 

@@ -10,9 +10,9 @@ use Rattle.nameset.specs.Set.{member}
 use Rattle.model.specs.declared.Model.{Model}
 use Rattle.model.specs.Build.{withFactor}
 use Rattle.follow.specs.Follow.{Follow}
-use Rattle.levels.specs.Below.{anyBelow, countBelow}
-use Rattle.levels.specs.Reach.{reaches}
-use Rattle.rows.specs.Rows.{inRow, groupIn}
+use Rattle.chain_levels.specs.Below.{anyBelow, countBelow}
+use Rattle.chain_levels.specs.Reach.{reaches}
+use Rattle.chain_rows.specs.Rows.{inRow, groupIn}
 
 -- The rows keep what each name reaches.
 pub record Reached (f : Follow) (rows : List ℕ) : Type 0 where

@@ -5,25 +5,25 @@ ghost use Prim.Native.Nat.{ℕ, _+_, _≤_, _<_};
 ghost use lib.Dec.{eqb};
 ghost use Rattle.nameset.specs.Places.{places};
 ghost use Rattle.nameset.specs.Set.{member};
-ghost use Rattle.levels.specs.Below.{anyBelow, countBelow};
-ghost use Rattle.levels.specs.Reach.{occurs};
-ghost use Rattle.levels.specs.Chain.{chainOf};
+ghost use Rattle.chain_levels.specs.Below.{anyBelow, countBelow};
+ghost use Rattle.chain_levels.specs.Reach.{occurs};
+ghost use Rattle.chain_levels.specs.Chain.{chainOf};
 ghost use Rattle.follow.specs.View.{viewOf};
-ghost use Rattle.peel.specs.Shown.{Shown};
-ghost use Rattle.peel.specs.Sets.{meets, inRows};
-ghost use Rattle.rows.specs.Rows.{inRow};
+ghost use Rattle.chain_peel.specs.Shown.{Shown};
+ghost use Rattle.chain_peel.specs.Sets.{meets, inRows};
+ghost use Rattle.chain_rows.specs.Rows.{inRow};
 ghost use Rattle.chain.specs.Chain.{Reached, holdsIn, factors, withAny, withEach, withBoth};
+use chain_rows::group;
+use chain_rows::leaders;
+use chain_rows::one_way;
+use chain_rows::own;
+use chain_rows::round;
+use chain_rows::rows_of;
+use chain_rows::with_rows;
 use follow::Facts;
 use model::Model;
 use nameset::NameSet;
 use nameset::PLACES;
-use rows::group;
-use rows::leaders;
-use rows::one_way;
-use rows::own;
-use rows::round;
-use rows::rows_of;
-use rows::with_rows;
 
 // What each name reaches.
 pub fn reach_rows(facts: Facts, n: usize) -> [u64; PLACES]

@@ -12,10 +12,10 @@ use Rattle.refusal.specs.Answer.{Answer, given, refused, outcomeNumber}
 use Rattle.refusal.proofs.Answers.{given-refused, refused-same}
 use Rattle.refusal.proofs.Laws.{number-injective, number-positive}
 use Rattle.model.specs.declared.Model.{Model}
-use Rattle.declaration.specs.declared.Written.{Written}
-use Rattle.declaration.specs.Write.{written}
-use Rattle.reading.specs.declared.Declaration.{Declaration}
-use Rattle.reading.specs.Read.{readAnswer, declarationOf, ReadsDeclaration}
+use Rattle.declaration_writing.specs.declared.Written.{Written}
+use Rattle.declaration_writing.specs.Write.{written}
+use Rattle.declaration_reading.specs.declared.Declaration.{Declaration}
+use Rattle.declaration_reading.specs.Read.{readAnswer, declarationOf, ReadsDeclaration}
 use Rattle.intake.specs.declared.Acceptance.{Acceptance}
 use Rattle.intake.specs.declared.Acceptance.the-variants.{Yes, No, Refused}
 use Rattle.intake.specs.declared.Inferred.{Inferred}

@@ -6,10 +6,10 @@ use mathlib.Core.List.{List}
 use Rattle.refusal.specs.Answer.{Answer, valueOr, outcomeOf, outcomeNumber}
 use Rattle.model.specs.declared.Model.{Model}
 use Rattle.model.specs.Record.{dueModel}
-use Rattle.spelling.specs.Read.{Declared}
-use Rattle.declaration.specs.declared.Written.{Written}
-use Rattle.declaration.specs.Write.{lengthDue}
-use Rattle.reading.specs.Read.{parentDue, modelDue}
+use Rattle.declaration_spelling.specs.Read.{Declared}
+use Rattle.declaration_writing.specs.declared.Written.{Written}
+use Rattle.declaration_writing.specs.Write.{lengthDue}
+use Rattle.declaration_reading.specs.Read.{parentDue, modelDue}
 use Rattle.intake.specs.declared.Acceptance.{Acceptance}
 use Rattle.intake.specs.Acceptance.{acceptanceNumber, acceptanceYes, yesDue}
 use Rattle.curlewsong.specs.declared.ModelReply.{ModelReply}

@@ -1,11 +1,11 @@
 // The calls for C and Rust, as include/curlewsong.h declares them: each is a call open to the outside, its refusal as a number.
-use declaration::Written;
+use declaration_writing::Written;
 use intake::Acceptance;
 use model::Model;
 ghost use mathlib.Core.Path.{_≡_};
 ghost use lib.ListN.{length};
-ghost use Rattle.declaration.specs.Write.{bufferAfter, writeAnswer};
-ghost use Rattle.reading.specs.Read.{readAnswer};
+ghost use Rattle.declaration_writing.specs.Write.{bufferAfter, writeAnswer};
+ghost use Rattle.declaration_reading.specs.Read.{readAnswer};
 ghost use Rattle.intake.specs.Acceptance.{answerOf};
 ghost use Rattle.intake.specs.Inference.{modelAnswer};
 ghost use Rattle.intake.specs.Writing.{sampleText};

@@ -7,10 +7,10 @@ use native.Mathlib.Omega.{arith}
 use lib.ListN.{length}
 use borrow.Author.Tests.{ne-eqb}
 use Rattle.model.specs.declared.Model.{Model}
-use Rattle.spelling.specs.House.{nameAt, opening, emptyWord}
-use Rattle.putting.specs.Put.{Put, shown}
-use Rattle.putting.proofs.Puts.{Left, left-start, left-is, left-put, left-room, left-fits, left-done, left-last, put-is}
-use Rattle.factor_text.specs.Parts.{beforeByte, partText, factorsText, modelText, textOf}
+use Rattle.declaration_spelling.specs.House.{nameAt, opening, emptyWord}
+use Rattle.byte_buffer.specs.Put.{Put, shown}
+use Rattle.byte_buffer.proofs.Puts.{Left, left-start, left-is, left-put, left-room, left-fits, left-done, left-last, put-is}
+use Rattle.declaration_factor.specs.Parts.{beforeByte, partText, factorsText, modelText, textOf}
 
 -- ---- the factors
 

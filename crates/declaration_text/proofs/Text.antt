@@ -11,14 +11,14 @@ use borrow.Author.Tests.{lt-ltb, ne-eqb}
 use Rattle.nameset.specs.Places.{places}
 use Rattle.model.specs.declared.Model.{Model}
 use Rattle.model.specs.Record.{modeOf, IsChain}
-use Rattle.spelling.specs.Token.{markByte}
-use Rattle.spelling.specs.House.{members, factorsFrom, factorsOf, nameAt, namesAt, named, opening, emptyWord, markText, barsText, groupText, factorText, othersText, bodyText, houseText, declaration}
-use Rattle.spelling.specs.Stops.{Full}
-use Rattle.spelling.proofs.House.{house-order}
-use Rattle.spelling.proofs.Numbers.{order-full}
-use Rattle.putting.specs.Put.{shown}
-use Rattle.factor_text.specs.Parts.{leadByte, closeByte, modeByte, beforeByte, leads, manyIn, partText, factorsText, modelText, textOf}
-use Rattle.factor_text.proofs.Rising.{names-leads}
+use Rattle.declaration_spelling.specs.Token.{markByte}
+use Rattle.declaration_spelling.specs.House.{members, factorsFrom, factorsOf, nameAt, namesAt, named, opening, emptyWord, markText, barsText, groupText, factorText, othersText, bodyText, houseText, declaration}
+use Rattle.declaration_spelling.specs.Stops.{Full}
+use Rattle.declaration_spelling.proofs.House.{house-order}
+use Rattle.declaration_spelling.proofs.Numbers.{order-full}
+use Rattle.byte_buffer.specs.Put.{shown}
+use Rattle.declaration_factor.specs.Parts.{leadByte, closeByte, modeByte, beforeByte, leads, manyIn, partText, factorsText, modelText, textOf}
+use Rattle.declaration_factor.proofs.Rising.{names-leads}
 
 bars-leads : (xs : List (List ℕ)) (after : List ℕ) → barsText xs after ≡ leads true true xs ++ (41 ∷ after)
 unfolding barsText leads shown leadByte

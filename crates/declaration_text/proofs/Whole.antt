@@ -12,12 +12,12 @@ use Rattle.book.specs.Access.{LaidOut}
 use Rattle.book.proofs.Laws.{name-count}
 use Rattle.model.specs.declared.Model.{Model}
 use Rattle.model.specs.Record.{IsChain}
-use Rattle.spelling.specs.House.{declaration}
-use Rattle.spelling.specs.Length.{longestDeclaration}
-use Rattle.spelling.proofs.Books.{book-longest}
-use Rattle.putting.specs.Put.{Put}
-use Rattle.putting.proofs.Puts.{put-is}
-use Rattle.factor_text.specs.Parts.{textOf}
+use Rattle.declaration_spelling.specs.House.{declaration}
+use Rattle.declaration_spelling.specs.Length.{longestDeclaration}
+use Rattle.declaration_spelling.proofs.Books.{book-longest}
+use Rattle.byte_buffer.specs.Put.{Put}
+use Rattle.byte_buffer.proofs.Puts.{put-is}
+use Rattle.declaration_factor.specs.Parts.{textOf}
 use Rattle.declaration_text.proofs.Text.{text-is}
 
 module _ (s : List ℕ) (l : Layout) (laid : LaidOut s l) (p : ℕ) (below : p < l .names) (m : Model) (c : IsChain places (l .names) m) where

@@ -1,12 +1,12 @@
 // The text of a declaration, put into a lent buffer.
 use book::Layout;
-use factor_names::factor_rows;
-use factor_text::put_factor;
-use factor_text::put_name;
+use byte_buffer::put_all;
+use byte_buffer::put_some;
+use declaration_factor::put_factor;
+use declaration_factor::put_name;
 use model::Model;
+use model_factors::factor_rows;
 use nameset::NameSet;
-use putting::put_all;
-use putting::put_some;
 ghost use mathlib.Core.Path.{_≡_};
 ghost use Prim.Native.Nat.{_+_, _≤_, _<_};
 ghost use lib.ListN.{length};
@@ -14,9 +14,9 @@ ghost use Rattle.nameset.specs.Places.{places};
 ghost use Rattle.book.specs.Book.{namesIn};
 ghost use Rattle.book.specs.Access.{LaidOut};
 ghost use Rattle.model.specs.Record.{IsChain};
-ghost use Rattle.spelling.specs.House.{declaration};
-ghost use Rattle.putting.specs.Put.{Put};
-ghost use Rattle.factor_text.specs.Parts.{beforeByte, factorsText, modelText, textOf};
+ghost use Rattle.declaration_spelling.specs.House.{declaration};
+ghost use Rattle.byte_buffer.specs.Put.{Put};
+ghost use Rattle.declaration_factor.specs.Parts.{beforeByte, factorsText, modelText, textOf};
 
 // What stands before factor i.
 fn before(i: usize) -> u8

@@ -21,23 +21,23 @@ use Rattle.book.proofs.Stops.{book-refused}
 use Rattle.model.specs.declared.Model.{Model}
 use Rattle.model.specs.Record.{IsChain, emptyModel, dueModel}
 use Rattle.model.specs.Accept.{Accepts, Names}
-use Rattle.language.specs.Word.{AcceptsAll}
+use Rattle.model_language.specs.Word.{AcceptsAll}
 use Rattle.follow.specs.Follow.{followOf}
 use Rattle.follow.specs.Sample.{SameWords}
-use Rattle.levels.specs.Chain.{chainOf}
-use Rattle.sample.specs.Sample.{chainOfWords}
-use Rattle.spelling.specs.House.{declaration}
-use Rattle.spelling.specs.Length.{longestDeclaration}
-use Rattle.spelling.specs.Spelled.{Spelled}
-use Rattle.spelling.specs.Form.{Form, allForm}
-use Rattle.spelling.specs.Stops.{HasForm}
-use Rattle.spelling.specs.Read.{known, numbered, total}
-use Rattle.declaration.specs.declared.Written.{Written}
-use Rattle.declaration.specs.Write.{writeAnswer, Writes, written}
-use Rattle.reading.specs.declared.Declaration.{Declaration}
-use Rattle.reading.specs.Read.{ReadsDeclaration}
-use Rattle.reading.proofs.Theorem as Reading
-use Rattle.reading.proofs.Theorem.{IsBook, Reads}
+use Rattle.chain_levels.specs.Chain.{chainOf}
+use Rattle.chain_sample.specs.Sample.{chainOfWords}
+use Rattle.declaration_spelling.specs.House.{declaration}
+use Rattle.declaration_spelling.specs.Length.{longestDeclaration}
+use Rattle.declaration_spelling.specs.Spelled.{Spelled}
+use Rattle.declaration_spelling.specs.Form.{Form, allForm}
+use Rattle.declaration_spelling.specs.Stops.{HasForm}
+use Rattle.declaration_spelling.specs.Read.{known, numbered, total}
+use Rattle.declaration_writing.specs.declared.Written.{Written}
+use Rattle.declaration_writing.specs.Write.{writeAnswer, Writes, written}
+use Rattle.declaration_reading.specs.declared.Declaration.{Declaration}
+use Rattle.declaration_reading.specs.Read.{ReadsDeclaration}
+use Rattle.declaration_reading.proofs.Theorem as Reading
+use Rattle.declaration_reading.proofs.Theorem.{IsBook, Reads}
 use Rattle.intake.specs.declared.Acceptance.{Acceptance}
 use Rattle.intake.specs.declared.Acceptance.the-variants.{Yes, Refused as Stopped}
 use Rattle.intake.specs.declared.Inferred.{Inferred}

@@ -1,5 +1,5 @@
 -- Demand 1: each refusal is given for its condition and for no other. One law for each number of each call, one for 1 to 7, which are those of `bookOf`, and one that says that
--- no other number is given; the laws of reading a declaration stand in crates/reading/proofs/Theorem.antt. Demands.antt has their statements together.
+-- no other number is given; the laws of reading a declaration stand in crates/declaration_reading/proofs/Theorem.antt. Demands.antt has their statements together.
 -- Assumes nothing.
 use Prim.Native.Nat.{ℕ, _≤_, _<_}
 use mathlib.Core.Path.{_≡_, refl, sym, _∙_, ap}
@@ -24,9 +24,9 @@ use Rattle.model.specs.Check.{isChain}
 use Rattle.model.specs.Accept.{Names}
 use Rattle.model.specs.Run.{accepts}
 use Rattle.model.proofs.Chain.{chain-law}
-use Rattle.spelling.specs.House.{declaration}
-use Rattle.declaration.specs.declared.Written.{Written}
-use Rattle.declaration.specs.Write.{fitted, writeAnswer, written}
+use Rattle.declaration_spelling.specs.House.{declaration}
+use Rattle.declaration_writing.specs.declared.Written.{Written}
+use Rattle.declaration_writing.specs.Write.{fitted, writeAnswer, written}
 use Rattle.intake.specs.declared.Acceptance.{Acceptance}
 use Rattle.intake.specs.declared.Acceptance.the-variants.{Refused as Stopped}
 use Rattle.intake.specs.declared.Inferred.{Inferred}

@@ -16,13 +16,13 @@ use Rattle.book.specs.Book.{Book, bookOf}
 use Rattle.model.specs.declared.Model.{Model}
 use Rattle.model.specs.Record.{IsChain, dueModel}
 use Rattle.model.proofs.Chain.{chain-law}
-use Rattle.declaration.specs.declared.Written.{Written}
-use Rattle.declaration.specs.Write.{writeAnswer, lengthDue, written, bufferAfter, Writes}
-use Rattle.putting.proofs.Puts.{wrote-back}
-use Rattle.declaration.proofs.Back.{text-due, buffer-due, buffer-kept}
-use Rattle.reading.specs.declared.Declaration.{Declaration}
-use Rattle.reading.specs.Read.{ReadsDeclaration}
-use Rattle.reading.proofs.Theorem.{Reads, read-written}
+use Rattle.declaration_writing.specs.declared.Written.{Written}
+use Rattle.declaration_writing.specs.Write.{writeAnswer, lengthDue, written, bufferAfter, Writes}
+use Rattle.byte_buffer.proofs.Puts.{wrote-back}
+use Rattle.declaration_writing.proofs.Back.{text-due, buffer-due, buffer-kept}
+use Rattle.declaration_reading.specs.declared.Declaration.{Declaration}
+use Rattle.declaration_reading.specs.Read.{ReadsDeclaration}
+use Rattle.declaration_reading.proofs.Theorem.{Reads, read-written}
 use Rattle.intake.specs.declared.Inferred.{Inferred}
 use Rattle.intake.specs.Inference.{modelIn, modelAnswer, inferred}
 use Rattle.intake.specs.Writing.{sampleText}

@@ -27,6 +27,6 @@ fn main() {
         tell_failed_read();
     }
     let mut text = [0u8; 144256];
-    let length = output::put_output(&mut text, &book[..size]);
+    let length = dtd_output::put_output(&mut text, &book[..size]);
     print(&text[..length]);
 }

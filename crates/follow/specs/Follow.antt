@@ -5,7 +5,7 @@ use mathlib.Core.Path.{_≡_}
 use mathlib.Core.Bool.{Bool, true, false, _&&_, _||_}
 use mathlib.Core.List.{List, [], _∷_}
 use lib.Dec.{eqb}
-use Rattle.language.specs.Word.{Point, start, name, end}
+use Rattle.model_language.specs.Word.{Point, start, name, end}
 
 -- The follow facts of a parent over n names, each a yes or no.
 pub record Follow : Type 0 where

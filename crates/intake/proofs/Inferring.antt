@@ -19,7 +19,7 @@ use Rattle.book.specs.Access.{LaidOut}
 use Rattle.book.proofs.Laws.{laid-out, book-refused, blocks-in}
 use Rattle.model.specs.declared.Model.{Model}
 use Rattle.follow.specs.Sample.{wordsOf}
-use Rattle.sample.specs.Sample.{chainOfWords}
+use Rattle.chain_sample.specs.Sample.{chainOfWords}
 use Rattle.intake.specs.declared.Found.{Found}
 use Rattle.intake.specs.Inference.{sampleOf, noWord, badParent, chainIn, modelIn, modelAnswer, noModel, inferred, found}
 use Rattle.intake.proofs.Samples.{no-word, some-word}

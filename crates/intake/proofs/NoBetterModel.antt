@@ -1,5 +1,5 @@
 -- Demand 3, for the call: the model accepts every sample word, and every other chain that does accepts some word that ours does not.
--- The statements to read; their proofs are cited from `minimal`, where the same is stated for lists of words.
+-- The statements to read; their proofs are cited from `chain_minimal`, where the same is stated for lists of words.
 -- Assumes nothing.
 use Prim.Native.Nat.{ℕ, _+_, _≤_}
 use mathlib.Core.Path.{_≡_, sym, _∙_, ap, subst}
@@ -13,13 +13,13 @@ use Rattle.book.specs.Book.{Book, bookOf}
 use Rattle.model.specs.declared.Model.{Model}
 use Rattle.model.specs.Record.{none, IsChain}
 use Rattle.model.specs.Accept.{Accepts, Names}
-use Rattle.language.specs.Word.{AcceptsAll}
+use Rattle.model_language.specs.Word.{AcceptsAll}
 use Rattle.follow.specs.Follow.{Follow}
 use Rattle.follow.specs.Sample.{SameWords}
 use Rattle.follow.proofs.Laws.{same-facts}
-use Rattle.levels.specs.Chain.{chainOf}
-use Rattle.minimal.proofs.Demand as Demand
-use Rattle.sample.specs.Sample.{chainOfWords}
+use Rattle.chain_levels.specs.Chain.{chainOf}
+use Rattle.chain_minimal.proofs.Demand as Demand
+use Rattle.chain_sample.specs.Sample.{chainOfWords}
 use Rattle.intake.specs.declared.Inferred.{Inferred}
 use Rattle.intake.specs.Inference.{sampleOf, chainIn, modelAnswer, inferred}
 use Rattle.intake.proofs.Samples.{few, sample-names, answer-given}

@@ -20,12 +20,12 @@ use Rattle.book.specs.Access.{LaidOut}
 use Rattle.book.proofs.Laws.{names-in}
 use Rattle.model.specs.declared.Model.{Model}
 use Rattle.model.specs.Record.{none, IsChain, dueModel}
-use Rattle.spelling.specs.House.{declaration}
-use Rattle.declaration.specs.declared.Written.{Written}
-use Rattle.declaration.specs.Write.{fitted, written, bufferAfter, noText}
-use Rattle.declaration.proofs.Calls.{stopped}
-use Rattle.minimal.proofs.Demand as Demand
-use Rattle.sample.specs.Sample.{chainOfWords}
+use Rattle.declaration_spelling.specs.House.{declaration}
+use Rattle.declaration_writing.specs.declared.Written.{Written}
+use Rattle.declaration_writing.specs.Write.{fitted, written, bufferAfter, noText}
+use Rattle.declaration_writing.proofs.Calls.{stopped}
+use Rattle.chain_minimal.proofs.Demand as Demand
+use Rattle.chain_sample.specs.Sample.{chainOfWords}
 use Rattle.intake.specs.declared.Found.{Found}
 use Rattle.intake.specs.Inference.{sampleOf, noWord, badParent, chainIn, modelIn, modelAnswer, found}
 use Rattle.intake.specs.Writing.{sampleText}

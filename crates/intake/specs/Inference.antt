@@ -13,7 +13,7 @@ use Rattle.book.specs.Book.{Book, bookOf}
 use Rattle.model.specs.declared.Model.{Model}
 use Rattle.model.specs.Record.{dueModel}
 use Rattle.follow.specs.Sample.{wordsOf}
-use Rattle.sample.specs.Sample.{chainOfWords}
+use Rattle.chain_sample.specs.Sample.{chainOfWords}
 use Rattle.intake.specs.declared.Inferred.{Inferred}
 use Rattle.intake.specs.declared.Found.{Found}
 

@@ -4,8 +4,8 @@ use Prim.Native.Nat.{ℕ}
 use mathlib.Core.List.{List}
 use Rattle.refusal.specs.Answer.{Answer, onward}
 use Rattle.book.specs.Book.{bookOf}
-use Rattle.spelling.specs.House.{declaration}
-use Rattle.declaration.specs.Write.{fitted}
+use Rattle.declaration_spelling.specs.House.{declaration}
+use Rattle.declaration_writing.specs.Write.{fitted}
 use Rattle.intake.specs.Inference.{modelIn}
 
 -- The text that is due for any bytes as the book, any parent and a buffer of so many bytes: 1 to 7, then 8, then 9, then 12, else the declaration.

@@ -28,13 +28,13 @@ pub fn accepts_word(names: usize, model: Model, word: &[u8]) -> Acceptance
     if !nameset::good_count(names) {
         return Acceptance::Refused(Refusal::BadNameCount);
     }
-    if !record_check::is_chain(names, model) {
+    if !model_check::is_chain(names, model) {
         return Acceptance::Refused(Refusal::NotAChain);
     }
     if bad_word(names, word) {
         return Acceptance::Refused(Refusal::BadWord);
     }
-    if acceptance::accepted(model, word) {
+    if model_accept::accepted(model, word) {
         Acceptance::Yes
     } else {
         Acceptance::No

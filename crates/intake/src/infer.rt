@@ -35,7 +35,7 @@ pub fn find_model(bytes: &[u8], parent: usize) -> Found
     if layout.names <= parent {
         return stopped(reading, Refusal::BadParent);
     }
-    let sample = sample::sample_chain(bytes, layout, parent);
+    let sample = chain_sample::sample_chain(bytes, layout, parent);
     if sample.blocks == 0 {
         return stopped(reading, Refusal::NoBlock);
     }

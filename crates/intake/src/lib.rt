@@ -1,5 +1,5 @@
 // The five calls open to the outside. None has a requirement: each says for every input what it answers.
-// `write_declaration` and `read_declaration` have their promises in the crates `declaration` and `reading`.
+// `write_declaration` and `read_declaration` have their promises in the crates `declaration_writing` and `declaration_reading`.
 use book::Layout;
 use model::Model;
 use refusal::Outcome;
@@ -10,9 +10,9 @@ mod infer; // infer.rt: the model of a parent
 mod write; // write.rt: the declaration of a parent's model
 
 pub use accept::accepts_word;
-pub use declaration::write_declaration;
+pub use declaration_reading::read_declaration;
+pub use declaration_writing::write_declaration;
 pub use infer::model_of_parent;
-pub use reading::read_declaration;
 pub use write::write_from_sample;
 
 // Whether a word is accepted, or why the call stopped.

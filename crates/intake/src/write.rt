@@ -1,9 +1,9 @@
 // The declaration of a parent, with the model that its sample gives.
 use super::infer::find_model;
-use declaration::Written;
+use declaration_writing::Written;
 use refusal::Outcome;
 ghost use lib.ListN.{length};
-ghost use Rattle.declaration.specs.Write.{Writes};
+ghost use Rattle.declaration_writing.specs.Write.{Writes};
 ghost use Rattle.intake.specs.Writing.{sampleText};
 
 // The call: any bytes as the book, any parent, any buffer. 1 to 7, then 8, then 9, then 12, else the declaration.
@@ -13,9 +13,9 @@ pub fn write_from_sample(bytes: &[u8], parent: usize, buffer: &mut [u8]) -> Writ
     let found = find_model(bytes, parent);
     let outcome = found.outcome;
     if let Outcome::Refused(refusal) = outcome {
-        return declaration::refused(refusal);
+        return declaration_writing::refused(refusal);
     }
     let layout = found.layout;
     let model = found.model;
-    declaration::write_chain(bytes, layout, parent, model, buffer)
+    declaration_writing::write_chain(bytes, layout, parent, model, buffer)
 }

@@ -10,21 +10,21 @@ use Rattle.refusal.specs.declared.Refusal.{Refusal}
 use Rattle.refusal.specs.declared.Refusal.the-variants.{BookTooLong}
 use Rattle.refusal.specs.declared.Outcome.the-variants.{Done, Refused}
 use Rattle.refusal.specs.Answer.{Answer, given, refused}
-use Rattle.name_section.specs.declared.NameTable.{NameTable}
-use Rattle.block_section.specs.declared.BlockCount.the-variants.{Blocks, Stopped}
+use Rattle.book_names.specs.declared.NameTable.{NameTable}
+use Rattle.book_blocks.specs.declared.BlockCount.the-variants.{Blocks, Stopped}
 use Rattle.book.specs.Field.{Field}
 use Rattle.book.specs.Book.{Block, nameSection, blockSection, bookOf, longestBook}
 use Rattle.book.specs.Layout.{readingOf, noReading, layoutOf, placeTable, endFrom}
-use Rattle.name_section.specs.Tables.{nameTable}
-use Rattle.block_section.specs.Tables.{blockCount}
-use Rattle.name_section.proofs.Table.{TableTold, table-told, table-refused}
+use Rattle.book_names.specs.Tables.{nameTable}
+use Rattle.book_blocks.specs.Tables.{blockCount}
+use Rattle.book_names.proofs.Table.{TableTold, table-told, table-refused}
 use borrow.Author.Needs.{needs}
 use Rattle.book_reading.proofs.read_book.Statement.{statement}
 use Rattle.book_reading.proofs.read_book.Tie as tie
 use Rattle.book_reading.proofs.read_book.Reads as reads
 use Rattle.book_reading.proofs.read_book.Lts as lts
-use Rattle.block_section.proofs.block_section.Reads as block-section-reads
-use Rattle.name_section.proofs.name_section.Reads as name-section-reads
+use Rattle.book_blocks.proofs.block_section.Reads as block-section-reads
+use Rattle.book_names.proofs.name_section.Reads as name-section-reads
 use Rattle.book_reading.proofs.refused.Reads as refused-reads
 
 too-long : (s : List ℕ) → longestBook < length s → noReading BookTooLong ≡ readingOf (bookOf s)

@@ -5,9 +5,9 @@ use borrow.Author.Needs.{needs}
 use borrow.Author.Tests.{not-true, not-false}
 use Rattle.nameset.specs.Places.{places}
 use Rattle.nameset.specs.Set.{member}
-use Rattle.levels.specs.Below.{countBelow}
+use Rattle.chain_levels.specs.Below.{countBelow}
 use Rattle.follow.specs.View.{viewOf}
-use Rattle.peel.specs.Shown.{Shown}
+use Rattle.chain_peel.specs.Shown.{Shown}
 use Rattle.chain.proofs.Sets.{some-empty, some-full, Stepped, stepped-none, stepped-more, stepped-over}
 use Rattle.chain.proofs.Stage.{Tables, tables-made, Stage, stage-none, stage-last, fewer, stage-room, stage-more, skips-view}
 use Rattle.chain.proofs.chain.Statement.{statement}

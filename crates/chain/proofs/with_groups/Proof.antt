@@ -7,7 +7,7 @@ use borrow.Author.Needs.{needs}
 use borrow.Author.Tests.{not-true, not-false}
 use Rattle.nameset.specs.Places.{places}
 use Rattle.nameset.specs.Set.{member, isEmpty, size}
-use Rattle.levels.specs.Below.{countBelow}
+use Rattle.chain_levels.specs.Below.{countBelow}
 use Rattle.chain.specs.Chain.{holdsIn}
 use Rattle.chain.proofs.Factors.{Appended, append-none, append-room, append-more, append-all, holds-group}
 use Rattle.chain.proofs.with_groups.Statement.{statement}

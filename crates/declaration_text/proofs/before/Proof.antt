@@ -2,7 +2,7 @@
 -- Assumes nothing.
 use Prim.Native.Nat.{ℕ, zero, suc}
 use mathlib.Core.Path.{_≡_, refl}
-use Rattle.factor_text.specs.Parts.{beforeByte}
+use Rattle.declaration_factor.specs.Parts.{beforeByte}
 use Rattle.declaration_text.proofs.before.Statement.{statement}
 use Rattle.declaration_text.proofs.before.Tie as tie
 

@@ -4,8 +4,8 @@ use Prim.Native.Nat.{_-_, _≤_}
 use native.Mathlib.Omega.{arith}
 use Rattle.book.specs.Book.{namesIn}
 use Rattle.book.proofs.Laws.{few-names}
-use Rattle.factor_text.specs.Parts.{factorsText}
-use Rattle.putting.proofs.Puts.{Left}
+use Rattle.declaration_factor.specs.Parts.{factorsText}
+use Rattle.byte_buffer.proofs.Puts.{Left}
 use Rattle.declaration_text.proofs.Steps.{factors-start, before-room, factor-room, factors-more, factors-done}
 use borrow.Author.Needs.{needs}
 use Rattle.declaration_text.proofs.put_factors.Statement.{statement}

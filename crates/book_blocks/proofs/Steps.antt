@@ -1,0 +1,46 @@
+-- What the answer of one step tells of the book's bytes from a place on.
+-- Assumes nothing.
+use Prim.Native.Nat.{ℕ, _+_, _≤_}
+use mathlib.Core.Path.{_≡_, refl}
+use mathlib.Core.List.{List, [], _∷_}
+use native.Mathlib.Omega.{arith}
+use lib.ListN.{length, drop}
+use Rattle.refusal.specs.declared.Refusal.{Refusal}
+use Rattle.refusal.specs.Answer.{Answer, given, refused}
+use Rattle.book.specs.Field.{Field}
+use Rattle.book.specs.Book.{Block, blockOf}
+use Rattle.book.specs.Bytes.{blocksBytes}
+use Rattle.book.proofs.Told.{block-told}
+use Rattle.book.proofs.Placed.{block-placed}
+use Rattle.book_blocks.specs.declared.BlockStep.the-variants.{Block as BlockIs, Stopped as BlockStopped}
+use Rattle.book_blocks.specs.Tables.{blockStep, behindBlocks}
+
+-- a block of k children was read at `at`
+pub record BlockRead (n : ℕ) (s : List ℕ) (at k : ℕ) : Type 0 where
+  pub block : Field Block
+  pub read : blockOf n (drop at s) ≡ given block
+  pub size : length (block .value .word) ≡ k
+  pub fits : at + 2 + k ≤ length s
+  pub rest : drop (at + 2 + k) s ≡ block .rest
+
+pub block-read : (n : ℕ) (s : List ℕ) (at k : ℕ) → blockStep (blockOf n (drop at s)) ≡ BlockIs k → BlockRead n s at k
+unfolding blockStep
+block-read n s at k e = go (blockOf n (drop at s)) refl e
+  where
+    go : (a : Answer (Field Block)) → blockOf n (drop at s) ≡ a → blockStep a ≡ BlockIs k → BlockRead n s at k
+    go (given block) q e =
+        let z : length (block .value .word) ≡ k = cc in
+        let p = block-placed s at (block .value) (block .rest) (block-told n (drop at s) block q .bytes) in
+        record { block = block; read = q; size = z; fits = rw (← z) (p .fits); rest = rw (← z) (p .rest) }
+    go (refused r) q e = absurd (let z : _≡_ {A = ℕ} 0 1 = cc in omega arith)
+
+pub block-stopped : (a : Answer (Field Block)) (r : Refusal) → blockStep a ≡ BlockStopped r → a ≡ refused r
+unfolding blockStep
+block-stopped (given block) r e = absurd (let z : _≡_ {A = ℕ} 0 1 = cc in omega arith)
+block-stopped (refused q) r e = cc
+
+-- the bytes behind blocks
+pub behind-blocks : (s : List ℕ) (at : ℕ) (bs : List Block) (after : List ℕ) → drop at s ≡ blocksBytes bs after → drop (behindBlocks at bs) s ≡ after
+unfolding blocksBytes behindBlocks
+behind-blocks s at [] after e = e
+behind-blocks s at (b ∷ bs) after e = behind-blocks s (at + 2 + length (b .word)) bs after (block-placed s at b (blocksBytes bs after) e .rest)

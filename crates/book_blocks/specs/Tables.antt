@@ -1,0 +1,32 @@
+-- What the steps of reading blocks answer: the definitions' answers as the code holds them.
+-- Assumes nothing.
+use Prim.Native.Nat.{ℕ, _+_}
+use mathlib.Core.List.{List, [], _∷_}
+use lib.ListN.{length}
+use Rattle.refusal.specs.Answer.{Answer, given, refused}
+use Rattle.book.specs.Field.{Field}
+use Rattle.book.specs.Book.{Block}
+use Rattle.book_blocks.specs.declared.BlockStep.{BlockStep}
+use Rattle.book_blocks.specs.declared.BlockStep.the-variants.{Block as BlockIs, Stopped as BlockStopped}
+use Rattle.book_blocks.specs.declared.BlocksEnd.{BlocksEnd}
+use Rattle.book_blocks.specs.declared.BlocksEnd.the-variants.{End, Stopped as BlocksStopped}
+use Rattle.book_blocks.specs.declared.BlockCount.{BlockCount}
+use Rattle.book_blocks.specs.declared.BlockCount.the-variants.{Blocks, Stopped as CountStopped}
+
+-- a block that was read, by the number of its children
+unfoldable pub blockStep : Answer (Field Block) → BlockStep
+blockStep (given block) = BlockIs (length (block .value .word))
+blockStep (refused r) = BlockStopped r
+
+-- the place behind blocks that stand one after the other from `at` on
+unfoldable pub behindBlocks : ℕ → List Block → ℕ
+behindBlocks at [] = at
+behindBlocks at (b ∷ bs) = behindBlocks (at + 2 + length (b .word)) bs
+
+unfoldable pub blocksEnd : ℕ → Answer (Field (List Block)) → BlocksEnd
+blocksEnd at (given blocks) = End (behindBlocks at (blocks .value))
+blocksEnd at (refused r) = BlocksStopped r
+
+unfoldable pub blockCount : Answer (List Block) → BlockCount
+blockCount (given blocks) = Blocks (length blocks)
+blockCount (refused r) = CountStopped r

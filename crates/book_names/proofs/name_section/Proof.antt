@@ -1,0 +1,80 @@
+-- `name_section` meets its contract.
+-- Assumes nothing.
+use Prim.Native.Nat.{ℕ, _≤_, _<_}
+use mathlib.Core.Path.{_≡_, sym, _∙_}
+use mathlib.Core.Bool.{Bool, true, false}
+use mathlib.Core.List.{List, []}
+use native.Mathlib.Omega.{arith}
+use lib.ListN.{length, drop}
+use Rattle.refusal.specs.declared.Refusal.the-variants.{BytesMissing, BadNameCount}
+use Rattle.nameset.specs.Places.{goodCount}
+use Rattle.nameset.proofs.Count.{count-bounds}
+use Rattle.book.specs.Book.{namesOf, nameSection}
+use Rattle.book_names.specs.Tables.{nameTable, noNames}
+use Rattle.book.specs.Stops.{countAt}
+use Rattle.book.proofs.Counts.{count-missing, count-given}
+use borrow.Author.Needs.{needs}
+use Rattle.book_names.proofs.name_section.Statement.{statement}
+use Rattle.book_names.proofs.name_section.Tie as tie
+use Rattle.book_names.proofs.name_section.Reads as reads
+use Rattle.book_names.proofs.name_section.Lts as lts
+use Rattle.book.proofs.count_at.Reads as count-at-reads
+use Rattle.book_names.proofs.no_names.Reads as no-names-reads
+use Rattle.book_names.proofs.read_names.Reads as read-names-reads
+use Rattle.nameset.proofs.good_count.Reads as good-count-reads
+
+missing : (s : List ℕ) → length s < 2 → noNames BytesMissing ≡ nameTable (nameSection s)
+unfolding nameTable nameSection
+missing s h = rw (count-missing s 0 h)
+
+module _ (s : List ℕ) (h : 2 ≤ length s) (n : ℕ) (e : n ≡ countAt s 0) (good : Bool) (g : good ≡ goodCount n) where
+  bad-count : good ≡ false → noNames BadNameCount ≡ nameTable (nameSection s)
+  unfolding nameTable nameSection
+  bad-count k = rw (count-given s 0 h, ← e, ← g, k)
+
+  counted : good ≡ true → nameTable (namesOf n [] (drop 2 s)) ≡ nameTable (nameSection s)
+  unfolding nameSection
+  counted k = rw (count-given s 0 h, ← e, ← g, k)
+
+no-names-requires : tie.Need-no-names-requires
+no-names-requires c κs = search needs
+
+returns : tie.Need-returns
+returns c = c .no-names .ensures ∙ missing _ (c .before .if1 .taken)
+
+count-at-requires : tie.Need-count-at-requires
+count-at-requires c κs = search needs
+
+good-count-requires : tie.Need-good-count-requires
+good-count-requires c κs = search needs
+
+read-names-requires : tie.Need-read-names-requires
+read-names-requires c κs = (omega arith, omega arith, count-bounds _ (sym (c .before .good-count .ensures) ∙ c .if2 .taken) .1)
+
+no-names-requires-2 : tie.Need-no-names-requires-2
+no-names-requires-2 c κs = search needs
+
+returns-2 : tie.Need-returns-2
+returns-2 c =
+    let w = c .before .before in
+    c .read-names .ensures
+    ∙ counted _ (w .before .before .if1 .left) _ (w .before .count-at .ensures .0) _ (w .good-count .ensures) (c .before .if2 .taken)
+
+returns-3 : tie.Need-returns-3
+returns-3 c =
+    let w = c .before .before in
+    c .no-names2 .ensures
+    ∙ bad-count _ (w .before .before .if1 .left) _ (w .before .count-at .ensures .0) _ (w .good-count .ensures) (c .before .if2 .left)
+
+pub name-section-spec : {M : Type 1} → statement M
+name-section-spec =
+    tie.close
+    (tie.spec
+    no-names-requires
+    returns
+    count-at-requires
+    good-count-requires
+    read-names-requires
+    no-names-requires-2
+    returns-2
+    returns-3)

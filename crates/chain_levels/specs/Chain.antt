@@ -1,0 +1,58 @@
+-- Paper 01, "The chain": from follow facts to a model record of `size` places (64 in paper 01).
+-- Assumes nothing.
+use Prim.Native.Nat.{ℕ, zero, suc, _+_, _-_}
+use mathlib.Core.Bool.{Bool, cond, _&&_, not}
+use lib.Dec.{eqb}
+use Rattle.model.specs.declared.Model.{Model}
+use Rattle.model.specs.Record.{emptyModel}
+use Rattle.model.specs.Build.{withFactor}
+use Rattle.follow.specs.Follow.{Follow}
+use Rattle.chain_levels.specs.Below.{anyBelow, countBelow}
+use Rattle.chain_levels.specs.Reach.{sameGroup, leads, isSingle}
+use Rattle.chain_levels.specs.Level.{levelOf, lastLevel, skipped}
+
+-- x is a single of level l.
+unfoldable pub singleAt : Follow → ℕ → ℕ → Bool
+singleAt f l x = isSingle f x && eqb (levelOf f x) l
+
+-- x is the smallest number of a loop group of level l.
+unfoldable pub leadsAt : Follow → ℕ → ℕ → Bool
+leadsAt f l x = leads f x && eqb (levelOf f x) l
+
+-- How many factors level l has: one for its singles, if any, and one for each loop group.
+unfoldable pub factorsAt : Follow → ℕ → ℕ
+factorsAt f l = cond (anyBelow (f .names) (singleAt f l)) 1 0 + countBelow (f .names) (leadsAt f l)
+
+-- "the level is not skipped and has just one factor"
+unfoldable pub fixed : Follow → ℕ → Bool
+fixed f l = not (skipped f l) && eqb (factorsAt f l) 1
+
+-- "singles get mode 0 and a loop group mode 2. Otherwise singles get mode 1 and loop groups mode 3."
+unfoldable pub singlesMode : Follow → ℕ → ℕ
+singlesMode f l = cond (fixed f l) 0 1
+
+unfoldable pub groupMode : Follow → ℕ → ℕ
+groupMode f l = cond (fixed f l) 2 3
+
+-- "At each level the singles, if any, form one factor"
+unfoldable pub withSingles : Follow → ℕ → Model → Model
+withSingles f l m = cond (anyBelow (f .names) (singleAt f l)) (withFactor m (singleAt f l) (singlesMode f l)) m
+
+-- "Then each loop group is a factor of its own, in order of its smallest number": those whose smallest number is below k.
+unfoldable pub withGroups : Follow → ℕ → ℕ → Model → Model
+withGroups f l zero m = m
+withGroups f l (suc k) m =
+    cond (leadsAt f l k) (withFactor (withGroups f l k m) (sameGroup f k) (groupMode f l)) (withGroups f l k m)
+
+-- One level: its singles "stand first".
+unfoldable pub withLevel : Follow → ℕ → Model → Model
+withLevel f l m = withGroups f l (f .names) (withSingles f l m)
+
+-- Levels 1 to k.
+unfoldable pub chainTo : ℕ → Follow → ℕ → Model
+chainTo size f zero = emptyModel size
+chainTo size f (suc k) = withLevel f (suc k) (chainTo size f k)
+
+-- "Go through levels 1 to L - 1."
+unfoldable pub chainOf : ℕ → Follow → Model
+chainOf size f = chainTo size f (lastLevel f - 1)

@@ -1,0 +1,42 @@
+-- The levels give one chain: two chains that stand as the levels say are equal.
+-- Assumes nothing.
+use Prim.Native.Nat.{ℕ, _<_}
+use mathlib.Core.Path.{_≡_, sym, _∙_, ap}
+use native.Mathlib.Omega.{arith}
+use native.Mathlib.Decide.{decLt}
+use Rattle.model.specs.declared.Model.{Model}
+use Rattle.model.specs.Record.{factorOf, modeOf, IsChain}
+use Rattle.follow.specs.Follow.{Follow}
+use Rattle.chain_minimal.specs.Placed.{Placed}
+use Rattle.chain_minimal.proofs.Order.{Holds, Keeps, named, equal-counts, equal-factors, equal-records}
+
+placed-holds : (f : Follow) (a b : Model) → Placed f a → Placed f b → Holds a b
+placed-holds f a b p q x h = q .held x .1 (p .held x .0 h)
+
+placed-keeps : (f : Follow) (a b : Model) → Placed f a → Placed f b → Keeps a b
+placed-keeps f a b p q x y hx hy l =
+    let ox = p .held x .0 hx in
+    let oy = p .held y .0 hy in
+    q .order x y ox oy .1 (p .order x y ox oy .0 l)
+
+module _ (f : Follow) (size n : ℕ) (a b : Model) (ca : IsChain size n a) (cb : IsChain size n b) (p : Placed f a) (q : Placed f b) where
+  counts : a .count ≡ b .count
+  counts = equal-counts size n a b ca cb (placed-holds f a b p q) (placed-holds f b a q p) (placed-keeps f a b p q) (placed-keeps f b a q p)
+
+  factors : (x : ℕ) → factorOf a x ≡ factorOf b x
+  factors = equal-factors size n a b ca cb (placed-holds f a b p q) (placed-holds f b a q p) (placed-keeps f a b p q) (placed-keeps f b a q p)
+
+  modes : (i : ℕ) → modeOf a i ≡ modeOf b i
+  modes i = go (decLt i (a .count))
+    where
+      held : ((x : ℕ) × (factorOf a x ≡ i)) → i < a .count → modeOf a i ≡ modeOf b i
+      held (x, e) l =
+          let o = p .held x .0 (omega arith) in
+          ap (modeOf a) (sym e) ∙ p .modes x o ∙ sym (q .modes x o) ∙ ap (modeOf b) (sym (factors x) ∙ e)
+
+      go : Dec (i < a .count) → modeOf a i ≡ modeOf b i
+      go (yes l) = held (named size n a ca i l) l
+      go (no l) = ca .rest i (omega arith) ∙ sym (cb .rest i (omega (arith, counts)))
+
+  pub placed-same : a ≡ b
+  placed-same = equal-records size n a b ca cb counts factors modes

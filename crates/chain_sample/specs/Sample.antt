@@ -1,0 +1,12 @@
+-- The chain of a sample.
+-- Assumes nothing.
+use Prim.Native.Nat.{ℕ}
+use mathlib.Core.List.{List}
+use Rattle.nameset.specs.Places.{places}
+use Rattle.model.specs.declared.Model.{Model}
+use Rattle.follow.specs.Follow.{followOf}
+use Rattle.chain_levels.specs.Chain.{chainOf}
+
+-- The chain that paper 01 gives to words over n names, as a record of 64 places.
+unfoldable pub chainOfWords : ℕ → List (List ℕ) → Model
+chainOfWords n words = chainOf places (followOf n words)

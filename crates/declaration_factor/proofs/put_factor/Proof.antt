@@ -1,0 +1,70 @@
+-- `put_factor` meets its contract: names, bracket, mark.
+-- Assumes nothing.
+use mathlib.Core.Path.{_≡_, _∙_}
+use mathlib.Core.Bool.{not}
+use borrow.Author.Needs.{needs}
+use Rattle.nameset.specs.Set.{Sized}
+use Rattle.declaration_factor.specs.Parts.{manyIn}
+use Rattle.declaration_factor.proofs.Rising.{names-within, many-is}
+use Rattle.declaration_factor.proofs.Steps.{inner-room, close-room, mark-room, factor-put}
+use Rattle.declaration_factor.proofs.put_factor.Statement.{statement}
+use Rattle.declaration_factor.proofs.put_factor.Tie as tie
+
+-- `many` says whether the factor has more than one name
+many : (c : tie.After-is-empty) → not (c .is-empty .result) ≡ manyIn (c .before .before .before .before .args .layout .names) (c .before .before .before .before .args .m) (c .before .before .before .before .args .i)
+many c =
+    let sized : Sized (c .before .before .before .before .args .names) = search needs in
+    many-is _ _ _ _ (c .before .before .before .before .pre .2) sized _ _ (c .before .rest .ensures .same) (c .is-empty .ensures .same)
+
+rest-requires : tie.Need-rest-requires
+rest-requires c κs = search needs
+
+is-empty-requires : tie.Need-is-empty-requires
+is-empty-requires c κs = search needs
+
+put-names-requires : tie.Need-put-names-requires
+put-names-requires c κs =
+    let pre = c .before .before .before .before .before .pre in
+    (pre .0, inner-room _ _ _ _ _ (pre .2) _ (many (c .before)) (c .before .before .before .before .before .args .buffer .now) _ (pre .1), names-within _ _ _ _ (pre .2))
+
+closing-requires : tie.Need-closing-requires
+closing-requires c κs = search needs
+
+put-some-requires : tie.Need-put-some-requires
+put-some-requires c κs =
+    let pre = c .before .before .before .before .before .before .before .before .before .before .pre in
+    close-room _ _ _ _ _ (pre .2) _ (many (c .before .before .before .before .before .before)) _ _ (pre .1) _ _ (c .before .before .before .before .put-names .ensures) _ (c .closing .ensures)
+
+mode-of-requires : tie.Need-mode-of-requires
+mode-of-requires c κs = search needs
+
+mark-requires : tie.Need-mark-requires
+mark-requires c κs = search needs
+
+put-some-requires-2 : tie.Need-put-some-requires-2
+put-some-requires-2 c κs =
+    let pre = c .before .before .before .before .before .before .before .before .before .before .before .before .before .before .before .before .pre in
+    mark-room _ _ _ _ _ (pre .2) _ (many (c .before .before .before .before .before .before .before .before .before .before .before .before)) _ _ (pre .1) _ _ (c .before .before .before .before .before .before .before .before .before .before .put-names .ensures) _ (c .before .before .before .before .before .before .closing .ensures) _ _ (c .before .before .before .before .before .put-some .ensures) _ _ (c .mark .ensures) (c .before .mode-of .ensures)
+
+same-length : tie.Need-same-length
+same-length c = c .before .before .put-some2 .ensures .same ∙ c .before .before .before .before .before .before .before .before .put-some .ensures .same ∙ c .before .before .before .before .before .before .before .before .before .before .before .before .before .put-names .ensures .same
+
+returns : tie.Need-returns
+returns c =
+    let pre = c .before .before .before .before .before .before .before .before .before .before .before .before .before .before .before .before .before .before .before .pre in
+    factor-put _ _ _ _ _ (pre .2) _ (many (c .before .before .before .before .before .before .before .before .before .before .before .before .before .before .before)) _ _ (pre .1) _ _ (c .before .before .before .before .before .before .before .before .before .before .before .before .before .put-names .ensures) _ (c .before .before .before .before .before .before .before .before .before .closing .ensures) _ _ (c .before .before .before .before .before .before .before .before .put-some .ensures) _ _ (c .before .before .before .mark .ensures) (c .before .before .before .before .mode-of .ensures) _ _ (c .before .before .put-some2 .ensures)
+
+pub put-factor-spec : {M : Type 1} → statement M
+put-factor-spec =
+    tie.close
+    (tie.spec
+    rest-requires
+    is-empty-requires
+    put-names-requires
+    closing-requires
+    put-some-requires
+    mode-of-requires
+    mark-requires
+    put-some-requires-2
+    same-length
+    returns)

@@ -1,0 +1,27 @@
+-- `put_name` meets its contract.
+-- Assumes nothing.
+use Rattle.declaration_factor.proofs.Steps.{name-room, name-put}
+use borrow.Author.Needs.{needs}
+use Rattle.declaration_factor.proofs.put_name.Statement.{statement}
+use Rattle.declaration_factor.proofs.put_name.Tie as tie
+
+name-bytes-requires : tie.Need-name-bytes-requires
+name-bytes-requires c κs = (c .before .before .before .pre .0, c .before .before .before .pre .1)
+
+put-all-requires : tie.Need-put-all-requires
+put-all-requires c κs = name-room _ _ _ (c .name-bytes .ensures) _ _ (c .before .before .before .before .pre .2)
+
+same-length : tie.Need-same-length
+same-length c = search needs
+
+returns : tie.Need-returns
+returns c = name-put _ _ _ (c .before .before .before .name-bytes .ensures) _ _ _ _ (c .before .before .put-all .ensures)
+
+pub put-name-spec : {M : Type 1} → statement M
+put-name-spec =
+    tie.close
+    (tie.spec
+    name-bytes-requires
+    put-all-requires
+    same-length
+    returns)

@@ -1,0 +1,63 @@
+-- `step` meets its contract.
+-- Assumes nothing.
+use mathlib.Core.Path.{sym, _∙_}
+use native.Mathlib.Omega.{arith}
+use borrow.Author.Tests.{not-true, not-false}
+use Rattle.declaration_form.proofs.Tokens.{here-kind, here-on}
+use Rattle.declaration_form.proofs.Steps.{step-unfit, step-sign, step-bad, step-word}
+use borrow.Author.Needs.{needs}
+use Rattle.declaration_form.proofs.step.Statement.{statement}
+use Rattle.declaration_form.proofs.step.Tie as tie
+
+fits-requires : tie.Need-fits-requires
+fits-requires c κs = search needs
+
+returns : tie.Need-returns
+returns c = (step-unfit (c .before .before .before .args .text .now) _ _ _ (c .before .before .before .pre .0 .0) (c .before .before .before .pre .0 .1) (c .before .before .before .pre .0 .3) _ _ _ (sym (c .before .fits2 .ensures) ∙ not-true _ (c .if1 .taken)), omega arith)
+
+sign-signal-requires : tie.Need-sign-signal-requires
+sign-signal-requires c κs = here-kind (c .before .before .before .before .before .args .text .now) _ _ _ (c .before .before .before .before .before .pre .0 .0) (c .before .before .before .before .before .pre .0 .1) (c .before .before .before .before .before .pre .0 .3)
+
+next-state-requires : tie.Need-next-state-requires
+next-state-requires c κs = search needs
+
+returns-2 : tie.Need-returns-2
+returns-2 c = (c .next-state .ensures .0 ∙ step-sign (c .before .before .before .before .before .before .before .args .text .now) _ _ _ (c .before .before .before .before .before .before .before .pre .0 .0) (c .before .before .before .before .before .before .before .pre .0 .1) (c .before .before .before .before .before .before .before .pre .0 .3) _ _ _ (sym (c .before .before .before .before .before .fits2 .ensures) ∙ not-false _ (c .before .before .before .before .if1 .left)) _ (c .before .sign-signal .ensures .0) (c .before .before .if2 .taken), c .next-state .ensures .1)
+
+sub-good-word : tie.Need-sub-good-word
+sub-good-word c = let h = here-on (c .before .before .before .before .before .args .text .now) _ _ _ (c .before .before .before .before .before .pre .0 .0) (c .before .before .before .before .before .pre .0 .1) (c .before .before .before .before .before .pre .0 .3) in omega arith
+
+shared-slice-read-good-word : tie.Need-shared-slice-read-good-word
+shared-slice-read-good-word c = search needs
+
+good-word-requires : tie.Need-good-word-requires
+good-word-requires c κs = search needs
+
+returns-3 : tie.Need-returns-3
+returns-3 c = (step-bad (c .before .before .before .before .before .before .before .before .args .text .now) _ _ _ (c .before .before .before .before .before .before .before .before .pre .0 .0) (c .before .before .before .before .before .before .before .before .pre .0 .1) (c .before .before .before .before .before .before .before .before .pre .0 .3) _ _ _ (c .before .before .before .if2 .left) (sym (c .before .good-word .ensures) ∙ not-true _ (c .if3 .taken)), omega arith)
+
+word-signal-requires : tie.Need-word-signal-requires
+word-signal-requires c κs = let h = here-on (c .before .before .before .before .before .before .before .before .args .text .now) _ _ _ (c .before .before .before .before .before .before .before .before .pre .0 .0) (c .before .before .before .before .before .before .before .before .pre .0 .1) (c .before .before .before .before .before .before .before .before .pre .0 .3) in (omega arith, c .before .before .before .before .before .before .before .before .pre .0 .2)
+
+next-state-requires-2 : tie.Need-next-state-requires-2
+next-state-requires-2 c κs = search needs
+
+returns-4 : tie.Need-returns-4
+returns-4 c = (c .next-state2 .ensures .0 ∙ step-word (c .before .before .before .before .before .before .before .before .before .before .args .text .now) _ _ _ (c .before .before .before .before .before .before .before .before .before .before .pre .0 .0) (c .before .before .before .before .before .before .before .before .before .before .pre .0 .1) (c .before .before .before .before .before .before .before .before .before .before .pre .0 .3) _ _ _ (sym (c .before .before .before .before .before .before .before .before .fits2 .ensures) ∙ not-false _ (c .before .before .before .before .before .before .before .if1 .left)) _ (c .before .word-signal .ensures .0) (c .before .before .before .before .before .if2 .left) (sym (c .before .before .before .good-word .ensures) ∙ not-false _ (c .before .before .if3 .left)), c .next-state2 .ensures .1)
+
+pub step-spec : {M : Type 1} → statement M
+step-spec =
+    tie.close
+    (tie.spec
+    fits-requires
+    returns
+    sign-signal-requires
+    next-state-requires
+    returns-2
+    sub-good-word
+    shared-slice-read-good-word
+    good-word-requires
+    returns-3
+    word-signal-requires
+    next-state-requires-2
+    returns-4)

@@ -1,0 +1,35 @@
+-- `word_signal` meets its contract.
+-- Assumes nothing.
+use mathlib.Core.Path.{sym, _∙_}
+use mathlib.Core.Bool.{true, false}
+use native.Mathlib.Omega.{arith}
+use Rattle.declaration_spelling.specs.House.{emptyWord}
+use Rattle.declaration_form.proofs.Begins.{not-empty-word, empty-word}
+use borrow.Author.Needs.{needs}
+use Rattle.declaration_form.proofs.word_signal.Statement.{statement}
+use Rattle.declaration_form.proofs.word_signal.Tie as tie
+
+sub-if1 : tie.Need-sub-if1
+sub-if1 c = search needs
+
+returns : tie.Need-returns
+returns c = (not-empty-word (c .before .before .args .text .now) _ _ (c .before .before .pre .0) (c .before .before .pre .1) (c .if1 .taken), omega arith)
+
+slice-aggregate-begins-at : tie.Need-slice-aggregate-begins-at
+slice-aggregate-begins-at c = search needs
+
+begins-at-requires : tie.Need-begins-at-requires
+begins-at-requires c κs = search needs
+
+returns-2 : tie.Need-returns-2
+unfolding emptyWord
+returns-2 c = (empty-word (c .before .before .before .before .before .args .text .now) _ _ (c .before .before .before .before .before .pre .0) (c .before .before .before .before .before .pre .1) (c .before .before .before .if1 .left) true (sym (c .if2 .taken) ∙ c .before .begins-at .ensures), omega arith)
+
+returns-3 : tie.Need-returns-3
+unfolding emptyWord
+returns-3 c = (empty-word (c .before .before .before .before .before .args .text .now) _ _ (c .before .before .before .before .before .pre .0) (c .before .before .before .before .before .pre .1) (c .before .before .before .if1 .left) false (sym (c .if2 .left) ∙ c .before .begins-at .ensures), omega arith)
+
+pub word-signal-spec : {M : Type 1} → statement M
+word-signal-spec =
+    tie.close
+    (tie.spec sub-if1 returns slice-aggregate-begins-at begins-at-requires returns-2 returns-3)

@@ -1,0 +1,46 @@
+-- The walk of crate `declaration_walk` by places of the text: what a token is, by its kind and its bytes, and the state behind it.
+-- Assumes nothing.
+use Prim.Native.Nat.{ℕ, _≤_, _<_}
+use mathlib.Core.Path.{_≡_}
+use mathlib.Core.Bool.{Bool, true, false, cond, not, _&&_}
+use mathlib.Core.List.{List, [], _∷_}
+use lib.Dec.{eqb}
+use lib.ListN.{length, take, drop}
+use Rattle.name.specs.Class.{between}
+use Rattle.declaration_spelling.specs.Token.{Token}
+use Rattle.declaration_spelling.specs.Form.{cut}
+use Rattle.declaration_walk.specs.Walk.{signalOf, stepOf, fitsAfter, goodToken, accepts}
+use Rattle.declaration_scan.specs.declared.Piece.{Piece}
+use Rattle.declaration_scan.specs.Unread.{nextOf, kindOf}
+use Rattle.declaration_scan.specs.Piece.{tokenLength, wordEnd, tokenOf}
+
+-- The text begins with these bytes.
+unfoldable pub begins : List ℕ → List ℕ → Bool
+begins [] text = true
+begins (a ∷ as′) [] = false
+begins (a ∷ as′) (b ∷ bs) = eqb a b && begins as′ bs
+
+-- The signal of each kind: a mark of any sort is 8, a byte of no use 0.
+unfoldable pub signals : List ℕ
+signals = 0 ∷ 1 ∷ 3 ∷ 4 ∷ 5 ∷ 6 ∷ 7 ∷ 8 ∷ 8 ∷ 8 ∷ 0 ∷ []
+
+-- White space before a token of this kind: a word or `(` behind a word needs it, a mark has none.
+unfoldable pub kindFits : Bool → Bool → ℕ → Bool
+unfolding between
+kindFits behindWord gap kind = cond (between 1 2 kind) (cond behindWord gap true) (cond (between 7 9 kind) (not gap) true)
+
+-- The token that begins at a place.
+unfoldable pub tokenAt : List ℕ → ℕ → Token
+tokenAt text from = tokenOf (take (tokenLength (drop from text)) (drop from text))
+
+-- The state behind a token: nowhere if its white space does not fit or a word breaks the rule for names.
+unfoldable pub advance : ℕ → Bool → Bool → Token → ℕ
+advance state behindWord gap t = cond (fitsAfter behindWord gap t && goodToken t) (stepOf state (signalOf t)) 11
+
+-- A piece of the text: its kind and its end are those of the token where it begins.
+abbrev pub Stands : List ℕ → Piece → Type 0
+Stands text p = (p .kind ≡ kindOf (nextOf (drop (p .from) text))) × (p .to ≡ wordEnd text (p .from)) × (p .to ≤ length text) × (p .from < length text)
+
+-- The walk from a place on ends well.
+unfoldable pub acceptsFrom : List ℕ → ℕ → Bool → ℕ → Bool
+acceptsFrom text state behindWord at = accepts state behindWord (cut (drop at text) .gap) (cut (drop at text) .pieces)

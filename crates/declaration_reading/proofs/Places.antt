@@ -1,0 +1,257 @@
+-- One token by its place in the text: what is known of it, what it does to the rows, and what is left behind it.
+-- Assumes nothing.
+use Prim.Native.Nat.{ℕ, zero, suc, _+_, _-_, _≤_, _<_}
+use mathlib.Core.Path.{_≡_, refl, sym, ap}
+use mathlib.Core.Bool.{Bool, true, false, cond, not, _&&_}
+use mathlib.Core.List.{List, [], _∷_}
+use mathlib.Core.Option.{Option, none, some}
+use mathlib.Core.Logic.{_⊎_, inl, inr}
+use native.Mathlib.Omega.{arith}
+use native.Mathlib.Decide.{ℕ-discrete}
+use native.Mathlib.Nat.{add-zero}
+use lib.Dec.{eqb, ltb}
+use lib.ListN.{length, getD, set, take, drop, drop-of-length-le}
+use lib.Seq.{drop-cons}
+use borrow.Author.Tests.{ne-eqb, lt-ltb}
+use Rattle.name.specs.Class.{laterByte}
+use Rattle.refusal.specs.declared.Refusal.the-variants.{NotADeclaration, UnknownName}
+use Rattle.refusal.specs.Answer.{refused, refuseIf}
+use Rattle.declaration_spelling.specs.Token.{isSpace, Token}
+use Rattle.declaration_spelling.specs.Form.{Cut, atFront, cut, tokens}
+use Rattle.declaration_spelling.specs.Read.{known, numberFor}
+use Rattle.declaration_walk.specs.Walk.{isWord}
+use Rattle.declaration_scan.specs.Unread.{nextOf, runOf, kindOf}
+use Rattle.declaration_scan.specs.Piece.{tokenLength, wordEnd, spaceEnd, pieceAt, tokenOf}
+use Rattle.declaration_scan.proofs.Runs.{end-kind}
+use Rattle.declaration_scan.proofs.Pieces.{piece-over, piece-first}
+use Rattle.declaration_gather.specs.Gather.{knownToken, knownTokens, Rows, isFree, withName, nextFactor, withMode, takeToken, andThen, gatherFrom, beginsWithWord, contentAnswer, tokensAnswer}
+use Rattle.declaration_reading.specs.Place.{tokensAt, partOf, knownKind, kindMode, takeKind, freeAt, freeKind, factorAfter, modeAfter, indexAfter}
+use Rattle.declaration_reading.proofs.ByKind.{Agree, token-kind}
+
+abbrev first : ℕ → List ℕ → List ℕ
+first b bs = take (tokenLength (b ∷ bs)) (b ∷ bs)
+
+-- nothing is left, or a token and what stands behind it
+abbrev Next : List ℕ → ℕ → Type 0
+Next s at =
+    ((pieceAt s at .kind ≡ 0) × (tokensAt s at ≡ []) × (tokensAt s (pieceAt s at .to) ≡ []))
+    ⊎ ((b : ℕ) × (bs : List ℕ) × (pieceAt s at .kind ≡ kindOf b) × (tokensAt s at ≡ tokenOf (first b bs) ∷ tokensAt s (pieceAt s at .to))
+    × (partOf s (pieceAt s at .from) (pieceAt s at .to) ≡ first b bs))
+
+pub tokens-over : (s : List ℕ) (at : ℕ) → length s ≤ at → tokensAt s at ≡ []
+unfolding tokensAt cut tokens
+tokens-over s at h = rw (drop-of-length-le s h)
+
+at-end : (s : List ℕ) (at : ℕ) → drop (spaceEnd s at) s ≡ [] → (pieceAt s at .kind ≡ 0) × (tokensAt s at ≡ []) × (tokensAt s (pieceAt s at .to) ≡ [])
+unfolding pieceAt nextOf wordEnd tokenLength tokensAt cut tokens
+at-end s at e = (
+  rw e (sym end-kind),
+  ap (λ (c : Cut). tokens (c .pieces)) (piece-over s at e),
+  rw (e, add-zero (spaceEnd s at), e),
+)
+
+at-token : (s : List ℕ) (at b : ℕ) (bs : List ℕ) → drop (spaceEnd s at) s ≡ b ∷ bs →
+    (pieceAt s at .kind ≡ kindOf b) × (tokensAt s at ≡ tokenOf (first b bs) ∷ tokensAt s (pieceAt s at .to)) × (partOf s (pieceAt s at .from) (pieceAt s at .to) ≡ first b bs)
+unfolding pieceAt nextOf wordEnd tokensAt tokens atFront partOf
+at-token s at b bs e =
+    let k : spaceEnd s at + tokenLength (drop (spaceEnd s at) s) - spaceEnd s at ≡ tokenLength (drop (spaceEnd s at) s) = omega arith in
+    (rw e refl, ap (λ (c : Cut). tokens (c .pieces)) (piece-first s at b bs e), rw (k, e) refl)
+
+next-is : (s : List ℕ) (at : ℕ) → Next s at
+next-is s at = go (drop (spaceEnd s at) s) refl
+  where
+    go : (l : List ℕ) → drop (spaceEnd s at) s ≡ l → Next s at
+    go [] e = inl (at-end s at e)
+    go (b ∷ bs) e = let t = at-token s at b bs e in inr (b, bs, t .0, t .1, t .2)
+
+-- ---- where it stands
+
+pub piece-order : (s : List ℕ) (at : ℕ) → pieceAt s at .from ≤ pieceAt s at .to
+unfolding pieceAt wordEnd
+piece-order s at = omega arith
+
+length-token : (b : ℕ) (bs : List ℕ) → 0 < tokenLength (b ∷ bs)
+unfolding tokenLength runOf
+length-token b bs = go (laterByte b) refl
+  where
+    go : (k : Bool) → laterByte b ≡ k → 0 < cond k (cond (laterByte b) (suc (runOf laterByte bs)) 0) 1
+    go true e = rw e (omega arith)
+    go false e = omega arith
+
+-- the walk goes on
+pub piece-onward : (s : List ℕ) (at : ℕ) → at < length s → at < pieceAt s at .to
+unfolding pieceAt wordEnd spaceEnd
+piece-onward s at h = go (runOf isSpace (drop at s)) refl
+  where
+    go : (k : ℕ) → runOf isSpace (drop at s) ≡ k → at < at + k + tokenLength (drop (at + k) s)
+    go zero e = let z : at + 0 ≡ at = omega arith in rw (z, drop-cons s at 0 h) (omega (arith, length-token (getD s at 0) (drop (suc at) s)))
+    go (suc k) e = omega arith
+
+-- ---- by kinds
+
+known-agrees : (names : List (List ℕ)) → Agree (knownToken names) (knownKind names)
+unfolding knownToken knownKind
+known-agrees names = record {
+  words = λ w. refl;
+  lpars = λ w. refl;
+  rpars = λ w. refl;
+  commas = λ w. refl;
+  bars = λ w. refl;
+  ends = λ w. refl;
+  optionals = λ w. refl;
+  repeats = λ w. refl;
+  anys = λ w. refl;
+  nones = λ b w. refl;
+  others = λ b w. refl;
+}
+
+take-agrees : (size : ℕ) (names : List (List ℕ)) (g : Rows) → Agree (λ t. takeToken size names t g) (λ kind w. takeKind size kind (numberFor names w) g)
+unfolding takeToken takeKind kindMode withMode
+take-agrees size names g = record {
+  words = λ w. refl;
+  lpars = λ w. refl;
+  rpars = λ w. refl;
+  commas = λ w. refl;
+  bars = λ w. refl;
+  ends = λ w. refl;
+  optionals = λ w. refl;
+  repeats = λ w. refl;
+  anys = λ w. refl;
+  nones = λ b w. refl;
+  others = λ b w. refl;
+}
+
+word-agrees : Agree isWord (λ kind w. eqb kind 1)
+unfolding isWord
+word-agrees = record {
+  words = λ w. refl;
+  lpars = λ w. refl;
+  rpars = λ w. refl;
+  commas = λ w. refl;
+  bars = λ w. refl;
+  ends = λ w. refl;
+  optionals = λ w. refl;
+  repeats = λ w. refl;
+  anys = λ w. refl;
+  nones = λ b w. refl;
+  others = λ b w. refl;
+}
+
+known-end : (names : List (List ℕ)) (w : List ℕ) → true ≡ (knownKind names 0 w && true)
+unfolding knownKind
+known-end names w = refl
+
+pub known-next : (names : List (List ℕ)) (s : List ℕ) (at : ℕ) →
+    knownTokens names (tokensAt s at) ≡ (knownKind names (pieceAt s at .kind) (partOf s (pieceAt s at .from) (pieceAt s at .to)) && knownTokens names (tokensAt s (pieceAt s at .to)))
+unfolding knownTokens
+known-next names s at = go (next-is s at)
+  where
+    go : Next s at → knownTokens names (tokensAt s at)
+        ≡ (knownKind names (pieceAt s at .kind) (partOf s (pieceAt s at .from) (pieceAt s at .to)) && knownTokens names (tokensAt s (pieceAt s at .to)))
+    go (inl (k, e, f)) = rw (k, e, f) (known-end names (partOf s (pieceAt s at .from) (pieceAt s at .to)))
+    go (inr (b, bs, k, e, f)) = rw (k, e, f) (ap (λ (c : Bool). c && knownTokens names (tokensAt s (pieceAt s at .to))) (token-kind (knownToken names) (knownKind names) (known-agrees names) b bs))
+
+take-end : (size x : ℕ) (g : Rows) → takeKind size 0 x g ≡ some g
+unfolding takeKind kindMode withMode
+take-end size x g = refl
+
+pub take-next : (size : ℕ) (names : List (List ℕ)) (s : List ℕ) (at : ℕ) (g : Rows) →
+    gatherFrom size names (tokensAt s at) g
+    ≡ andThen (takeKind size (pieceAt s at .kind) (numberFor names (partOf s (pieceAt s at .from) (pieceAt s at .to))) g) (gatherFrom size names (tokensAt s (pieceAt s at .to)))
+unfolding gatherFrom andThen
+take-next size names s at g = go (next-is s at)
+  where
+    go : Next s at → gatherFrom size names (tokensAt s at) g
+        ≡ andThen (takeKind size (pieceAt s at .kind) (numberFor names (partOf s (pieceAt s at .from) (pieceAt s at .to))) g) (gatherFrom size names (tokensAt s (pieceAt s at .to)))
+    go (inl (k, e, f)) = rw (k, e, f, take-end size (numberFor names (partOf s (pieceAt s at .from) (pieceAt s at .to))) g)
+    go (inr (b, bs, k, e, f)) =
+        rw (k, e, f)
+        (ap (λ (o : Option Rows). andThen o (gatherFrom size names (tokensAt s (pieceAt s at .to))))
+        (token-kind (λ t. takeToken size names t g) (λ kind w. takeKind size kind (numberFor names w) g) (take-agrees size names g) b bs))
+
+pub word-next : (s : List ℕ) (at : ℕ) → beginsWithWord (tokensAt s at) ≡ eqb (pieceAt s at .kind) 1
+unfolding beginsWithWord
+word-next s at = go (next-is s at)
+  where
+    go : Next s at → beginsWithWord (tokensAt s at) ≡ eqb (pieceAt s at .kind) 1
+    go (inl (k, e, f)) = rw (k, e)
+    go (inr (b, bs, k, e, f)) = rw (k, e) (token-kind isWord (λ kind w. eqb kind 1) word-agrees b bs)
+
+-- the first token of a declaration: its parent
+answer-agrees : (size : ℕ) (names : List (List ℕ)) (ts : List Token) →
+    Agree (λ t. tokensAnswer size names (t ∷ ts)) (λ kind w. cond (eqb kind 1) (refuseIf (not (known names w)) UnknownName (contentAnswer size names (numberFor names w) ts)) (refused NotADeclaration))
+unfolding tokensAnswer
+answer-agrees size names ts = record {
+  words = λ w. refl;
+  lpars = λ w. refl;
+  rpars = λ w. refl;
+  commas = λ w. refl;
+  bars = λ w. refl;
+  ends = λ w. refl;
+  optionals = λ w. refl;
+  repeats = λ w. refl;
+  anys = λ w. refl;
+  nones = λ b w. refl;
+  others = λ b w. refl;
+}
+
+answer-end : (size : ℕ) (names : List (List ℕ)) → tokensAnswer size names [] ≡ refused NotADeclaration
+unfolding tokensAnswer
+answer-end size names = refl
+
+pub answer-next : (size : ℕ) (names : List (List ℕ)) (s : List ℕ) (at : ℕ) →
+    tokensAnswer size names (tokensAt s at)
+    ≡ cond (eqb (pieceAt s at .kind) 1)
+    (refuseIf (not (known names (partOf s (pieceAt s at .from) (pieceAt s at .to)))) UnknownName
+    (contentAnswer size names (numberFor names (partOf s (pieceAt s at .from) (pieceAt s at .to))) (tokensAt s (pieceAt s at .to))))
+    (refused NotADeclaration)
+answer-next size names s at = go (next-is s at)
+  where
+    go : Next s at → tokensAnswer size names (tokensAt s at)
+        ≡ cond (eqb (pieceAt s at .kind) 1)
+        (refuseIf (not (known names (partOf s (pieceAt s at .from) (pieceAt s at .to)))) UnknownName
+        (contentAnswer size names (numberFor names (partOf s (pieceAt s at .from) (pieceAt s at .to))) (tokensAt s (pieceAt s at .to))))
+        (refused NotADeclaration)
+    go (inl (k, e, f)) = rw (k, e) (answer-end size names)
+    go (inr (b, bs, k, e, f)) = rw (k, e, f) (token-kind (λ t. tokensAnswer size names (t ∷ tokensAt s (pieceAt s at .to))) _ (answer-agrees size names (tokensAt s (pieceAt s at .to))) b bs)
+
+-- ---- one token, row by row
+
+mode-rows : (m : ℕ) (g : Rows) → withMode m g ≡ record { index = g .index; factor = g .factor; mode = modeAfter m (g .mode) (g .index) }
+unfolding withMode modeAfter
+mode-rows zero g = refl
+mode-rows (suc m) g = refl
+
+module _ (size kind x : ℕ) (g : Rows) (inside : g .index < size) where
+  abbrev After : Rows
+  After = record { index = indexAfter kind (g .index); factor = factorAfter kind (g .factor) x (g .index); mode = modeAfter (kindMode kind) (g .mode) (g .index) }
+
+  abbrev Fine : Bool
+  Fine = freeKind kind (g .factor) x && ltb (indexAfter kind (g .index)) size
+
+  abbrev Named : Rows
+  Named = record { index = g .index; factor = set (g .factor) x (g .index); mode = g .mode }
+
+  by-word : kind ≡ 1 → takeKind size kind x g ≡ cond Fine (some After) none
+  unfolding takeKind withName isFree kindMode freeKind freeAt factorAfter modeAfter indexAfter
+  by-word e = rw (e, lt-ltb (g .index) size inside) (go (eqb (getD (g .factor) x 255) 255))
+    where
+      go : (k : Bool) → cond k (some Named) none ≡ cond (k && true) (some Named) none
+      go true = refl
+      go false = refl
+
+  by-comma : kind ≡ 4 → takeKind size kind x g ≡ cond Fine (some After) none
+  unfolding takeKind nextFactor kindMode freeKind factorAfter modeAfter indexAfter
+  by-comma e = rw e refl
+
+  by-other : (kind ≡ 1 → ⊥) → (kind ≡ 4 → ⊥) → takeKind size kind x g ≡ cond Fine (some After) none
+  unfolding takeKind freeKind factorAfter indexAfter
+  by-other d f = rw (ne-eqb kind 1 d, ne-eqb kind 4 f, lt-ltb (g .index) size inside) (ap some (mode-rows (kindMode kind) g))
+
+  pub take-rows : takeKind size kind x g ≡ cond Fine (some After) none
+  take-rows = go (ℕ-discrete kind 1) (ℕ-discrete kind 4)
+    where
+      go : Dec (kind ≡ 1) → Dec (kind ≡ 4) → takeKind size kind x g ≡ cond Fine (some After) none
+      go (yes e) d = by-word e
+      go (no d) (yes e) = by-comma e
+      go (no d) (no e) = by-other d e

@@ -1,0 +1,117 @@
+-- `read_factors` meets its contract: the words passed are known, and from the rows so far the tokens from i on give the answer.
+-- Assumes nothing.
+use Prim.Native.Nat.{ℕ, _-_, _≤_, _<_}
+use mathlib.Core.Path.{_≡_, refl, _∙_}
+use mathlib.Core.List.{List}
+use native.Mathlib.Omega.{arith}
+use lib.ListN.{length}
+use borrow.Author.Tests.{not-true, not-false}
+use Rattle.nameset.specs.Places.{places}
+use Rattle.book.specs.Book.{namesIn}
+use Rattle.declaration_gather.specs.Gather.{knownTokens, startRows, gatherFrom}
+use Rattle.declaration_reading.specs.Place.{tokensAt}
+use Rattle.declaration_reading.proofs.Steps.{in-order, onward-to, unknown-kind, known-kind, number-same, known-stop, known-on, placed-same, left, left-start, left-on, left-stop, inside-on, factors-done, factors-unknown, factors-twice}
+use borrow.Author.Needs.{needs}
+use Rattle.declaration_reading.proofs.read_factors.Statement.{statement}
+use Rattle.declaration_reading.proofs.read_factors.Tie as tie
+
+inside : (x : ℕ) (factor : List ℕ) → x ≤ places → (x ≡ places → ⊥) → length factor ≡ places → x < length factor
+inside x factor h d e = omega (arith, d)
+
+abbrev Inv-loop : tie.InvT-loop
+Inv-loop bytes layout text at parent factor₀ mode₀ index₀ i₀ factor mode index i =
+    (i ≤ length text) × (index < places) × (length factor ≡ places) × (length mode ≡ places)
+    × (gatherFrom places (namesIn bytes) (tokensAt text at) (startRows places) ≡ left (namesIn bytes) text i index factor mode)
+    × (knownTokens (namesIn bytes) (tokensAt text at) ≡ knownTokens (namesIn bytes) (tokensAt text i))
+
+abbrev μ-loop : tie.MeasureT-loop
+μ-loop bytes layout text at parent factor₀ mode₀ index₀ i₀ factor mode index i = length text - i
+
+loop-holds : tie.Need-loop-holds Inv-loop μ-loop
+loop-holds c = (c .before .before .pre .1, omega arith, refl, refl, left-start _ _ _, refl)
+
+piece-at-requires : tie.Need-piece-at-requires Inv-loop μ-loop
+piece-at-requires c κs = c .before .loop .inv .0
+
+number-at-requires : tie.Need-number-at-requires Inv-loop μ-loop
+number-at-requires c κs = (c .before .before .before .before .before .pre .0, in-order _ _ _ (c .piece-at .ensures .0), c .piece-at .ensures .1)
+
+refused-requires : tie.Need-refused-requires Inv-loop μ-loop
+refused-requires c κs = tt
+
+returns : tie.Need-returns Inv-loop μ-loop
+returns c = factors-unknown _ _ _ _ _ _ _ _ (c .before .before .before .before .before .loop .inv .5) (c .before .before .before .before .before .loop .inv .4) _ (known-stop _ _ _ (c .before .before .before .piece-at .ensures .0) _ _ (unknown-kind _ _ (c .before .before .before .before .before .before .before .before .pre .0) _ _ _ (c .before .before .number-at .ensures .0) (c .before .if1 .taken)) refl) (c .refused .ensures)
+
+slice-aggregate-place-piece : tie.Need-slice-aggregate-place-piece Inv-loop μ-loop
+slice-aggregate-place-piece c = search needs
+
+place-piece-requires : tie.Need-place-piece-requires Inv-loop μ-loop
+place-piece-requires c κs = (inside _ (c .before .before .before .before .before .loop .factor) (c .before .before .number-at .ensures .1) (c .before .if1 .left) (c .before .before .before .before .before .loop .inv .2), c .before .before .before .before .before .loop .inv .1)
+
+slice-aggregate-put-mode : tie.Need-slice-aggregate-put-mode Inv-loop μ-loop
+slice-aggregate-put-mode c = search needs
+
+mode-of-requires : tie.Need-mode-of-requires Inv-loop μ-loop
+mode-of-requires c κs = tt
+
+put-mode-requires : tie.Need-put-mode-requires Inv-loop μ-loop
+put-mode-requires c κs = omega (arith, c .before .before .before .before .before .before .before .before .before .loop .inv .1, c .before .before .before .before .before .before .before .before .before .loop .inv .3)
+
+next-index-requires : tie.Need-next-index-requires Inv-loop μ-loop
+next-index-requires c κs = c .before .before .before .before .before .before .before .before .before .before .before .loop .inv .1
+
+fine-requires : tie.Need-fine-requires Inv-loop μ-loop
+fine-requires c κs = tt
+
+twice-requires : tie.Need-twice-requires Inv-loop μ-loop
+twice-requires c κs = (c .before .before .before .before .before .before .before .before .before .before .before .before .before .before .before .before .before .pre .0, c .before .before .before .before .before .before .before .before .before .before .before .before .piece-at .ensures .1)
+
+returns-2 : tie.Need-returns-2 Inv-loop μ-loop
+returns-2 c =
+    factors-twice _ _ _ _ _ _ _ _ (c .before .before .before .before .before .before .before .before .before .before .before .before .before .before .before .loop .inv .5) (c .before .before .before .before .before .before .before .before .before .before .before .before .before .before .before .loop .inv .4) _ _
+    (known-on _ _ _ (c .before .before .before .before .before .before .before .before .before .before .before .before .before .piece-at .ensures .0) _ _ (known-kind _ _ (c .before .before .before .before .before .before .before .before .before .before .before .before .before .before .before .before .before .before .pre .0) _ _ _ (c .before .before .before .before .before .before .before .before .before .before .before .before .number-at .ensures .0) (c .before .before .before .before .before .before .before .before .before .before .before .if1 .left)) refl)
+    (left-stop _ _ _ _ (c .before .before .before .before .before .before .before .before .before .before .before .before .before .piece-at .ensures .0) _ _ _ (c .before .before .before .before .before .before .before .before .before .before .before .before .before .before .before .loop .inv .1) _ _ (placed-same _ _ _ _ _ _ _ (number-same _ _ (c .before .before .before .before .before .before .before .before .before .before .before .before .before .before .before .before .before .before .pre .0) _ _ _ (c .before .before .before .before .before .before .before .before .before .before .before .before .number-at .ensures .0) (c .before .before .before .before .before .before .before .before .before .before .before .if1 .left)) (c .before .before .before .before .before .before .before .before .before .place-piece .ensures)) _ (c .before .before .before .before .before .before .mode-of .ensures) _ (c .before .before .before .before .before .put-mode .ensures) _ (c .before .before .before .next-index .ensures) _ (c .before .before .fine .ensures) (not-true _ (c .before .if2 .taken))) (c .twice .ensures)
+
+loop-less : tie.Need-loop-less Inv-loop μ-loop
+loop-less c = let h = onward-to _ _ _ (c .before .before .before .before .before .before .before .before .before .before .before .before .piece-at .ensures .0) (c .before .before .before .before .before .before .before .before .before .before .before .before .before .loop-test .taken) in omega arith
+
+loop-again : tie.Need-loop-again Inv-loop μ-loop
+loop-again c = (
+  c .before .before .before .before .before .before .before .before .before .before .before .before .piece-at .ensures .1,
+  inside-on _ _ _ _ (c .before .before .before .before .before .before .before .before .before .before .before .before .piece-at .ensures .0) _ _ _ (c .before .before .before .before .before .before .before .before .before .before .before .before .before .before .loop .inv .1) _ _ (placed-same _ _ _ _ _ _ _ (number-same _ _ (c .before .before .before .before .before .before .before .before .before .before .before .before .before .before .before .before .before .pre .0) _ _ _ (c .before .before .before .before .before .before .before .before .before .before .before .number-at .ensures .0) (c .before .before .before .before .before .before .before .before .before .before .if1 .left)) (c .before .before .before .before .before .before .before .before .place-piece .ensures)) _ (c .before .before .before .before .before .mode-of .ensures) _ (c .before .before .before .before .put-mode .ensures) _ (c .before .before .next-index .ensures) _ (c .before .fine .ensures) (not-false _ (c .if2 .left)),
+  c .before .before .before .before .before .before .before .before .place-piece .ensures .2 ∙ c .before .before .before .before .before .before .before .before .before .before .before .before .before .before .loop .inv .2,
+  c .before .before .before .before .put-mode .ensures .1 ∙ c .before .before .before .before .before .before .before .before .before .before .before .before .before .before .loop .inv .3,
+  c .before .before .before .before .before .before .before .before .before .before .before .before .before .before .loop .inv .4 ∙ left-on _ _ _ _ (c .before .before .before .before .before .before .before .before .before .before .before .before .piece-at .ensures .0) _ _ _ (c .before .before .before .before .before .before .before .before .before .before .before .before .before .before .loop .inv .1) _ _ (placed-same _ _ _ _ _ _ _ (number-same _ _ (c .before .before .before .before .before .before .before .before .before .before .before .before .before .before .before .before .before .pre .0) _ _ _ (c .before .before .before .before .before .before .before .before .before .before .before .number-at .ensures .0) (c .before .before .before .before .before .before .before .before .before .before .if1 .left)) (c .before .before .before .before .before .before .before .before .place-piece .ensures)) _ (c .before .before .before .before .before .mode-of .ensures) _ (c .before .before .before .before .put-mode .ensures) _ (c .before .before .next-index .ensures) _ (c .before .fine .ensures) (not-false _ (c .if2 .left)),
+  c .before .before .before .before .before .before .before .before .before .before .before .before .before .before .loop .inv .5 ∙ known-on _ _ _ (c .before .before .before .before .before .before .before .before .before .before .before .before .piece-at .ensures .0) _ _ (known-kind _ _ (c .before .before .before .before .before .before .before .before .before .before .before .before .before .before .before .before .before .pre .0) _ _ _ (c .before .before .before .before .before .before .before .before .before .before .before .number-at .ensures .0) (c .before .before .before .before .before .before .before .before .before .before .if1 .left)) refl,
+)
+
+add-t24 : tie.Need-add-t24 Inv-loop μ-loop
+add-t24 c = search needs
+
+returns-3 : tie.Need-returns-3 Inv-loop μ-loop
+returns-3 c = factors-done _ _ _ _ _ _ _ _ (c .before .loop .inv .5) (c .before .loop .inv .4) (c .loop-test .left)
+
+pub read-factors-spec : {M : Type 1} → statement M
+read-factors-spec =
+    tie.close
+    (tie.spec
+    Inv-loop
+    μ-loop
+    loop-holds
+    piece-at-requires
+    number-at-requires
+    refused-requires
+    returns
+    slice-aggregate-place-piece
+    place-piece-requires
+    slice-aggregate-put-mode
+    mode-of-requires
+    put-mode-requires
+    next-index-requires
+    fine-requires
+    twice-requires
+    returns-2
+    loop-less
+    loop-again
+    add-t24
+    returns-3)

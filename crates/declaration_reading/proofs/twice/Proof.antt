@@ -1,0 +1,37 @@
+-- `twice` meets its contract: 15 where the names behind are known, else 14.
+-- Assumes nothing.
+use mathlib.Core.Path.{_≡_}
+use mathlib.Core.Bool.{Bool, true, false}
+use Rattle.refusal.specs.declared.Refusal.the-variants.{UnknownName, NameTwice}
+use Rattle.declaration_reading.specs.declared.Declaration.{Declaration}
+use Rattle.declaration_reading.specs.Read.{declarationOf, noDeclaration, twiceOrUnknown}
+use borrow.Author.Needs.{needs}
+use Rattle.declaration_reading.proofs.twice.Statement.{statement}
+use Rattle.declaration_reading.proofs.twice.Tie as tie
+
+behind-known : (b k : Bool) (r : Declaration) → b ≡ k → b ≡ true → r ≡ declarationOf (noDeclaration NameTwice) → r ≡ declarationOf (noDeclaration (twiceOrUnknown k))
+unfolding twiceOrUnknown
+behind-known b k r e t q = rw (← e, t) q
+
+behind-unknown : (b k : Bool) (r : Declaration) → b ≡ k → b ≡ false → r ≡ declarationOf (noDeclaration UnknownName) → r ≡ declarationOf (noDeclaration (twiceOrUnknown k))
+unfolding twiceOrUnknown
+behind-unknown b k r e t q = rw (← e, t) q
+
+all-known-requires : tie.Need-all-known-requires
+all-known-requires c κs = search needs
+
+refused-requires : tie.Need-refused-requires
+refused-requires c κs = search needs
+
+refused-requires-2 : tie.Need-refused-requires-2
+refused-requires-2 c κs = search needs
+
+returns : tie.Need-returns
+returns c = behind-known _ _ _ (c .before .before .all-known .ensures) (c .before .if1 .taken) (c .refused .ensures)
+
+returns-2 : tie.Need-returns-2
+returns-2 c = behind-unknown _ _ _ (c .before .before .all-known .ensures) (c .before .if1 .left) (c .refused2 .ensures)
+
+pub twice-spec : {M : Type 1} → statement M
+twice-spec =
+    tie.close (tie.spec all-known-requires refused-requires refused-requires-2 returns returns-2)

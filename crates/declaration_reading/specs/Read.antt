@@ -1,0 +1,49 @@
+-- What the call that reads a declaration answers: 1 to 7, 13, 14, 15, in this order, else the parent and the record.
+-- Assumes nothing.
+use Prim.Native.Nat.{ℕ}
+use mathlib.Core.Path.{_≡_}
+use mathlib.Core.Bool.{Bool, cond}
+use mathlib.Core.List.{List}
+use Rattle.refusal.specs.declared.Refusal.{Refusal}
+use Rattle.refusal.specs.declared.Refusal.the-variants.{UnknownName, NameTwice}
+use Rattle.refusal.specs.Table.{stoppedBy}
+use Rattle.refusal.specs.Answer.{Answer, given, refused, onward, outcomeOf}
+use Rattle.nameset.specs.Places.{places}
+use Rattle.book.specs.Book.{bookOf}
+use Rattle.model.specs.declared.Model.{Model}
+use Rattle.model.specs.Record.{dueModel}
+use Rattle.declaration_spelling.specs.Read.{Declared, readText}
+use Rattle.declaration_reading.specs.declared.Declaration.{Declaration}
+
+-- The answer for any bytes as the book and any text.
+unfoldable pub readAnswer : List ℕ → List ℕ → Answer Declared
+readAnswer bytes text = onward (bookOf bytes) (λ b. readText places (b .names) text)
+
+-- The parent's number, "a length or parent number due is 0".
+unfoldable pub parentDue : Answer Declared → ℕ
+parentDue (given d) = d .parent
+parentDue (refused r) = stoppedBy r .parent
+
+-- The record, "a model due is the empty model".
+unfoldable pub modelDue : Answer Declared → Model
+modelDue (given d) = d .model
+modelDue (refused r) = dueModel
+
+-- The answer as the code has it.
+unfoldable pub declarationOf : Answer Declared → Declaration
+declarationOf a = record { outcome = outcomeOf a; parent = parentDue a; model = modelDue a }
+
+-- No declaration, for this refusal.
+unfoldable pub noDeclaration : Refusal → Answer Declared
+noDeclaration r = refused r
+
+-- Once a name came twice: 15 where every name behind it is known, else 14, which comes first.
+unfoldable pub twiceOrUnknown : Bool → Refusal
+twiceOrUnknown known = cond known NameTwice UnknownName
+
+-- What the call promises of its answer r.
+pub record ReadsDeclaration (bytes text : List ℕ) (r : Declaration) : Type 0 where
+  pub same : r ≡ declarationOf (readAnswer bytes text)
+  pub outcome : r .outcome ≡ outcomeOf (readAnswer bytes text)
+  pub parent : r .parent ≡ parentDue (readAnswer bytes text)
+  pub model : r .model ≡ modelDue (readAnswer bytes text)

@@ -1,0 +1,33 @@
+-- `piece_from` meets its contract: a word where a run of name bytes begins, else a sign.
+-- Assumes nothing.
+use mathlib.Core.Path.{sym, _∙_, ap}
+use Rattle.name.specs.Class.{laterByte}
+use Rattle.declaration_scan.specs.Unread.{signKind}
+use Rattle.declaration_scan.proofs.Runs.{kind-word, kind-sign}
+use Rattle.declaration_scan.proofs.Pieces.{end-word, word-here, no-word-here, piece-is}
+use borrow.Author.Needs.{needs}
+use Rattle.declaration_scan.proofs.piece_from.Statement.{statement}
+use Rattle.declaration_scan.proofs.piece_from.Tie as tie
+
+sign-kind-requires : tie.Need-sign-kind-requires
+sign-kind-requires c κs = search needs
+
+run-end-requires : tie.Need-run-end-requires
+run-end-requires c κs = (c .before .before .pre .0, c .sign-kind .ensures ∙ ap signKind (c .before .before .pre .1))
+
+returns : tie.Need-returns
+returns c =
+    let w = word-here (c .before .before .before .before .args .text .now) _ _ (c .before .before .before .before .pre .1) _ (c .before .run-end .ensures .0) (c .if1 .taken) in
+    (piece-is (c .before .before .before .before .args .text .now) _ _ _ _ _ (c .before .before .before .before .pre .1) (kind-word _ w) (end-word (c .before .before .before .before .args .text .now) _ _ (c .before .before .before .before .pre .1) _ w (c .before .run-end .ensures .0)), c .before .run-end .ensures .1)
+
+sign-end-requires : tie.Need-sign-end-requires
+sign-end-requires c κs = (c .before .before .before .before .pre .0, sym (ap laterByte (c .before .before .before .before .pre .1)) ∙ no-word-here (c .before .before .before .before .args .text .now) _ _ (c .before .before .before .before .pre .1) _ (c .before .run-end .ensures .0) (c .if1 .left))
+
+returns-2 : tie.Need-returns-2
+returns-2 c =
+    let w = no-word-here (c .before .before .before .before .before .args .text .now) _ _ (c .before .before .before .before .before .pre .1) _ (c .before .before .run-end .ensures .0) (c .before .if1 .left) in
+    (piece-is (c .before .before .before .before .before .args .text .now) _ _ _ _ _ (c .before .before .before .before .before .pre .1) (kind-sign _ _ w (c .before .before .before .sign-kind .ensures)) (c .sign-end .ensures .0), c .sign-end .ensures .1)
+
+pub piece-from-spec : {M : Type 1} → statement M
+piece-from-spec =
+    tie.close (tie.spec sign-kind-requires run-end-requires returns sign-end-requires returns-2)

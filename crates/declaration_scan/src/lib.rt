@@ -1,0 +1,144 @@
+// Steps along a text: its next unread byte, white space, a run of name bytes, a token.
+ghost use mathlib.Core.Path.{_≡_};
+ghost use mathlib.Core.Bool.{false};
+ghost use Prim.Native.Nat.{_+_, _≤_};
+ghost use lib.ListN.{length, drop};
+ghost use Rattle.name.specs.Class.{laterByte, classTable};
+ghost use Rattle.declaration_spelling.specs.Token.{isSpace};
+ghost use Rattle.declaration_scan.specs.Unread.{endOfText, nextOf, runOf, signKind};
+ghost use Rattle.declaration_scan.specs.Piece.{wordEnd, pieceFrom};
+
+// What stands for the next byte at the end of a text.
+const END: usize = 256;
+
+// The kinds of a token: the end of the text, a word, and each sign; the marks are 7 to 9.
+const OVER: u8 = 0;
+
+pub const WORD: u8 = 1;
+
+const OTHER: u8 = 10;
+
+// A token of the text: whether white space stands before it, its kind, and the places where it begins and ends.
+pub struct Piece {
+    pub gap: bool,
+    pub kind: u8,
+    pub from: usize,
+    pub to: usize,
+}
+
+// The next unread byte, or 256 at the end of the text.
+pub fn next_unread(text: &[u8], at: usize) -> usize
+    ensures { λ r. ⌜ (r ≡ nextOf (drop at (now (text .entry)))) × (r ≤ endOfText) ⌝ }
+{
+    if at < text.len() {
+        text[at] as usize
+    } else {
+        END
+    }
+}
+
+// Whether the next byte is white space.
+fn is_space(next: usize) -> bool
+    ensures { λ r. ⌜ r ≡ isSpace next ⌝ }
+{
+    next == 32
+}
+
+// Whether the next byte may stand in a name, by the table of classes.
+fn is_name_byte(classes: &[u8], next: usize) -> bool
+    requires { ⌜ (now classes ≡ classTable) × (next ≤ endOfText) ⌝ }
+    ensures { λ r. ⌜ r ≡ laterByte next ⌝ }
+{
+    if next < END {
+        name::class_in(classes, next as u8) != 0
+    } else {
+        false
+    }
+}
+
+// The first place from `at` on that holds no white space.
+pub fn skip_spaces(text: &[u8], at: usize) -> usize
+    requires { ⌜ at ≤ length (now text) ⌝ }
+    ensures { λ r. ⌜ (r ≡ at + runOf isSpace (drop at (now (text .entry)))) × (r ≤ length (now (text .entry))) ⌝ }
+{
+    let mut i = at;
+    while is_space(next_unread(text, i)) {
+        i += 1;
+    }
+    i
+}
+
+// The first place from `at` on that holds no name byte.
+pub fn skip_name(text: &[u8], at: usize) -> usize
+    requires { ⌜ at ≤ length (now text) ⌝ }
+    ensures { λ r. ⌜ (r ≡ at + runOf laterByte (drop at (now (text .entry)))) × (r ≤ length (now (text .entry))) ⌝ }
+{
+    let classes = name::class_table();
+    let mut i = at;
+    while is_name_byte(&classes, next_unread(text, i)) {
+        i += 1;
+    }
+    i
+}
+
+// The kind of a token that is no word, by its first byte.
+fn sign_kind(next: usize) -> u8
+    ensures { λ r. ⌜ r ≡ signKind next ⌝ }
+{
+    match next {
+        40 => 2,
+        41 => 3,
+        44 => 4,
+        124 => 5,
+        62 => 6,
+        63 => 7,
+        43 => 8,
+        42 => 9,
+        256 => OVER,
+        _ => OTHER,
+    }
+}
+
+// Where the run of name bytes at a place ends. None begins with a sign, so the table of classes is made for the others alone.
+fn run_end(text: &[u8], from: usize, sign: u8) -> usize
+    requires { ⌜ (from ≤ length (now text)) × (sign ≡ signKind (nextOf (drop from (now text)))) ⌝ }
+    ensures { λ r. ⌜ (r ≡ from + runOf laterByte (drop from (now (text .entry)))) × (r ≤ length (now (text .entry))) ⌝ }
+{
+    if sign != OTHER {
+        return from;
+    }
+    skip_name(text, from)
+}
+
+// Where the token at a place ends that is no word.
+fn sign_end(text: &[u8], from: usize) -> usize
+    requires { ⌜ (from ≤ length (now text)) × (laterByte (nextOf (drop from (now text))) ≡ false) ⌝ }
+    ensures { λ r. ⌜ (r ≡ wordEnd (now (text .entry)) from) × (r ≤ length (now (text .entry))) ⌝ }
+{
+    if from < text.len() { from + 1 } else { from }
+}
+
+// The token that begins at `from` with the byte `first`, where the white space before it begins at `at`.
+pub fn piece_from(text: &[u8], at: usize, from: usize, first: usize) -> Piece
+    requires { ⌜ (from ≤ length (now text)) × (first ≡ nextOf (drop from (now text))) × (first ≤ endOfText) ⌝ }
+    ensures { λ r. ⌜ (r ≡ pieceFrom (now (text .entry)) at from) × (r .to ≤ length (now (text .entry))) ⌝ }
+{
+    let gap = at < from;
+    let sign = sign_kind(first);
+    let end = run_end(text, from, sign);
+    if from < end {
+        return Piece {
+            gap,
+            kind: WORD,
+            from,
+            to: end,
+        };
+    }
+    let to = sign_end(text, from);
+    Piece {
+        gap,
+        kind: sign,
+        from,
+        to,
+    }
+}

@@ -1,0 +1,122 @@
+-- House spelling is a spelling.
+-- Assumes nothing.
+use Prim.Native.Nat.{ℕ, zero, suc, _+_, _≤_, _<_}
+use mathlib.Core.Path.{_≡_, refl, sym, _∙_, ap}
+use mathlib.Core.Bool.{Bool, true, false, cond}
+use mathlib.Core.List.{List, [], _∷_, _++_}
+use mathlib.Core.Logic.{_⊎_, inl, inr}
+use native.Mathlib.Omega.{arith}
+use native.Mathlib.Decide.{ℕ-discrete, decLt}
+use lib.Dec.{eqb}
+use lib.ListN.{length}
+use borrow.Author.Tests.{eq-eqb, ne-eqb}
+use Rattle.model.specs.declared.Model.{Model}
+use Rattle.model.specs.Record.{factorOf, IsChain}
+use Rattle.declaration_spelling.specs.Token.{Token, word, lpar, rpar, comma, mark, markByte, spell, behind, room, Fits, Spells}
+use Rattle.declaration_spelling.specs.House.{Factor, members, factorsFrom, factorsOf, nameAt, named, opening, markText, barsText, groupText, factorText, othersText, bodyText, houseText, declaration}
+use Rattle.declaration_spelling.specs.Spelled.{markTokens, barsTokens, groupTokens, factorTokens, othersTokens, bodyTokens, times, Reordered, Spelled}
+use Rattle.declaration_spelling.proofs.Bytes.{space-is}
+
+-- whatever stands before, the text spells the tokens
+abbrev Anyhow : List Token → List ℕ → Type 0
+Anyhow ts k = (u : Token) → Spells u ts k
+
+mark-spelled : (m : ℕ) (ts : List Token) (k : List ℕ) → Anyhow ts k → Anyhow (markTokens m ts) (markText m k)
+unfolding markTokens markText spell markByte room
+mark-spelled zero ts k h u = h u
+mark-spelled (suc m) ts k h u = ([], k, refl, tt, refl, h (mark m))
+
+bars-spelled : (xs : List (List ℕ)) (ts : List Token) (k : List ℕ) → Anyhow ts k → Anyhow (barsTokens xs ts) (barsText xs k)
+unfolding barsTokens barsText spell room behind
+bars-spelled [] ts k h u = ([], k, refl, tt, tt, h rpar)
+bars-spelled (x ∷ xs) ts k h u = ([], x ++ barsText xs k, refl, tt, tt, ([], barsText xs k, refl, tt, tt, bars-spelled xs ts k h (word x)))
+
+group-spelled : (xs : List (List ℕ)) (ts : List Token) (k : List ℕ) → Anyhow ts k → (u : Token) → Fits (behind u) [] → Spells u (groupTokens xs ts) (groupText xs k)
+unfolding groupTokens groupText spell room behind
+group-spelled [] ts k h u f = ([], 41 ∷ k, refl, tt, f, ([], k, refl, tt, tt, h rpar))
+group-spelled (x ∷ []) ts k h u f = ([], k, refl, tt, f, h (word x))
+group-spelled (x ∷ y ∷ xs) ts k h u f =
+    ([], x ++ barsText (y ∷ xs) k, refl, tt, f, ([], barsText (y ∷ xs) k, refl, tt, tt, bars-spelled (y ∷ xs) ts k h (word x)))
+
+factor-spelled : (f : Factor (List ℕ)) (ts : List Token) (k : List ℕ) → Anyhow ts k → (u : Token) → Fits (behind u) [] → Spells u (factorTokens f ts) (factorText f k)
+unfolding factorTokens factorText
+factor-spelled f ts k h u g = group-spelled (f .names) _ _ (mark-spelled (f .mode) ts k h) u g
+
+others-spelled : (fs : List (Factor (List ℕ))) → Anyhow (othersTokens fs) (othersText fs)
+unfolding othersTokens othersText spell room behind
+others-spelled [] u = ([], 62 ∷ [], refl, tt, tt, ([], [], refl, tt, tt, refl))
+others-spelled (f ∷ fs) u = ([], factorText f (othersText fs), refl, tt, tt, factor-spelled f _ _ (others-spelled fs) comma tt)
+
+body-spelled : (w : List ℕ) (fs : List (Factor (List ℕ))) → Spells (word w) (bodyTokens fs) (32 ∷ bodyText fs)
+unfolding bodyTokens bodyText spell room behind
+body-spelled w [] = (32 ∷ [], 62 ∷ [], refl, (space-is, tt), (32, [], refl), ([], [], refl, tt, tt, refl))
+body-spelled w (f ∷ fs) = (32 ∷ [], factorText f (othersText fs), refl, (space-is, tt), (32, [], refl), factor-spelled f _ _ (others-spelled fs) lpar tt)
+
+head-spelled : (w : List ℕ) (fs : List (Factor (List ℕ))) → Spells (word opening) (word w ∷ bodyTokens fs) (32 ∷ (w ++ (32 ∷ bodyText fs)))
+unfolding spell room behind
+head-spelled w fs = (32 ∷ [], 32 ∷ bodyText fs, refl, (space-is, tt), (32, [], refl), body-spelled w fs)
+
+-- the members of a factor are its names, each once
+members-out : (m : Model) (i x r k : ℕ) → (x < k) ⊎ (k + r ≤ x) → times x (members m i k r) ≡ 0
+unfolding members times
+members-out m i x zero k h = refl
+members-out m i x (suc r) k h = go (eqb (factorOf m k) i) (members-out m i x r (suc k) (shift h))
+  where
+    shift : (x < k) ⊎ (k + suc r ≤ x) → (x < suc k) ⊎ (suc k + r ≤ x)
+    shift (inl a) = inl (omega arith)
+    shift (inr a) = inr (omega arith)
+
+    apart-from : (x < k) ⊎ (k + suc r ≤ x) → x ≡ k → ⊥
+    apart-from (inl a) e = omega arith
+    apart-from (inr a) e = omega arith
+
+    go : (b : Bool) → times x (members m i (suc k) r) ≡ 0 → times x (cond b (k ∷ members m i (suc k) r) (members m i (suc k) r)) ≡ 0
+    go true ih = rw (ne-eqb x k (apart-from h)) ih
+    go false ih = ih
+
+members-in : (m : Model) (i x r k : ℕ) → k ≤ x → x < k + r → times x (members m i k r) ≡ cond (eqb (factorOf m x) i) 1 0
+unfolding members times
+members-in m i x zero k h l = absurd (omega arith)
+members-in m i x (suc r) k h l = go (ℕ-discrete x k) (λ d. members-in m i x r (suc k) d (omega arith))
+  where
+    here : (b : Bool) → times k (members m i (suc k) r) ≡ 0 → times k (cond b (k ∷ members m i (suc k) r) (members m i (suc k) r)) ≡ cond b 1 0
+    here true e = rw (eq-eqb k k refl) (ap suc e)
+    here false e = e
+
+    further : (b : Bool) → (x ≡ k → ⊥) → times x (cond b (k ∷ members m i (suc k) r) (members m i (suc k) r)) ≡ times x (members m i (suc k) r)
+    further true d = rw (ne-eqb x k d)
+    further false d = refl
+
+    go : Dec (x ≡ k) → (suc k ≤ x → times x (members m i (suc k) r) ≡ cond (eqb (factorOf m x) i) 1 0)
+        → times x (cond (eqb (factorOf m k) i) (k ∷ members m i (suc k) r) (members m i (suc k) r)) ≡ cond (eqb (factorOf m x) i) 1 0
+    go (yes e) ih = rw e (here (eqb (factorOf m k) i) (members-out m i k r (suc k) (inl (omega arith))))
+    go (no d) ih = further (eqb (factorOf m k) i) d ∙ ih (omega arith)
+
+module _ (size n : ℕ) (fits : size ≤ 255) (m : Model) (c : IsChain size n m) where
+  members-all : (i x : ℕ) → i < m .count → times x (members m i 0 n) ≡ cond (eqb (factorOf m x) i) 1 0
+  members-all i x l = go (decLt x n)
+    where
+      go : Dec (x < n) → times x (members m i 0 n) ≡ cond (eqb (factorOf m x) i) 1 0
+      go (yes h) = members-in m i x n 0 (omega arith) (omega arith)
+      go (no h) =
+          members-out m i x n 0 (inr (omega arith))
+          ∙ sym (ap (λ (b : Bool). cond {A = ℕ} b 1 0) (ne-eqb (factorOf m x) i (λ e. omega (arith, c .others x (omega arith), c .few))))
+
+  pub house-order : (r i : ℕ) → i + r ≡ m .count → Reordered m i (factorsFrom m n i r)
+  unfolding factorsFrom
+  house-order zero i e = omega arith
+  house-order (suc r) i e = (omega arith, refl, λ x. members-all i x (omega arith), house-order r (suc i) (omega arith))
+
+-- the house spelling of a chain is a spelling of it
+pub house-spelled : (size : ℕ) (names : List (List ℕ)) (p : ℕ) (m : Model) → size ≤ 255 → p < length names → IsChain size (length names) m → Spelled names (declaration names p m) p m
+unfolding declaration houseText factorsOf
+house-spelled size names p m fits l c = record {
+  parent = l;
+  factors = factorsFrom m (length names) 0 (m .count);
+  order = house-order size (length names) fits m c (m .count) 0 (omega arith);
+  spelled = record {
+    rest = 32 ∷ (nameAt names p ++ (32 ∷ bodyText (named names (factorsFrom m (length names) 0 (m .count)))));
+    opens = refl;
+    spaced = head-spelled (nameAt names p) (named names (factorsFrom m (length names) 0 (m .count)));
+  };
+}

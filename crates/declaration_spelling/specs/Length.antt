@@ -1,0 +1,40 @@
+-- The length of a declaration in house spelling.
+-- Assumes nothing.
+use Prim.Native.Nat.{ℕ, zero, suc, _+_}
+use mathlib.Core.List.{List, [], _∷_}
+use lib.ListN.{length}
+use Rattle.model.specs.declared.Model.{Model}
+use Rattle.declaration_spelling.specs.House.{Factor, factorsOf, nameAt, named}
+
+-- Paper 01: "The longest has 2,253 bytes."
+abbrev pub longestDeclaration : ℕ
+longestDeclaration = 2253
+
+unfoldable pub markLength : ℕ → ℕ
+markLength zero = 0
+markLength (suc m) = 1
+
+-- each name and the `|` or `)` beside it
+unfoldable pub namesLength : List (List ℕ) → ℕ
+namesLength [] = 0
+namesLength (x ∷ xs) = length x + 1 + namesLength xs
+
+-- a group has one `(` more
+unfoldable pub groupLength : List (List ℕ) → ℕ
+groupLength [] = 2
+groupLength (x ∷ []) = length x
+groupLength (x ∷ y ∷ xs) = 1 + namesLength (x ∷ y ∷ xs)
+
+-- each factor and the `,` or `)` beside it
+unfoldable pub factorsLength : List (Factor (List ℕ)) → ℕ
+factorsLength [] = 0
+factorsLength (f ∷ fs) = groupLength (f .names) + markLength (f .mode) + 1 + factorsLength fs
+
+-- the model and `>`: `EMPTY` has 5 bytes, any other model a `(` more than its factors
+unfoldable pub bodyLength : List (Factor (List ℕ)) → ℕ
+bodyLength [] = 6
+bodyLength (f ∷ fs) = 2 + factorsLength (f ∷ fs)
+
+-- `<!ELEMENT` and two spaces have 11 bytes
+unfoldable pub declarationLength : List (List ℕ) → ℕ → Model → ℕ
+declarationLength names p m = 11 + length (nameAt names p) + bodyLength (named names (factorsOf m (length names)))

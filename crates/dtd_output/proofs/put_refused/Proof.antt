@@ -1,0 +1,51 @@
+-- `put_refused` meets its contract: the word, the number, the line feed.
+-- Assumes nothing.
+use borrow.Author.Needs.{needs}
+use Rattle.dtd_output.proofs.Refused.{tens-room, ones-room, feed-room, refused-put}
+use Rattle.dtd_output.proofs.put_refused.Statement.{statement}
+use Rattle.dtd_output.proofs.put_refused.Tie as tie
+
+number-requires : tie.Need-number-requires
+number-requires c κs = search needs
+
+slice-aggregate-put-all : tie.Need-slice-aggregate-put-all
+slice-aggregate-put-all c = search needs
+
+put-all-requires : tie.Need-put-all-requires
+put-all-requires c κs = search needs
+
+tens-requires : tie.Need-tens-requires
+tens-requires c κs = search needs
+
+put-some-requires : tie.Need-put-some-requires
+put-some-requires c κs = tens-room (c .before .before .before .before .before .before .before .before .before .args .refusal) _ _ (c .before .before .before .before .before .before .before .number .ensures) (c .tens .ensures) _ (c .before .before .before .before .before .before .before .before .before .pre) _ _ (c .before .before .before .before .put-all .ensures)
+
+add-put-some : tie.Need-add-put-some
+add-put-some c = search needs
+
+put-some-requires-2 : tie.Need-put-some-requires-2
+put-some-requires-2 c κs = ones-room (c .before .before .before .before .before .before .before .before .before .before .before .before .before .args .refusal) _ _ (c .before .before .before .before .before .before .before .before .before .before .before .number .ensures) (c .before .before .before .before .tens .ensures) _ (c .before .before .before .before .before .before .before .before .before .before .before .before .before .pre) _ _ (c .before .before .before .before .before .before .before .before .put-all .ensures) _ _ (c .before .before .before .put-some .ensures)
+
+put-some-requires-3 : tie.Need-put-some-requires-3
+put-some-requires-3 c κs = feed-room (c .before .before .before .before .before .before .before .before .before .before .before .before .before .before .before .before .before .args .refusal) _ _ (c .before .before .before .before .before .before .before .before .before .before .before .before .before .before .before .number .ensures) (c .before .before .before .before .before .before .before .before .tens .ensures) _ (c .before .before .before .before .before .before .before .before .before .before .before .before .before .before .before .before .before .pre) _ _ (c .before .before .before .before .before .before .before .before .before .before .before .before .put-all .ensures) _ _ (c .before .before .before .before .before .before .before .put-some .ensures) _ _ (c .before .before .before .put-some2 .ensures)
+
+same-length : tie.Need-same-length
+same-length c = search needs
+
+returns : tie.Need-returns
+returns c = refused-put (c .before .before .before .before .before .before .before .before .before .before .before .before .before .before .before .before .before .before .before .before .args .refusal) _ _ (c .before .before .before .before .before .before .before .before .before .before .before .before .before .before .before .before .before .before .number .ensures) (c .before .before .before .before .before .before .before .before .before .before .before .tens .ensures) _ (c .before .before .before .before .before .before .before .before .before .before .before .before .before .before .before .before .before .before .before .before .pre) _ _ (c .before .before .before .before .before .before .before .before .before .before .before .before .before .before .before .put-all .ensures) _ _ (c .before .before .before .before .before .before .before .before .before .before .put-some .ensures) _ _ (c .before .before .before .before .before .before .put-some2 .ensures) _ _ (c .before .before .put-some3 .ensures)
+
+pub put-refused-spec : {M : Type 1} → statement M
+put-refused-spec =
+    tie.close
+    (tie.spec
+    number-requires
+    slice-aggregate-put-all
+    put-all-requires
+    tens-requires
+    put-some-requires
+    add-put-some
+    put-some-requires-2
+    put-some-requires-3
+    same-length
+    returns)

@@ -1,0 +1,35 @@
+-- `row_of` meets its contract.
+-- Assumes nothing.
+use mathlib.Core.Path.{_∙_, ap}
+use lib.ListN.{length}
+use borrow.Author.Needs.{needs}
+use Rattle.follow_table.proofs.Parts.{part-is, length-row}
+use Rattle.follow_table.proofs.row_of.Statement.{statement}
+use Rattle.follow_table.proofs.row_of.Tie as tie
+
+mul-from : tie.Need-mul-from
+mul-from c = search needs
+
+add-to : tie.Need-add-to
+add-to c = search needs
+
+mul-result : tie.Need-mul-result
+mul-result c = search needs
+
+sub-result : tie.Need-sub-result
+sub-result c = search needs
+
+part-result-start : tie.Need-part-result-start
+part-result-start c = search needs
+
+part-result-end : tie.Need-part-result-end
+part-result-end c = search needs
+
+returns : tie.Need-returns
+returns c =
+    let a = c .before .args in
+    let row = part-is (a .table .now) (a .parent) in
+    (row, ap length row ∙ length-row (a .table .now) (a .parent) (c .before .pre .0) (c .before .pre .1))
+
+pub row-of-spec : {M : Type 1} → statement M
+row-of-spec = tie.close (tie.spec mul-from add-to mul-result sub-result part-result-start part-result-end returns)

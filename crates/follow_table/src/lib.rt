@@ -1,0 +1,136 @@
+// The follow facts of all parents of a book, gathered in one walk over its blocks into a table with a row of words for each parent.
+use book::Layout;
+use book::part;
+use book_access::block_at_place;
+use follow::Facts;
+use follow::ParentFacts;
+use follow::add_pairs;
+use follow::with_first;
+use follow::with_last;
+use nameset::NameSet;
+use nameset::PLACES;
+ghost use mathlib.Core.Path.{_≡_};
+ghost use mathlib.Core.Bool.{true, _||_};
+ghost use Prim.Native.Nat.{_<_};
+ghost use lib.Dec.{eqb};
+ghost use lib.ListN.{length, drop};
+ghost use Rattle.nameset.specs.Places.{places};
+ghost use Rattle.book.specs.Book.{allBelow};
+ghost use Rattle.book.specs.Access.{LaidOut};
+ghost use Rattle.follow.specs.Follow.{isEmpty};
+ghost use Rattle.follow_table.specs.Table.{rowSize, tableSize, rowOf, factsIn, countIn, HasRoom, HeadAdded, RowAdded, Added, Gathered};
+
+// A row: the set of starts, the set of ends, 1 where a word is empty, the number of blocks, then the names that follow each name.
+const STARTS: usize = 0;
+
+const ENDS: usize = 1;
+
+const EMPTY: usize = 2;
+
+const BLOCKS: usize = 3;
+
+const FOLLOWS: usize = 4;
+
+const ROW: usize = 68;
+
+// The words of a table: a row for each place.
+pub const WORDS: usize = 4352;
+
+// 1 where there was an empty word before, or this one is empty.
+fn mark_empty(mark: u64, word: &[u8]) -> u64
+    ensures { λ r. ⌜ eqb r 1 ≡ (eqb mark 1 || isEmpty (now (word .entry))) ⌝ }
+{
+    if word.len() == 0 {
+        return 1;
+    }
+    mark
+}
+
+// Adds a block's word to a row, all but its pairs.
+fn add_to_head(row: &mut [u64], word: &[u8])
+    requires { ⌜ (length (now row) ≡ rowSize) × (allBelow places (now word) ≡ true) × HasRoom (now row) ⌝ }
+    ensures { λ _. ⌜ HeadAdded (now (row .entry)) (now (word .entry)) (now (row .exit)) ⌝ }
+{
+    row[STARTS] = with_first(NameSet::of_word(row[STARTS]), word).word();
+    row[ENDS] = with_last(NameSet::of_word(row[ENDS]), word).word();
+    row[EMPTY] = mark_empty(row[EMPTY], word);
+    row[BLOCKS] += 1;
+}
+
+// Adds a block's word to a row.
+fn add_to_row(row: &mut [u64], word: &[u8])
+    requires { ⌜ (length (now row) ≡ rowSize) × (allBelow places (now word) ≡ true) × HasRoom (now row) ⌝ }
+    ensures { λ _. ⌜ RowAdded (now (row .entry)) (now (word .entry)) (now (row .exit)) ⌝ }
+{
+    add_to_head(row, word);
+    add_pairs(&mut row[FOLLOWS..], word);
+}
+
+// Adds a block's word to the row of its parent.
+fn add_to_table(table: &mut [u64], parent: usize, word: &[u8])
+    requires { ⌜ (length (now table) ≡ tableSize) × (parent < places) × (allBelow places (now word) ≡ true) × HasRoom (rowOf (now table) parent) ⌝ }
+    ensures { λ _. ⌜ Added (now (table .entry)) parent (now (word .entry)) (now (table .exit)) ⌝ }
+{
+    let from = parent * ROW;
+    let to = from + ROW;
+    add_to_row(&mut table[from..to], word);
+}
+
+// The table of a book that was read.
+pub fn gather_facts(bytes: &[u8], layout: Layout) -> [u64; WORDS]
+    requires { ⌜ LaidOut (now bytes) layout ⌝ }
+    ensures { λ r. ⌜ Gathered (now (bytes .entry)) r ⌝ }
+{
+    let mut table = [0u64; WORDS];
+    let mut at = layout.body;
+    let mut left = layout.blocks;
+    while 0 < left {
+        let block = block_at_place(bytes, at);
+        let word = part(bytes, block.from, block.to);
+        add_to_table(&mut table, block.parent, word);
+        at = block.to;
+        left -= 1;
+    }
+    table
+}
+
+// The row of a parent.
+fn row_of(table: &[u64], parent: usize) -> &[u64]
+    requires { ⌜ (length (now table) ≡ tableSize) × (parent < places) ⌝ }
+    ensures { λ r. ⌜ (now r ≡ rowOf (now (table .entry)) parent) × (length (now r) ≡ rowSize) ⌝ }
+{
+    let from = parent * ROW;
+    let to = from + ROW;
+    &table[from..to]
+}
+
+// The names that follow each name, of a row.
+fn follows_in(row: &[u64]) -> [u64; PLACES]
+    requires { ⌜ length (now row) ≡ rowSize ⌝ }
+    ensures { λ r. ⌜ r ≡ drop 4 (now (row .entry)) ⌝ }
+{
+    let mut rows = [0u64; PLACES];
+    let mut i = 0;
+    while i < PLACES {
+        rows[i] = row[FOLLOWS + i];
+        i += 1;
+    }
+    rows
+}
+
+// What the table keeps of a parent.
+pub fn facts_in(table: &[u64], parent: usize) -> ParentFacts
+    requires { ⌜ (length (now table) ≡ tableSize) × (parent < places) ⌝ }
+    ensures { λ r. ⌜ (r .blocks ≡ countIn (rowOf (now (table .entry)) parent)) × (r .facts ≡ factsIn (rowOf (now (table .entry)) parent)) ⌝ }
+{
+    let row = row_of(table, parent);
+    ParentFacts {
+        blocks: row[BLOCKS] as usize,
+        facts: Facts {
+            starts: NameSet::of_word(row[STARTS]),
+            ends: NameSet::of_word(row[ENDS]),
+            follows: follows_in(row),
+            empty: row[EMPTY] == 1,
+        },
+    }
+}

@@ -1,0 +1,73 @@
+-- `record_check::all_among` meets its contract: `top` is at most `count` where the numbers passed are in such a factor or in none.
+-- Assumes nothing.
+use Prim.Native.Nat.{_-_, _≤_, _<_}
+use mathlib.Core.Path.{_≡_, _∙_, ap}
+use mathlib.Core.Bool.{true}
+use native.Mathlib.Omega.{arith}
+use borrow.Author.Needs.{needs}
+use lib.Dec.{leb}
+use lib.ListN.{length, getD}
+use Rattle.model.specs.Record.{none}
+use Rattle.model.specs.Check.{allBelow, mayHold}
+use Rattle.model_check.proofs.Factors.{among, among-start, among-more, among-done}
+use Rattle.model_check.proofs.all_among.Statement.{statement}
+use Rattle.model_check.proofs.all_among.Tie as tie
+
+abbrev Inv-loop : tie.InvT-loop
+Inv-loop count factor from top₀ x₀ top x = (from ≤ x) × (top < 256) × (leb top count ≡ allBelow x (among count factor from))
+
+abbrev μ-loop : tie.MeasureT-loop
+μ-loop count factor from top₀ x₀ top x = length factor - x
+
+loop-holds : tie.Need-loop-holds Inv-loop μ-loop
+loop-holds c =
+    let a = c .before .args in
+    (omega arith, omega arith, among-start (a .count) (a .factor .now) (a .from))
+
+entry-requires : tie.Need-entry-requires Inv-loop μ-loop
+entry-requires c κs = search needs
+
+counted-requires : tie.Need-counted-requires Inv-loop μ-loop
+counted-requires c κs = search needs
+
+larger-requires : tie.Need-larger-requires Inv-loop μ-loop
+larger-requires c κs = search needs
+
+add-x : tie.Need-add-x Inv-loop μ-loop
+add-x c = search needs
+
+loop-less : tie.Need-loop-less Inv-loop μ-loop
+loop-less c = search needs
+
+loop-again : tie.Need-loop-again Inv-loop μ-loop
+loop-again c =
+    let a = c .before .before .before .before .before .before .args in
+    let l = c .before .before .before .before .loop in
+    let v : leb (c .before .counted .result) (a .count) ≡ mayHold (a .count) true (getD (a .factor .now) (l .x) none) =
+    c .before .counted .ensures (a .count) ∙ ap (mayHold (a .count) true) (c .before .before .entry .ensures) in
+    (omega arith, search needs, rw (c .larger .ensures) (among-more (a .count) (a .factor .now) (a .from) (l .x) (l .top) (c .before .counted .result) (l .inv .0) (l .inv .2) v))
+
+cast-result : tie.Need-cast-result Inv-loop μ-loop
+cast-result c = omega (arith, c .before .loop .inv .1)
+
+returns : tie.Need-returns Inv-loop μ-loop
+returns c =
+    let a = c .before .before .before .args in
+    let l = c .before .loop in
+    among-done (a .count) (a .factor .now) (a .from) (l .x) (l .top) (c .loop-test .left) (l .inv .2)
+
+pub all-among-spec : {M : Type 1} → statement M
+all-among-spec =
+    tie.close
+    (tie.spec
+    Inv-loop
+    μ-loop
+    loop-holds
+    entry-requires
+    counted-requires
+    larger-requires
+    add-x
+    loop-less
+    loop-again
+    cast-result
+    returns)

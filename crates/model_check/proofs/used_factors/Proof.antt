@@ -1,0 +1,81 @@
+-- `record_check::used_factors` meets its contract. The set has the factors of the names passed.
+-- Assumes nothing.
+use Prim.Native.Nat.{ℕ, _-_, _≤_, _<_, min}
+use mathlib.Core.Path.{_≡_, sym, _∙_, ap, ap₂}
+use mathlib.Core.Bool.{Bool, _||_}
+use mathlib.Core.List.{List}
+use native.Mathlib.Omega.{arith}
+use borrow.Author.Needs.{needs}
+use lib.Dec.{eqb}
+use lib.ListN.{length, getD}
+use Rattle.nameset.specs.Set.{member}
+use Rattle.model.specs.Record.{none}
+use Rattle.model.specs.Check.{anyBelow}
+use Rattle.model.proofs.Tests.{any-start, any-more}
+use Rattle.model_check.proofs.Factors.{named-within}
+use Rattle.model_check.proofs.used_factors.Statement.{statement}
+use Rattle.model_check.proofs.used_factors.Tie as tie
+
+-- Whether factor i holds the name x.
+abbrev holds : List ℕ → ℕ → ℕ → Bool
+holds factor i x = eqb (getD factor x none) i
+
+abbrev Inv-loop : tie.InvT-loop
+Inv-loop n count factor end used₀ x₀ used x = (x ≤ end) × ((i : ℕ) → i < count → member used i ≡ anyBelow x (holds factor i))
+
+abbrev μ-loop : tie.MeasureT-loop
+μ-loop n count factor end used₀ x₀ used x = end - x
+
+smaller-requires : tie.Need-smaller-requires Inv-loop μ-loop
+smaller-requires c κs = search needs
+
+empty-requires : tie.Need-empty-requires Inv-loop μ-loop
+empty-requires c κs = search needs
+
+loop-holds : tie.Need-loop-holds Inv-loop μ-loop
+loop-holds c = (omega arith, λ i h. c .empty .ensures .members i ∙ sym (any-start _))
+
+entry-requires : tie.Need-entry-requires Inv-loop μ-loop
+entry-requires c κs = search needs
+
+with-factor-requires : tie.Need-with-factor-requires Inv-loop μ-loop
+with-factor-requires c κs = search needs
+
+add-x : tie.Need-add-x Inv-loop μ-loop
+add-x c = search needs
+
+loop-less : tie.Need-loop-less Inv-loop μ-loop
+loop-less c = search needs
+
+loop-again : tie.Need-loop-again Inv-loop μ-loop
+loop-again c =
+    let l = c .before .before .before .loop in
+    let f = c .before .before .before .before .before .before .before .args .factor .now in
+    let here : (i : ℕ) → eqb (c .before .entry .result) i ≡ holds f i (l .x) = λ i. ap (λ (v : ℕ). eqb v i) (c .before .entry .ensures) in
+    (omega arith, λ i h. c .with-factor .ensures i h ∙ ap₂ _||_ (l .inv .1 i h) (here i) ∙ sym (any-more (l .x) (holds f i)))
+
+returns : tie.Need-returns Inv-loop μ-loop
+returns c =
+    let l = c .before .loop in
+    let u = c .before .before .before in
+    let o = u .before .before in
+    let n = o .args .n in
+    let f = o .args .factor .now in
+    let e : l .x ≡ min n (length f) = omega (arith, u .smaller .ensures) in
+    λ i h. l .inv .1 i h ∙ ap (λ (k : ℕ). anyBelow k (holds f i)) e ∙ named-within n f i (omega (arith, o .pre))
+
+pub used-factors-spec : {M : Type 1} → statement M
+used-factors-spec =
+    tie.close
+    (tie.spec
+    Inv-loop
+    μ-loop
+    smaller-requires
+    empty-requires
+    loop-holds
+    entry-requires
+    with-factor-requires
+    add-x
+    loop-less
+    loop-again
+    returns)

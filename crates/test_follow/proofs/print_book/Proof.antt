@@ -1,0 +1,28 @@
+-- `print_book` meets its contract: a book that was read is laid out as the reading says.
+-- Assumes nothing.
+use borrow.Author.Needs.{needs}
+use Rattle.book.proofs.Laws.{laid-out}
+use Rattle.test_follow.proofs.print_book.Statement.{statement}
+use Rattle.test_follow.proofs.print_book.Tie as tie
+
+read-book-requires : tie.Need-read-book-requires
+read-book-requires c κs = search needs
+
+enum-told : tie.Need-enum-told
+enum-told c = search needs
+
+print-parents-requires : tie.Need-print-parents-requires
+print-parents-requires c κs = laid-out _ _ (c .before .before .before .read-book .ensures) (c .enum-told .given .1)
+
+enum-told-2 : tie.Need-enum-told-2
+enum-told-2 c = search needs
+
+returns : tie.Need-returns
+returns c = search needs
+
+returns-2 : tie.Need-returns-2
+returns-2 c = search needs
+
+pub print-book-spec : {M : Type 1} → statement M
+print-book-spec =
+    tie.close (tie.spec read-book-requires enum-told print-parents-requires enum-told-2 returns returns-2)

@@ -1,0 +1,20 @@
+-- `with_pair` meets its contract: the word's numbers are below the number of places.
+-- Assumes nothing.
+use mathlib.Core.Path.{refl}
+use borrow.Author.Needs.{needs}
+use Rattle.book.specs.Book.{allBelow}
+use Rattle.test_follow.proofs.with_pair.Statement.{statement}
+use Rattle.test_follow.proofs.with_pair.Tie as tie
+
+slice-aggregate-after-word : tie.Need-slice-aggregate-after-word
+slice-aggregate-after-word c = search needs
+
+after-word-requires : tie.Need-after-word-requires
+unfolding allBelow
+after-word-requires c κs = refl
+
+returns : tie.Need-returns
+returns c = search needs
+
+pub with-pair-spec : {M : Type 1} → statement M
+with-pair-spec = tie.close (tie.spec slice-aggregate-after-word after-word-requires returns)

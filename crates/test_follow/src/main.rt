@@ -1,0 +1,67 @@
+// Prints the follow facts of some parents of a small book on standard input, and those of the first with one word more.
+use book::Layout;
+use follow::Facts;
+use nameset::NameSet;
+use refusal::Outcome;
+ghost use Rattle.book.specs.Access.{LaidOut};
+
+// A set of names below 8, one bit for each name.
+fn print_set(label: &[u8], names: NameSet) {
+    io::write_all(1, label);
+    io::print_hex(1, names.word(), 2);
+    io::write_all(1, b"\n");
+}
+
+fn print_facts(facts: Facts) {
+    let rows = facts.follows;
+    print_set(b"starts ", facts.starts);
+    print_set(b"ends ", facts.ends);
+    print_set(b"after 0 ", NameSet::of_word(rows[0]));
+    print_set(b"after 2 ", NameSet::of_word(rows[2]));
+    print_set(b"after 3 ", NameSet::of_word(rows[3]));
+    if facts.empty {
+        io::write_all(1, b"empty\n");
+    }
+}
+
+fn print_parent(bytes: &[u8], layout: Layout, parent: usize)
+    requires { ⌜ LaidOut (now bytes) layout ⌝ }
+{
+    let found = follow::parent_facts(bytes, layout, parent);
+    let facts = found.facts;
+    io::write_all(1, b"blocks ");
+    io::print_decimal(1, found.blocks as u64);
+    io::write_all(1, b"\n");
+    print_facts(facts);
+}
+
+fn with_pair(facts: Facts) -> Facts {
+    follow_borrowed::after_word(facts, b"\x02\x00")
+}
+
+fn print_parents(bytes: &[u8], layout: Layout)
+    requires { ⌜ LaidOut (now bytes) layout ⌝ }
+{
+    print_parent(bytes, layout, 0);
+    print_parent(bytes, layout, 1);
+    print_parent(bytes, layout, 5);
+    print_parent(bytes, layout, 2);
+    let found = follow::parent_facts(bytes, layout, 0);
+    let facts = found.facts;
+    print_facts(with_pair(facts));
+}
+
+fn print_book(bytes: &[u8]) {
+    let reading = book_reading::read_book(bytes);
+    let outcome = reading.outcome;
+    let layout = reading.layout;
+    if let Outcome::Done = outcome {
+        print_parents(bytes, layout);
+    }
+}
+
+fn main() {
+    let mut buf = io::large_buffer();
+    let n = io::read_full(0, &mut buf);
+    print_book(&buf[..n]);
+}

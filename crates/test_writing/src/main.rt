@@ -1,0 +1,163 @@
+// Declarations written into buffers of many lengths. Each line has the number of the outcome, the length, and the buffer: a dot where nothing was written.
+use declaration_writing::Written;
+use model::Model;
+
+// The names a, b and c, and no block.
+fn small_book() -> [u8; 10] {
+    [3, 0, 1, b'a', 1, b'b', 1, b'c', 0, 0]
+}
+
+// The same without its last byte.
+fn cut_book() -> [u8; 9] {
+    [3, 0, 1, b'a', 1, b'b', 1, b'c', 0]
+}
+
+fn empty() -> Model {
+    Model {
+        count: 0,
+        factor: [255u8; 64],
+        mode: [0u8; 64],
+    }
+}
+
+// The model (b?).
+fn one_name() -> Model {
+    let mut factor = [255u8; 64];
+    let mut mode = [0u8; 64];
+    factor[1] = 0;
+    mode[0] = 1;
+    Model {
+        count: 1,
+        factor,
+        mode,
+    }
+}
+
+// The model ((a|c)*,b+).
+fn two_factors() -> Model {
+    let mut factor = [255u8; 64];
+    let mut mode = [0u8; 64];
+    factor[0] = 0;
+    factor[2] = 0;
+    factor[1] = 1;
+    mode[0] = 3;
+    mode[1] = 2;
+    Model {
+        count: 2,
+        factor,
+        mode,
+    }
+}
+
+// 64 names in 32 pairs, each with a mark: the longest model there is.
+fn pairs() -> Model {
+    let mut factor = [255u8; 64];
+    let mut mode = [0u8; 64];
+    let mut i = 0;
+    while i < 32 {
+        factor[i * 2] = i as u8;
+        factor[i * 2 + 1] = i as u8;
+        mode[i] = 1;
+        i += 1;
+    }
+    Model {
+        count: 32,
+        factor,
+        mode,
+    }
+}
+
+// One line: how the call ended, and the whole buffer.
+fn report(written: Written, buffer: &[u8]) {
+    let outcome = written.outcome;
+    io::print_decimal(1, refusal::outcome_number(outcome) as u64);
+    io::write_all(1, b" ");
+    io::print_decimal(1, written.length as u64);
+    io::write_all(1, b" ");
+    io::write_all(1, buffer);
+    io::write_all(1, b"\n");
+}
+
+fn in_40(book: &[u8], parent: usize, m: Model) {
+    let mut buffer = [b'.'; 40];
+    let written = declaration_writing::write_declaration(book, parent, m, &mut buffer);
+    report(written, &buffer);
+}
+
+fn in_17(book: &[u8], parent: usize, m: Model) {
+    let mut buffer = [b'.'; 17];
+    let written = declaration_writing::write_declaration(book, parent, m, &mut buffer);
+    report(written, &buffer);
+}
+
+fn in_16(book: &[u8], parent: usize, m: Model) {
+    let mut buffer = [b'.'; 16];
+    let written = declaration_writing::write_declaration(book, parent, m, &mut buffer);
+    report(written, &buffer);
+}
+
+fn in_2252(book: &[u8], parent: usize, m: Model) {
+    let mut buffer = [b'.'; 2252];
+    let written = declaration_writing::write_declaration(book, parent, m, &mut buffer);
+    report(written, &buffer);
+}
+
+fn in_2253(book: &[u8], parent: usize, m: Model) {
+    let mut buffer = [b'.'; 2253];
+    let written = declaration_writing::write_declaration(book, parent, m, &mut buffer);
+    report(written, &buffer);
+}
+
+fn in_2260(book: &[u8], parent: usize, m: Model) {
+    let mut buffer = [b'.'; 2260];
+    let written = declaration_writing::write_declaration(book, parent, m, &mut buffer);
+    report(written, &buffer);
+}
+
+// The declaration fits, or it does not.
+fn written_cases() {
+    let book = small_book();
+    in_40(&book, 0, empty());
+    in_40(&book, 2, one_name());
+    in_17(&book, 2, one_name());
+}
+
+fn short_cases() {
+    let book = small_book();
+    in_16(&book, 2, one_name());
+    in_40(&book, 1, two_factors());
+}
+
+// 8 before 10, 10 before 12.
+fn parent_cases() {
+    let book = small_book();
+    in_40(&book, 3, two_factors());
+    in_40(&book, 256, two_factors());
+    in_16(&book, 3, pairs());
+}
+
+fn record_cases() {
+    let book = small_book();
+    in_16(&book, 0, pairs());
+}
+
+// The book is checked first.
+fn book_cases() {
+    let book = cut_book();
+    in_16(&book, 3, pairs());
+}
+
+// The longest declaration, in a buffer that is one byte short, one that it fills, and a longer one.
+fn main() {
+    written_cases();
+    short_cases();
+    parent_cases();
+    record_cases();
+    book_cases();
+    let mut space = io::buffer();
+    let got = libc::read(0, &mut space);
+    let n = io::count(got, &space);
+    in_2252(&space[..n], 63, pairs());
+    in_2253(&space[..n], 63, pairs());
+    in_2260(&space[..n], 63, pairs());
+}
