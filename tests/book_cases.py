@@ -1,12 +1,12 @@
 #!/usr/bin/env python3
-"""The cases of the program book_test: books on both sides of each limit of paper 01, with what is due of each.
+"""The cases of the program test_book: books on both sides of each limit of paper 01, with what is due of each.
 
 Without an argument it writes crates/test_book/stdin and stdout; with --check it says whether they are as written here.
 """
 import pathlib
 import sys
 
-FOLDER = pathlib.Path(__file__).resolve().parent.parent / "crates" / "book_test"
+FOLDER = pathlib.Path(__file__).resolve().parent.parent / "crates" / "test_book"
 
 
 def name(text, size=None):

@@ -1,5 +1,5 @@
 #!/usr/bin/env python3
-"""The cases of the program reading_cases: declarations read by the book of the names EMPTY, a, b, c and d, with what is due of each.
+"""The cases of the program test_reading: declarations read by the book of the names EMPTY, a, b, c and d, with what is due of each.
 
 The reader here is written from paper 01 alone. Without an argument it writes crates/test_reading/stdin and stdout; with --check it says whether they
 are as written here.
@@ -9,7 +9,7 @@ import random
 import re
 import sys
 
-FOLDER = pathlib.Path(__file__).resolve().parent.parent / "crates" / "reading_cases"
+FOLDER = pathlib.Path(__file__).resolve().parent.parent / "crates" / "test_reading"
 NAMES = ["EMPTY", "a", "b", "c", "d"]
 NAME = r"[A-Za-z_][A-Za-z0-9._-]{0,31}(?![A-Za-z0-9._-])"
 NONE = 255

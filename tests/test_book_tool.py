@@ -165,7 +165,7 @@ class Documents(unittest.TestCase):
 
 class Books(unittest.TestCase):
     def test_the_cases_of_the_book(self):
-        """Every refusal on both sides of its limit, with the numbers of the cases of book_test."""
+        """Every refusal on both sides of its limit, with the numbers of the cases of test_book."""
         for label, book, _, line in book_cases.cases():
             with self.subTest(label=label):
                 try:

@@ -23,7 +23,8 @@ fn counted(v: u8) -> u8
     if v == NONE { 0 } else { v + 1 }
 }
 
-// Whether each number from a place on is in one of the first `count` factors or in none. No early end: the loop runs over many entries at once.
+// Whether each number from a place on is in one of the first `count` factors or in none. No early end: the loop runs
+// over many entries at once.
 fn all_among(count: usize, factor: &[u8], from: usize) -> bool
     ensures { λ r. ⌜ r ≡ allBelow (length (now (factor .entry))) (λ x. ltb x from || mayHold count true (getD (now (factor .entry)) x none)) ⌝ }
 {
@@ -36,7 +37,8 @@ fn all_among(count: usize, factor: &[u8], from: usize) -> bool
     (top as usize) <= count
 }
 
-// Whether each number has an entry that it may have: every number one of the factors or none, and those that are no name's none.
+// Whether each number has an entry that it may have: every number one of the factors or none, and those that are no
+// name's none.
 fn all_placed(n: usize, count: usize, factor: &[u8]) -> bool
     ensures { λ r. ⌜ r ≡ allPlaced (length (now (factor .entry))) n count (now (factor .entry)) ⌝ }
 {
@@ -98,7 +100,8 @@ fn is_mode(mode: u8) -> bool
     }
 }
 
-// Whether each factor has a mode that it may have: the largest mode is judged, and the largest of those that belong to no factor.
+// Whether each factor has a mode that it may have: the largest mode is judged, and the largest of those that belong to
+// no factor.
 fn all_known(count: usize, mode: &[u8]) -> bool
     ensures { λ r. ⌜ r ≡ allKnown (length (now (mode .entry))) count (now (mode .entry)) ⌝ }
 {

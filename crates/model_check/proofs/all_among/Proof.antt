@@ -1,4 +1,5 @@
--- `record_check::all_among` meets its contract: `top` is at most `count` where the numbers passed are in such a factor or in none.
+-- `model_check::all_among` meets its contract: `top` is at most `count` where the numbers passed are in such a factor
+-- or in none.
 -- Assumes nothing.
 use Prim.Native.Nat.{_-_, _≤_, _<_}
 use mathlib.Core.Path.{_≡_, _∙_, ap}

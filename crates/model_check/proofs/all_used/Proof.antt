@@ -1,4 +1,4 @@
--- `record_check::all_used` meets its contract.
+-- `model_check::all_used` meets its contract.
 -- Assumes nothing.
 use borrow.Author.Needs.{needs}
 use Rattle.model_check.proofs.Used.{used-law}

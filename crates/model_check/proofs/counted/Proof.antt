@@ -1,4 +1,4 @@
--- `record_check::counted` meets its contract.
+-- `model_check::counted` meets its contract.
 -- Assumes nothing.
 use borrow.Author.Needs.{needs}
 use Rattle.model_check.proofs.Factors.{none-counted, factor-counted}

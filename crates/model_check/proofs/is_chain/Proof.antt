@@ -1,4 +1,4 @@
--- `record_check::is_chain` meets its contract: one answer for each check.
+-- `model_check::is_chain` meets its contract: one answer for each check.
 -- Assumes nothing.
 use Prim.Native.Nat.{ℕ, _≤_, _<_}
 use mathlib.Core.Path.{_≡_, sym, _∙_}

@@ -1,4 +1,4 @@
--- `record_check::is_mode` meets its contract.
+-- `model_check::is_mode` meets its contract.
 -- Assumes nothing.
 use Prim.Native.Nat.{ℕ, _≤_, _<_}
 use mathlib.Core.Path.{_≡_, sym}

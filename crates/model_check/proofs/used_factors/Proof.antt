@@ -1,4 +1,4 @@
--- `record_check::used_factors` meets its contract. The set has the factors of the names passed.
+-- `model_check::used_factors` meets its contract. The set has the factors of the names passed.
 -- Assumes nothing.
 use Prim.Native.Nat.{ℕ, _-_, _≤_, _<_, min}
 use mathlib.Core.Path.{_≡_, sym, _∙_, ap, ap₂}

@@ -1,4 +1,4 @@
--- `record_check::with_factor` meets its contract.
+-- `model_check::with_factor` meets its contract.
 -- Assumes nothing.
 use mathlib.Core.Path.{sym, _∙_, ap}
 use mathlib.Core.Bool.{Bool, _||_, or-false}
