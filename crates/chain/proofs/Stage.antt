@@ -1,4 +1,5 @@
--- The chain level after level: the sets that the code keeps are those of the levels, and the record is the chain so far.
+-- The chain level after level: the sets that the code keeps are those of the levels, and the record is the chain so
+-- far.
 -- Assumes nothing.
 use Prim.Native.Nat.{ℕ, zero, suc, _+_, _-_, _≤_, _<_}
 use mathlib.Core.Path.{_≡_, refl, sym, _∙_, ap, ap₂, fun-ext}
@@ -19,7 +20,7 @@ use Rattle.follow.specs.View.{viewOf}
 use Rattle.follow.specs.declared.Facts.{Facts}
 use Rattle.chain_levels.specs.Below.{anyBelow, countBelow, firstBelow}
 use Rattle.chain_levels.specs.Reach.{reaches, sameGroup, loops, leads, occurs}
-use Rattle.chain_levels.specs.Level.{isBefore, levelOf, lastLevel, skipped}
+use Rattle.chain_levels.specs.Rank.{isBefore, levelOf, lastLevel, skipped}
 use Rattle.chain_levels.specs.Chain.{singleAt, leadsAt, factorsAt, fixed, singlesMode, groupMode, withSingles, withGroups, withLevel, chainTo, chainOf}
 use Rattle.chain_peel.specs.Shown.{Shown}
 use Rattle.chain_peel.specs.Sets.{isLower, isAt, isHigher, inRows, stepsOver}

@@ -1,5 +1,6 @@
--- A level of a chain from its singles and its loop groups, each a test of a number.
+-- A means: `level-made` in crates/chain/proofs/Stage.antt joins it to crates/chain_levels/specs/Chain.antt.
 -- Assumes nothing.
+-- A level of a chain from its singles and its loop groups, each a test of a number.
 use Prim.Native.Nat.{ℕ, zero, suc, _+_}
 use mathlib.Core.Path.{_≡_}
 use mathlib.Core.Bool.{Bool, cond}

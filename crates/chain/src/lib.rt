@@ -46,7 +46,8 @@ fn meets(a: NameSet, b: NameSet) -> bool
     !a.both(b).is_empty()
 }
 
-// Whether some step goes from the lower names, or from start, to the higher names, or to the end; `stepped` has the names that a lower one, or start, leads to.
+// Whether some step goes from the lower names, or from start, to the higher names, or to the end; `stepped` has the
+// names that a lower one, or start, leads to.
 fn steps_over(empty: bool, ends: NameSet, stepped: NameSet, lower: NameSet, higher: NameSet) -> bool
     ensures { λ r. ⌜ r ≡ (empty || (meets places (member ends) (member lower) || meets places (member stepped) (member higher))) ⌝ }
 {

@@ -11,6 +11,7 @@ use Rattle.model.specs.Accept.{Names}
 use Rattle.model_language.specs.Word.{Point, start, name, end, Beside, Shows, Fact}
 use Rattle.follow.specs.Follow.{beginsWith, endsWith, hasPair, isEmpty, followOf, steps}
 use Rattle.follow.proofs.Laws.{some-word}
+use Rattle.chain_levels.specs.Level.{Occurs}
 use Rattle.chain_levels.proofs.Tests.{and-is, or-is, eqb-is}
 
 -- ---- points are told apart
@@ -126,6 +127,27 @@ fact-word (x ∷ ws) u v = (λ f. to f (fact-word ws u v .0), λ p. from p (fact
         go : (w ≡ x) ⊎ List·Memᴰ w ws → Fact (x ∷ ws) u v
         go (inl q) = inl (rw q at s)
         go (inr q) = inr (ih (w, q, s))
+
+-- ---- the names of a word are those that its steps lead to
+
+beside-in : (p : Point) (w : List ℕ) (u : Point) (x : ℕ) → Beside p w u (name x) → List·Memᴰ x w
+beside-in p [] u x s = absurd (end-name x (s .1))
+beside-in p (y ∷ w) u x (inl s) = List·Memᴰ·head (sym (name-is y x (s .1)))
+beside-in p (y ∷ w) u x (inr s) = List·Memᴰ·tail (beside-in (name y) w u x s)
+
+in-beside : (p : Point) (w : List ℕ) (x : ℕ) → List·Memᴰ x w → (u : Point) × Beside p w u (name x)
+in-beside p [] x m = absurd (List·Memᴰ·not-nil m)
+in-beside p (y ∷ w) x m = go (List·Memᴰ·cases-cons m) (in-beside (name y) w x)
+  where
+    go : (x ≡ y) ⊎ List·Memᴰ x w → (List·Memᴰ x w → (u : Point) × Beside (name y) w u (name x)) → (u : Point) × Beside p (y ∷ w) u (name x)
+    go (inl e) ih = (p, inl (refl, ap name (sym e)))
+    go (inr t) ih = let r = ih t in (r .0, inr (r .1))
+
+pub occurs-in : (words : List (List ℕ)) (x : ℕ) → Occurs (Fact words) x ↔ ((w : List ℕ) × List·Memᴰ w words × List·Memᴰ x w)
+occurs-in words x = (
+  λ (u, g). let k = fact-word words u (name x) .0 g in (k .0, k .1, beside-in start (k .0) u x (k .2)),
+  λ (w, m, i). let b = in-beside start w x i in (b .0, fact-word words (b .0) (name x) .1 (w, m, b .1)),
+)
 
 -- ---- numbers of a word
 

@@ -1,4 +1,5 @@
--- Levels as computed: a step between different points goes to a higher level, and a point of level l + 1 has a step from a point of level l.
+-- Executable levels: a step between different points goes to a higher level, and a point of level l + 1 has a step from
+-- a point of level l.
 -- Assumes nothing.
 use Prim.Native.Nat.{ℕ, zero, suc, _≤_, _<_}
 use mathlib.Core.Path.{_≡_, refl, sym, _∙_, ap, subst, fun-ext}
@@ -7,15 +8,16 @@ use mathlib.Core.Logic.{_⊎_, inl, inr, ⊎-elim, _↔_}
 use native.Mathlib.Omega.{arith}
 use Rattle.model.proofs.Tests.{same-test}
 use Rattle.model_language.specs.Word.{Point, start, name, end}
-use Rattle.model_language.specs.Step.{Reach, one, more}
+use Rattle.model_language.specs.Reach.{Reach, one, more}
 use Rattle.follow.specs.Follow.{Follow, steps}
 use Rattle.chain_levels.specs.Below.{countBelow, largestBelow}
 use Rattle.chain_levels.specs.Reach.{reaches, sameGroup}
-use Rattle.chain_levels.specs.Level.{OneGroup, isBefore, levelBy, levelOf, lastLevel}
+use Rattle.chain_levels.specs.Level.{Occurs, OneGroup}
+use Rattle.chain_levels.specs.Rank.{isBefore, levelBy, levelOf, lastLevel}
 use Rattle.chain_levels.proofs.Tests.{and-is, not-is, both-ways, refuted}
 use Rattle.chain_levels.proofs.Below.{largest-bounds, largest-has, largest-same, largest-most, count-lt, count-all}
 use Rattle.chain_levels.proofs.Reach.{reaches-is, reaches-trans, reaches-below, reached-below, group-is, group-reach, group-sym, group-below}
-use Rattle.chain_levels.proofs.Paths.{Way, here, by, Occurs, occurs-below, Sampled}
+use Rattle.chain_levels.proofs.Paths.{Way, here, by, occurs-below, Sampled}
 
 -- The level of a point.
 abbrev pub level : Follow → Point → ℕ
@@ -118,7 +120,7 @@ module _ (f : Follow) where
 
   -- ---- (l1) a step between different points goes to a higher level
 
-  pub one-group : (u v : Point) → OneGroup f u v → level f u ≡ level f v
+  pub one-group : (u v : Point) → OneGroup (steps f) u v → level f u ≡ level f v
   one-group start v g = absurd g
   one-group (name x) start g = absurd g
   one-group (name x) (name y) g = group-level x y (group-reach f x y .1 g)
@@ -133,7 +135,7 @@ module _ (f : Follow) where
   unfolding lastLevel
   last-low = omega arith
 
-  pub rises : (u v : Point) → steps f u v → (level f u < level f v) ⊎ OneGroup f u v
+  pub rises : (u v : Point) → steps f u v → (level f u < level f v) ⊎ OneGroup (steps f) u v
   rises start start g = absurd g
   rises start (name y) g = inl (level-low y (g .0))
   rises start end g = inl last-low
@@ -143,7 +145,7 @@ module _ (f : Follow) where
       there : reaches f x y ≡ true
       there = reaches-is f x y .1 (one g)
 
-      go : (q : Bool) → reaches f y x ≡ q → (levelOf f x < levelOf f y) ⊎ OneGroup f (name x) (name y)
+      go : (q : Bool) → reaches f y x ≡ q → (levelOf f x < levelOf f y) ⊎ OneGroup (steps f) (name x) (name y)
       go true e = inr (one g, reaches-is f y x .0 e)
       go false e = inl (before-rises x y (before-is x y .1 (there, e)))
   rises (name x) end g = inl (last-above x (g .0) (g .1))
@@ -245,7 +247,7 @@ module _ (f : Follow) where
   source-more x b l h e p q (inr (y, end, a, g, o, r)) = absurd o
 
   module _ (s : Sampled f) where
-    pub from-below : (x l : ℕ) → Occurs f x → levelOf f x ≡ suc l → Source x l
+    pub from-below : (x l : ℕ) → Occurs (steps f) x → levelOf f x ≡ suc l → Source x l
     from-below x zero o e = source-one x (occurs-below f x o) e (entry (s .to-name x o))
     from-below x (suc l) o e =
         let h = occurs-below f x o in
@@ -274,7 +276,7 @@ module _ (f : Follow) where
     way-rises here = omega arith
     way-rises (by {u = u} {v = v} g r) = omega (arith, step-rises u v g, way-rises r)
 
-    pub low : (x : ℕ) → Occurs f x → 0 < levelOf f x
+    pub low : (x : ℕ) → Occurs (steps f) x → 0 < levelOf f x
     low x o = level-low x (occurs-below f x o)
 
     high-way : (x : ℕ) → Way f (name x) end → levelOf f x < lastLevel f
@@ -282,5 +284,5 @@ module _ (f : Follow) where
     high-way x (by {v = name y} g r) = omega (arith, step-rises (name x) (name y) g, high-way y r)
     high-way x (by {v = end} g r) = last-above x (g .0) (g .1)
 
-    pub high : (x : ℕ) → Occurs f x → levelOf f x < lastLevel f
+    pub high : (x : ℕ) → Occurs (steps f) x → levelOf f x < lastLevel f
     high x o = high-way x (s .to-end x o)

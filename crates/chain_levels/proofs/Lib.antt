@@ -1,8 +1,8 @@
-pub mod Samples
 pub mod Tests
 pub mod Below
 pub mod Facts
 pub mod Reach
+pub mod Carry
 pub mod Paths
 pub mod Levels
 pub mod Skipped

@@ -11,6 +11,7 @@ use Rattle.model_language.specs.Word.{Point, start, name, end, Beside, Shows}
 use Rattle.follow.specs.Follow.{Follow, followOf, steps}
 use Rattle.chain_levels.specs.Below.{anyBelow}
 use Rattle.chain_levels.specs.Reach.{occurs}
+use Rattle.chain_levels.specs.Level.{Occurs}
 use Rattle.chain_levels.proofs.Tests.{and-is, or-is, ltb-is, some-is}
 use Rattle.chain_levels.proofs.Facts.{start-name, steps-shown}
 
@@ -19,19 +20,15 @@ pub data Way (f : Follow) : Point → Point → Type 0 where
   here : {u : Point} → Way f u u
   by : {u v w : Point} → steps f u v → Way f v w → Way f u w
 
--- The name x occurs: a step leads to it.
-abbrev pub Occurs : Follow → ℕ → Type 0
-Occurs f x = (u : Point) × steps f u (name x)
-
 module _ (f : Follow) (x : ℕ) where
   follower : Bool
   follower = anyBelow (f .names) (λ b. f .follows b x)
 
-  pub occurs-is : (occurs f x ≡ true) ↔ Occurs f x
+  pub occurs-is : (occurs f x ≡ true) ↔ Occurs (steps f) x
   unfolding occurs follower
   occurs-is = (to, λ o. from (o .0) (o .1))
     where
-      to : (ltb x (f .names) && (f .starts x || follower)) ≡ true → Occurs f x
+      to : (ltb x (f .names) && (f .starts x || follower)) ≡ true → Occurs (steps f) x
       to e =
           let p = and-is (ltb x (f .names)) (f .starts x || follower) .0 e in
           let h = ltb-is x (f .names) .0 (p .0) in
@@ -48,7 +45,7 @@ module _ (f : Follow) (x : ℕ) where
       from (name y) g = join (g .1) (inr (some-is (f .names) (λ b. f .follows b x) .1 (y, g .0, g .2)))
       from end g = absurd g
 
-  pub occurs-below : Occurs f x → x < f .names
+  pub occurs-below : Occurs (steps f) x → x < f .names
   occurs-below (start, g) = g .0
   occurs-below (name y, g) = g .1
   occurs-below (end, g) = absurd g
@@ -56,10 +53,10 @@ module _ (f : Follow) (x : ℕ) where
 -- What holds of the facts of words.
 pub record Sampled (f : Follow) : Type 0 where
   -- a name that a step leaves occurs
-  pub entered : (x : ℕ) (v : Point) → steps f (name x) v → Occurs f x
+  pub entered : (x : ℕ) (v : Point) → steps f (name x) v → Occurs (steps f) x
   -- a name that occurs lies on a way from start to end
-  pub to-name : (x : ℕ) → Occurs f x → Way f start (name x)
-  pub to-end : (x : ℕ) → Occurs f x → Way f (name x) end
+  pub to-name : (x : ℕ) → Occurs (steps f) x → Way f start (name x)
+  pub to-end : (x : ℕ) → Occurs (steps f) x → Way f (name x) end
   -- there is a word
   pub some-end : (u : Point) × steps f u end
 
@@ -100,7 +97,7 @@ module _ (f : Follow) where
       go (inl e) = (u, subst (λ (q : Point). steps f u q) e g)
       go (inr p) = p
 
-  entry : (x : ℕ) → Way f start (name x) → Occurs f x
+  entry : (x : ℕ) → Way f start (name x) → Occurs (steps f) x
   entry x r = ⊎-elim (λ e. absurd (start-name x e)) (λ p. p) (last-of r)
 
 -- ---- of all words
@@ -119,10 +116,10 @@ module _ (n : ℕ) (words : List (List ℕ)) (names : (w : List ℕ) → List·M
       let k = steps-shown n words names u v .0 g in
       way-behind (followOf n words) start (k .0) u v (word-steps (k .0) (k .1)) (k .2)
 
-  pub entered-occurs : (x : ℕ) (v : Point) → steps (followOf n words) (name x) v → Occurs (followOf n words) x
+  pub entered-occurs : (x : ℕ) (v : Point) → steps (followOf n words) (name x) v → Occurs (steps (followOf n words)) x
   entered-occurs x v g = entry (followOf n words) x (before (name x) v g)
 
-  pub way-to-end : (x : ℕ) → Occurs (followOf n words) x → Way (followOf n words) (name x) end
+  pub way-to-end : (x : ℕ) → Occurs (steps (followOf n words)) x → Way (followOf n words) (name x) end
   way-to-end x o = behind (o .0) (name x) (o .1)
 
   pub sampled : ¬ (words ≡ []) → Sampled (followOf n words)

@@ -8,7 +8,7 @@ use native.Mathlib.Omega.{arith}
 use native.Mathlib.Decide.{decLt}
 use lib.Dec.{ltb}
 use Rattle.model_language.specs.Word.{Point, name}
-use Rattle.model_language.specs.Step.{Reach, one, more}
+use Rattle.model_language.specs.Reach.{Reach, one, more}
 use Rattle.follow.specs.Follow.{Follow, steps}
 use Rattle.chain_levels.specs.Reach.{edge, reachBy, reaches, sameGroup, loops}
 use Rattle.chain_levels.proofs.Tests.{and-is, or-is, ltb-is}

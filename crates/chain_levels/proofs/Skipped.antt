@@ -1,4 +1,4 @@
--- A level as computed is skipped exactly when some step goes from a lower to a higher level.
+-- The executable test finds a level skipped exactly when some step goes from a lower to a higher executable level.
 -- Assumes nothing.
 use Prim.Native.Nat.{ℕ, _<_}
 use mathlib.Core.Path.{_≡_}
@@ -8,13 +8,13 @@ use lib.Dec.{ltb}
 use Rattle.model_language.specs.Word.{Point, start, name, end}
 use Rattle.follow.specs.Follow.{Follow, steps}
 use Rattle.chain_levels.specs.Below.{anyBelow}
-use Rattle.chain_levels.specs.Level.{levelOf, lastLevel, skipped}
+use Rattle.chain_levels.specs.Rank.{levelOf, lastLevel, skipped}
 use Rattle.chain_levels.proofs.Tests.{and-is, or-is, ltb-is, some-is}
 use Rattle.chain_levels.proofs.Levels.{level}
 
--- Some step goes from a lower to a higher level than l.
-abbrev pub Skipped : Follow → ℕ → Type 0
-Skipped f l = (u : Point) × (v : Point) × steps f u v × (level f u < l) × (l < level f v)
+-- Some step goes from a lower to a higher level than l, by executable levels.
+abbrev pub StepOver : Follow → ℕ → Type 0
+StepOver f l = (u : Point) × (v : Point) × steps f u v × (level f u < l) × (l < level f v)
 
 -- A fact, and l strictly between two levels.
 over : (b : Bool) (i l j : ℕ) → ((b && (ltb i l && ltb l j)) ≡ true) ↔ ((b ≡ true) × (i < l) × (l < j))
@@ -61,7 +61,7 @@ module _ (f : Follow) (l : ℕ) where
   abbrev Found : Type 0
   Found = (whole ≡ true) ⊎ ((anyBelow (f .names) from-start ≡ true) ⊎ ((anyBelow (f .names) to-end ≡ true) ⊎ (anyBelow (f .names) (λ x. anyBelow (f .names) (inner x)) ≡ true)))
 
-  found : Found → Skipped f l
+  found : Found → StepOver f l
   unfolding whole from-start to-end inner
   found (inl e) = let p = over (f .empty) 0 l (lastLevel f) .0 e in (start, end, p .0, p .1, p .2)
   found (inr (inl e)) =
@@ -96,7 +96,7 @@ module _ (f : Follow) (l : ℕ) where
   find (name x) end g a b = inr (inr (inl (some-is (f .names) to-end .1 (x, g .0, over (f .ends x) (levelOf f x) l (lastLevel f) .1 (g .1, a, b)))))
   find end v g a b = absurd g
 
-  pub skipped-is : (skipped f l ≡ true) ↔ Skipped f l
+  pub skipped-is : (skipped f l ≡ true) ↔ StepOver f l
   unfolding skipped whole from-start to-end inner
   skipped-is =
       let q = one-of-four whole (anyBelow (f .names) from-start) (anyBelow (f .names) to-end) (anyBelow (f .names) (λ x. anyBelow (f .names) (inner x))) in

@@ -1,4 +1,4 @@
--- Searching and counting among the numbers below n.
+-- A means: searches below n for Reach.antt, Rank.antt and Chain.antt of this folder, whose laws join it as well.
 -- Assumes nothing.
 use Prim.Native.Nat.{ℕ, zero, suc, _+_, max}
 use mathlib.Core.Bool.{Bool, cond}

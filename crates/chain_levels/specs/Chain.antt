@@ -1,5 +1,6 @@
--- Paper 01, "The chain": from follow facts to a model record of `size` places (64 in paper 01).
+-- A means: `is-placed` and `only-placed` in crates/chain_minimal/proofs/Demand.antt join it to `Placed`.
 -- Assumes nothing.
+-- Paper 01, "The chain", built: from follow facts to a model record of `size` places (64 in paper 01).
 use Prim.Native.Nat.{ℕ, zero, suc, _+_, _-_}
 use mathlib.Core.Bool.{Bool, cond, _&&_, not}
 use lib.Dec.{eqb}
@@ -9,7 +10,7 @@ use Rattle.model.specs.Build.{withFactor}
 use Rattle.follow.specs.Follow.{Follow}
 use Rattle.chain_levels.specs.Below.{anyBelow, countBelow}
 use Rattle.chain_levels.specs.Reach.{sameGroup, leads, isSingle}
-use Rattle.chain_levels.specs.Level.{levelOf, lastLevel, skipped}
+use Rattle.chain_levels.specs.Rank.{levelOf, lastLevel, skipped}
 
 -- x is a single of level l.
 unfoldable pub singleAt : Follow → ℕ → ℕ → Bool
@@ -38,7 +39,7 @@ groupMode f l = cond (fixed f l) 2 3
 unfoldable pub withSingles : Follow → ℕ → Model → Model
 withSingles f l m = cond (anyBelow (f .names) (singleAt f l)) (withFactor m (singleAt f l) (singlesMode f l)) m
 
--- "Then each loop group is a factor of its own, in order of its smallest number": those whose smallest number is below k.
+-- "Then each loop group is a factor of its own, in order of its smallest number": those with a smallest number below k.
 unfoldable pub withGroups : Follow → ℕ → ℕ → Model → Model
 withGroups f l zero m = m
 withGroups f l (suc k) m =

@@ -1,59 +1,33 @@
--- Paper 01, "Levels", said and computed.
+-- To be believed: paper 01, "Loop groups" and "Levels", for any steps S between points (of words: `Fact words`).
 -- Assumes nothing.
-use Prim.Native.Nat.{ℕ, zero, suc, _≤_}
-use mathlib.Core.Bool.{Bool, _&&_, _||_, not}
-use lib.Dec.{ltb}
+use Prim.Native.Nat.{ℕ, suc, _≤_, _<_}
 use Rattle.model_language.specs.Word.{Point, start, name, end}
-use Rattle.model_language.specs.Step.{Reach}
-use Rattle.follow.specs.Follow.{Follow, steps}
-use Rattle.chain_levels.specs.Below.{anyBelow, largestBelow}
-use Rattle.chain_levels.specs.Reach.{reaches}
+use Rattle.model_language.specs.Reach.{Reach}
 
--- ---- said
+-- x occurs: some step leads to it. (So exactly when it is in a word: `occurs-word` in proofs/Theorem.antt.)
+abbrev pub Occurs : (Point → Point → Type 0) → ℕ → Type 0
+Occurs S x = (u : Point) × S u (name x)
 
--- u and v are names of one loop group.
-abbrev pub OneGroup : Follow → Point → Point → Type 0
-OneGroup f start v = ⊥
-OneGroup f (name x) start = ⊥
-OneGroup f (name x) (name y) = Reach (steps f) x y × Reach (steps f) y x
-OneGroup f (name x) end = ⊥
-OneGroup f end v = ⊥
+-- u and v are names of one loop group: "each reaches each, itself included".
+abbrev pub OneGroup : (Point → Point → Type 0) → Point → Point → Type 0
+OneGroup S start v = ⊥
+OneGroup S (name x) start = ⊥
+OneGroup S (name x) (name y) = Reach S x y × Reach S y x
+OneGroup S (name x) end = ⊥
+OneGroup S end v = ⊥
 
--- k steps lead from start to the point of v, where "each loop group [is] one point" and "the steps inside it" are dropped:
--- within a loop group one moves freely, and such a move is no step.
-pub data Climb (f : Follow) : ℕ → Point → Type 0 where
-  begin : Climb f 0 start
-  go : {k : ℕ} {u v : Point} → Climb f k u → steps f u v → (OneGroup f u v → ⊥) → Climb f (suc k) v
-  move : {k : ℕ} {u v : Point} → Climb f k u → OneGroup f u v → Climb f k v
+-- k steps lead from start to the point of v: "Take each loop group as one point and drop the steps inside it."
+-- Within a loop group one moves freely, and such a move is no step.
+pub data Climb (S : Point → Point → Type 0) : ℕ → Point → Type 0 where
+  begin : Climb S 0 start
+  go : {k : ℕ} {u v : Point} → Climb S k u → S u v → (OneGroup S u v → ⊥) → Climb S (suc k) v
+  move : {k : ℕ} {u v : Point} → Climb S k u → OneGroup S u v → Climb S k v
 
 -- "The level of a point is the largest number of steps from start to it."
-pub record IsLevel (f : Follow) (v : Point) (l : ℕ) : Type 0 where
-  pub reached : Climb f l v
-  pub largest : (k : ℕ) → Climb f k v → k ≤ l
+pub record IsLevel (S : Point → Point → Type 0) (v : Point) (l : ℕ) : Type 0 where
+  pub reached : Climb S l v
+  pub largest : (k : ℕ) → Climb S k v → k ≤ l
 
--- ---- computed
-
--- b reaches a, and a does not reach b: b stands before a, in another point.
-unfoldable pub isBefore : Follow → ℕ → ℕ → Bool
-isBefore f b a = reaches f b a && not (reaches f a b)
-
--- One more than the largest level before a, looking k points back.
-unfoldable pub levelBy : Follow → ℕ → ℕ → ℕ
-levelBy f zero a = 0
-levelBy f (suc k) a = suc (largestBelow (f .names) (λ b. isBefore f b a) (λ b. levelBy f k b))
-
--- The level of a name: no more than n points stand before it.
-unfoldable pub levelOf : Follow → ℕ → ℕ
-levelOf f a = levelBy f (f .names) a
-
--- L, the level of the end: one more than the largest level of a name that may end.
-unfoldable pub lastLevel : Follow → ℕ
-lastLevel f = suc (largestBelow (f .names) (f .ends) (levelOf f))
-
--- The level l is skipped: some step, those from start and to the end included, goes from a lower to a higher level.
-unfoldable pub skipped : Follow → ℕ → Bool
-skipped f l =
-    (f .empty && (ltb 0 l && ltb l (lastLevel f)))
-    || (anyBelow (f .names) (λ y. f .starts y && (ltb 0 l && ltb l (levelOf f y)))
-    || (anyBelow (f .names) (λ x. f .ends x && (ltb (levelOf f x) l && ltb l (lastLevel f)))
-    || anyBelow (f .names) (λ x. anyBelow (f .names) (λ y. f .follows x y && (ltb (levelOf f x) l && ltb l (levelOf f y))))))
+-- "A level is skipped if some step, those from start and to the end included, goes from a lower to a higher level."
+abbrev pub Skipped : (Point → Point → Type 0) → ℕ → Type 0
+Skipped S l = (u : Point) × (v : Point) × (i : ℕ) × (j : ℕ) × S u v × IsLevel S u i × IsLevel S v j × (i < l) × (l < j)

@@ -1,5 +1,5 @@
 pub mod Below
 pub mod Reach
 pub mod Level
+pub mod Rank
 pub mod Chain
-pub mod Samples

@@ -1,5 +1,6 @@
--- Paper 01, "Loop groups". What reach means is `Reach (steps f)` of the crates model_language and follow; here it is computed.
+-- A means: `reach-law`, `group-law`, `occurs-law` in crates/chain_levels/proofs/Theorem.antt join it to Level.antt.
 -- Assumes nothing.
+-- Executable reach and loop groups, and which names occur.
 use Prim.Native.Nat.{ℕ, zero, suc}
 use mathlib.Core.Bool.{Bool, _&&_, _||_, not}
 use lib.Dec.{ltb, eqb}

@@ -13,13 +13,13 @@ use Rattle.model.specs.Build.{withFactor}
 use Rattle.follow.specs.Follow.{Follow}
 use Rattle.chain_levels.specs.Below.{anyBelow}
 use Rattle.chain_levels.specs.Reach.{sameGroup, occurs}
-use Rattle.chain_levels.specs.Level.{levelOf, lastLevel}
+use Rattle.chain_levels.specs.Rank.{levelOf, lastLevel}
 use Rattle.chain_levels.specs.Chain.{singleAt, leadsAt, singlesMode, groupMode, withSingles, withGroups, withLevel, chainTo, chainOf}
 use Rattle.chain_levels.proofs.Tests.{some-is, both-ways, refuted}
 use Rattle.chain_levels.proofs.Below.{few}
 use Rattle.chain_levels.proofs.Paths.{occurs-is, occurs-below, Sampled}
 use Rattle.chain_levels.proofs.Levels.{low, high, last-low}
-use Rattle.chain_minimal.specs.Placed.{groupNo, Earlier, Together, modeFor, Placed}
+use Rattle.chain_minimal.specs.Arranged.{groupNo, SortsBefore, SortsWith, modeFor, Arranged}
 use Rattle.chain_minimal.proofs.Groups.{At, single-at, leader-at, leader-of, group-at, single-mode, group-mode, number-low, mode-low}
 use Rattle.chain_minimal.proofs.Append.{with-sizes, with-count, with-new, with-old, with-mode, with-modes, empty-sizes, empty-count, empty-factor, empty-mode}
 
@@ -34,16 +34,16 @@ record Built (f : Follow) (size l g : ℕ) (m : Model) : Type 0 where
   holds : (x : ℕ) → Done f l g x → factorOf m x < m .count
   lacks : (x : ℕ) → ¬ Done f l g x → factorOf m x ≡ none
   named : (i : ℕ) → i < m .count → (x : ℕ) × Done f l g x × (factorOf m x ≡ i)
-  order : (x y : ℕ) → Done f l g x → Done f l g y → Earlier f x y → factorOf m x < factorOf m y
-  shared : (x y : ℕ) → Done f l g x → Done f l g y → Together f x y → factorOf m x ≡ factorOf m y
+  order : (x y : ℕ) → Done f l g x → Done f l g y → SortsBefore f x y → factorOf m x < factorOf m y
+  shared : (x y : ℕ) → Done f l g x → Done f l g y → SortsWith f x y → factorOf m x ≡ factorOf m y
   mode : (x : ℕ) → Done f l g x → modeOf m (factorOf m x) ≡ modeFor f x
   rest : (i : ℕ) → m .count ≤ i → modeOf m i ≡ 0
 
-three-ways : (f : Follow) (x y : ℕ) → (Earlier f x y ⊎ Earlier f y x) ⊎ Together f x y
+three-ways : (f : Follow) (x y : ℕ) → (SortsBefore f x y ⊎ SortsBefore f y x) ⊎ SortsWith f x y
 three-ways f x y = go (decLt (levelOf f x) (levelOf f y)) (decLt (levelOf f y) (levelOf f x)) (decLt (groupNo f x) (groupNo f y)) (decLt (groupNo f y) (groupNo f x))
   where
     go : Dec (levelOf f x < levelOf f y) → Dec (levelOf f y < levelOf f x) → Dec (groupNo f x < groupNo f y) → Dec (groupNo f y < groupNo f x) →
-        (Earlier f x y ⊎ Earlier f y x) ⊎ Together f x y
+        (SortsBefore f x y ⊎ SortsBefore f y x) ⊎ SortsWith f x y
     go (yes a) b c d = inl (inl (inl a))
     go (no a) (yes b) c d = inl (inr (inl b))
     go (no a) (no b) (yes c) d = inl (inl (inr (omega arith, c)))
@@ -88,17 +88,17 @@ module _ (f : Follow) (l g x : ℕ) where
 
   -- A name that was done before stands before one of the new factor.
   module _ (y : ℕ) where
-    not-back : Done f l g x → At f l g y → Earlier f y x → ⊥
+    not-back : Done f l g x → At f l g y → SortsBefore f y x → ⊥
     not-back (o, inl a) (p, b, c) (inl e) = omega arith
     not-back (o, inl a) (p, b, c) (inr e) = omega arith
     not-back (o, inr a) (p, b, c) (inl e) = omega arith
     not-back (o, inr a) (p, b, c) (inr e) = omega arith
 
-    not-with : Done f l g x → At f l g y → Together f x y → ⊥
+    not-with : Done f l g x → At f l g y → SortsWith f x y → ⊥
     not-with (o, inl a) (p, b, c) e = omega arith
     not-with (o, inr a) (p, b, c) e = omega arith
 
-    not-among : At f l g x → At f l g y → Earlier f x y → ⊥
+    not-among : At f l g x → At f l g y → SortsBefore f x y → ⊥
     not-among (o, a, b) (p, c, d) (inl e) = omega arith
     not-among (o, a, b) (p, c, d) (inr e) = omega arith
 
@@ -157,13 +157,13 @@ module _ (f : Follow) (size l g : ℕ) (m : Model) (holds : ℕ → Bool) (mode 
   next-holds x (inl d) = omega (arith, kept-done x d, b .holds x d, one-more)
   next-holds x (inr a) = omega (arith, fresh x a, one-more)
 
-  next-order : (x y : ℕ) → Done f l g x ⊎ At f l g x → Done f l g y ⊎ At f l g y → Earlier f x y → factorOf next x < factorOf next y
+  next-order : (x y : ℕ) → Done f l g x ⊎ At f l g x → Done f l g y ⊎ At f l g y → SortsBefore f x y → factorOf next x < factorOf next y
   next-order x y (inl p) (inl q) e = omega (arith, kept-done x p, kept-done y q, b .order x y p q e)
   next-order x y (inl p) (inr q) e = omega (arith, kept-done x p, b .holds x p, fresh y q)
   next-order x y (inr p) (inl q) e = absurd (not-back f l g y x q p e)
   next-order x y (inr p) (inr q) e = absurd (not-among f l g x y p q e)
 
-  next-shared : (x y : ℕ) → Done f l g x ⊎ At f l g x → Done f l g y ⊎ At f l g y → Together f x y → factorOf next x ≡ factorOf next y
+  next-shared : (x y : ℕ) → Done f l g x ⊎ At f l g x → Done f l g y ⊎ At f l g y → SortsWith f x y → factorOf next x ≡ factorOf next y
   next-shared x y (inl p) (inl q) e = omega (arith, kept-done x p, kept-done y q, b .shared x y p q e)
   next-shared x y (inl p) (inr q) e = absurd (not-with f l g x y p q e)
   next-shared x y (inr p) (inl q) e = absurd (not-with f l g y x q p (sym (e .0), sym (e .1)))
@@ -307,22 +307,22 @@ module _ (f : Follow) (size : ℕ) (room : f .names ≤ size) where
     }
 
     module _ (small : size ≤ none) where
-      pub is-placed : Placed f (chainOf size f)
-      is-placed = record {
+      pub is-arranged : Arranged f (chainOf size f)
+      is-arranged = record {
         held = λ x. (λ h. ⊎-elim (λ e. absurd (omega (arith, few-factors))) (λ o. o) (in-or-out x), λ o. chain-built .holds x (all-done x o));
         order = λ x y o p. (order-from x y o p (three-ways f x y), chain-built .order x y (all-done x o) (all-done y p));
         shared = λ x y o p. (shared-from x y o p (three-ways f x y), chain-built .shared x y (all-done x o) (all-done y p));
         modes = λ x o. chain-built .mode x (all-done x o);
       }
         where
-          order-from : (x y : ℕ) → occurs f x ≡ true → occurs f y ≡ true → (Earlier f x y ⊎ Earlier f y x) ⊎ Together f x y →
-              factorOf (chainOf size f) x < factorOf (chainOf size f) y → Earlier f x y
+          order-from : (x y : ℕ) → occurs f x ≡ true → occurs f y ≡ true → (SortsBefore f x y ⊎ SortsBefore f y x) ⊎ SortsWith f x y →
+              factorOf (chainOf size f) x < factorOf (chainOf size f) y → SortsBefore f x y
           order-from x y o p (inl (inl e)) h = e
           order-from x y o p (inl (inr e)) h = absurd (omega (arith, chain-built .order y x (all-done y p) (all-done x o) e))
           order-from x y o p (inr e) h = absurd (omega (arith, chain-built .shared x y (all-done x o) (all-done y p) e))
 
-          shared-from : (x y : ℕ) → occurs f x ≡ true → occurs f y ≡ true → (Earlier f x y ⊎ Earlier f y x) ⊎ Together f x y →
-              factorOf (chainOf size f) x ≡ factorOf (chainOf size f) y → Together f x y
+          shared-from : (x y : ℕ) → occurs f x ≡ true → occurs f y ≡ true → (SortsBefore f x y ⊎ SortsBefore f y x) ⊎ SortsWith f x y →
+              factorOf (chainOf size f) x ≡ factorOf (chainOf size f) y → SortsWith f x y
           shared-from x y o p (inl (inl e)) h = absurd (omega (arith, chain-built .order x y (all-done x o) (all-done y p) e))
           shared-from x y o p (inl (inr e)) h = absurd (omega (arith, chain-built .order y x (all-done y p) (all-done x o) e))
           shared-from x y o p (inr e) h = e

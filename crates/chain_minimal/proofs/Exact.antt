@@ -7,24 +7,24 @@ use native.Mathlib.Decide.{decLt}
 use Rattle.model.specs.declared.Model.{Model}
 use Rattle.model.specs.Record.{factorOf, modeOf, IsChain}
 use Rattle.follow.specs.Follow.{Follow}
-use Rattle.chain_minimal.specs.Placed.{Placed}
+use Rattle.chain_minimal.specs.Arranged.{Arranged}
 use Rattle.chain_minimal.proofs.Order.{Holds, Keeps, named, equal-counts, equal-factors, equal-records}
 
-placed-holds : (f : Follow) (a b : Model) → Placed f a → Placed f b → Holds a b
-placed-holds f a b p q x h = q .held x .1 (p .held x .0 h)
+arranged-holds : (f : Follow) (a b : Model) → Arranged f a → Arranged f b → Holds a b
+arranged-holds f a b p q x h = q .held x .1 (p .held x .0 h)
 
-placed-keeps : (f : Follow) (a b : Model) → Placed f a → Placed f b → Keeps a b
-placed-keeps f a b p q x y hx hy l =
+arranged-keeps : (f : Follow) (a b : Model) → Arranged f a → Arranged f b → Keeps a b
+arranged-keeps f a b p q x y hx hy l =
     let ox = p .held x .0 hx in
     let oy = p .held y .0 hy in
     q .order x y ox oy .1 (p .order x y ox oy .0 l)
 
-module _ (f : Follow) (size n : ℕ) (a b : Model) (ca : IsChain size n a) (cb : IsChain size n b) (p : Placed f a) (q : Placed f b) where
+module _ (f : Follow) (size n : ℕ) (a b : Model) (ca : IsChain size n a) (cb : IsChain size n b) (p : Arranged f a) (q : Arranged f b) where
   counts : a .count ≡ b .count
-  counts = equal-counts size n a b ca cb (placed-holds f a b p q) (placed-holds f b a q p) (placed-keeps f a b p q) (placed-keeps f b a q p)
+  counts = equal-counts size n a b ca cb (arranged-holds f a b p q) (arranged-holds f b a q p) (arranged-keeps f a b p q) (arranged-keeps f b a q p)
 
   factors : (x : ℕ) → factorOf a x ≡ factorOf b x
-  factors = equal-factors size n a b ca cb (placed-holds f a b p q) (placed-holds f b a q p) (placed-keeps f a b p q) (placed-keeps f b a q p)
+  factors = equal-factors size n a b ca cb (arranged-holds f a b p q) (arranged-holds f b a q p) (arranged-keeps f a b p q) (arranged-keeps f b a q p)
 
   modes : (i : ℕ) → modeOf a i ≡ modeOf b i
   modes i = go (decLt i (a .count))
@@ -38,5 +38,5 @@ module _ (f : Follow) (size n : ℕ) (a b : Model) (ca : IsChain size n a) (cb :
       go (yes l) = held (named size n a ca i l) l
       go (no l) = ca .rest i (omega arith) ∙ sym (cb .rest i (omega (arith, counts)))
 
-  pub placed-same : a ≡ b
-  placed-same = equal-records size n a b ca cb counts factors modes
+  pub arranged-same : a ≡ b
+  arranged-same = equal-records size n a b ca cb counts factors modes

@@ -9,18 +9,20 @@ use native.Mathlib.Decide.{decLt, ℕ-discrete}
 use Rattle.model.specs.declared.Model.{Model}
 use Rattle.model.specs.Record.{factorOf, modeOf, IsChain}
 use Rattle.model_language.specs.Word.{Point, start, name, end}
-use Rattle.model_language.specs.Step.{optional, repeats, place, Held, Step, Reach}
+use Rattle.model_language.specs.Reach.{Reach}
+use Rattle.model_language.specs.Step.{optional, repeats, place, Held, Step}
 use Rattle.model_language.proofs.Walk.{stay}
 use Rattle.follow.specs.Follow.{Follow, steps}
 use Rattle.chain_levels.specs.Reach.{loops, occurs}
-use Rattle.chain_levels.specs.Level.{OneGroup, levelOf, lastLevel}
+use Rattle.chain_levels.specs.Level.{OneGroup}
+use Rattle.chain_levels.specs.Rank.{levelOf, lastLevel}
 use Rattle.chain_levels.proofs.Tests.{both-ways}
 use Rattle.chain_levels.proofs.Reach.{group-reach, group-loops}
 use Rattle.chain_levels.proofs.Paths.{Way, here, by, occurs-is, Sampled}
 use Rattle.chain_levels.proofs.Levels.{level, Alike, one-group, rises, from-below, step-rises, way-rises, low, high}
-use Rattle.chain_levels.proofs.Skipped.{Skipped}
+use Rattle.chain_levels.proofs.Skipped.{StepOver}
 use Rattle.chain_minimal.specs.Tight.{Tight}
-use Rattle.chain_minimal.specs.Placed.{Placed}
+use Rattle.chain_minimal.specs.Arranged.{Arranged}
 use Rattle.chain_minimal.proofs.Groups.{number-single, number-loop, number-same, same-number}
 use Rattle.chain_minimal.proofs.Modes.{Crowded, mode-repeats, optional-is}
 
@@ -55,7 +57,7 @@ module _ (f : Follow) (s : Sampled f) where
       go (y, u, inl q, g, m) = (u, subst (λ (z : ℕ). steps f u (name z)) (sym q) g, m)
       go (y, u, inr q, g, m) = absurd (both-ways (loops f x) (group-loops f x y q) e)
 
-  module _ (size n : ℕ) (d : Model) (c : IsChain size n d) (p : Placed f d) where
+  module _ (size n : ℕ) (d : Model) (c : IsChain size n d) (p : Arranged f d) where
     on-d : (u : Point) → Present f u → Held d u
     on-d start a = tt
     on-d (name x) a = p .held x .1 a
@@ -86,12 +88,12 @@ module _ (f : Follow) (s : Sampled f) where
         go (no m) = omega arith
 
     -- A loop group stands in one factor.
-    group-factor : (x y : ℕ) → occurs f x ≡ true → occurs f y ≡ true → OneGroup f (name x) (name y) → factorOf d x ≡ factorOf d y
+    group-factor : (x y : ℕ) → occurs f x ≡ true → occurs f y ≡ true → OneGroup (steps f) (name x) (name y) → factorOf d x ≡ factorOf d y
     group-factor x y a b g =
         let e = group-reach f x y .1 g in
         p .shared x y a b .1 (one-group f (name x) (name y) g, number-same f x y e)
 
-    group-place : (u v : Point) → Present f u → Present f v → OneGroup f u v → place d u ≡ place d v
+    group-place : (u v : Point) → Present f u → Present f v → OneGroup (steps f) u v → place d u ≡ place d v
     group-place start v a b g = absurd g
     group-place (name x) start a b g = absurd g
     group-place (name x) (name y) a b g = ap suc (group-factor x y a b g)
@@ -105,7 +107,7 @@ module _ (f : Follow) (s : Sampled f) where
     loop-mode : (x : ℕ) → occurs f x ≡ true → repeats (modeOf d (factorOf d x)) ≡ loops f x
     loop-mode x o = ap repeats (p .modes x o) ∙ mode-repeats f x
 
-    optional-mode : (x : ℕ) → occurs f x ≡ true → (optional (modeOf d (factorOf d x)) ≡ true) ↔ (Skipped f (levelOf f x) ⊎ Crowded f x)
+    optional-mode : (x : ℕ) → occurs f x ≡ true → (optional (modeOf d (factorOf d x)) ≡ true) ↔ (StepOver f (levelOf f x) ⊎ Crowded f x)
     optional-mode x o = (λ e. optional-is f x o .0 (sym (ap optional (p .modes x o)) ∙ e), λ q. ap optional (p .modes x o) ∙ optional-is f x o .1 q)
 
     -- ---- the sample's steps are steps of the chain
@@ -117,7 +119,7 @@ module _ (f : Follow) (s : Sampled f) where
     crowd z o end a e q = absurd (omega (arith, level-under z o))
 
     between : (u v : Point) → steps f u v → (z : ℕ) → occurs f z ≡ true → place d u < suc (factorOf d z) → suc (factorOf d z) < place d v →
-        Skipped f (levelOf f z) ⊎ Crowded f z
+        StepOver f (levelOf f z) ⊎ Crowded f z
     between u v g z o l m =
         go (decLt (level f u) (levelOf f z)) (decLt (levelOf f z) (level f v)) (place-level u (name z) a o l) (place-level (name z) v o b m)
       where
@@ -127,12 +129,12 @@ module _ (f : Follow) (s : Sampled f) where
         b : Present f v
         b = present-to f u v g
 
-        go : Dec (level f u < levelOf f z) → Dec (levelOf f z < level f v) → level f u ≤ levelOf f z → levelOf f z ≤ level f v → Skipped f (levelOf f z) ⊎ Crowded f z
+        go : Dec (level f u < levelOf f z) → Dec (levelOf f z < level f v) → level f u ≤ levelOf f z → levelOf f z ≤ level f v → StepOver f (levelOf f z) ⊎ Crowded f z
         go (yes j) (yes k) h i = inl (u, v, g, j, k)
         go (yes j) (no k) h i = inr (crowd z o v b (omega arith) (omega arith))
         go (no j) k h i = inr (crowd z o u a (omega arith) (omega arith))
 
-    inside-step : (u v : Point) → Present f u → Present f v → OneGroup f u v → Step d u v
+    inside-step : (u v : Point) → Present f u → Present f v → OneGroup (steps f) u v → Step d u v
     inside-step start v a b g = absurd g
     inside-step (name x) start a b g = absurd g
     inside-step (name x) (name y) a b g =
@@ -222,7 +224,7 @@ module _ (f : Follow) (s : Sampled f) where
     flat here l = refl
     flat (by {u = u} {v = v} {w = w} g r) l = go (rises f u v g) (flat r)
       where
-        go : (level f u < level f v) ⊎ OneGroup f u v → (level f w ≤ level f v → place d v ≡ place d w) → place d u ≡ place d w
+        go : (level f u < level f v) ⊎ OneGroup (steps f) u v → (level f w ≤ level f v → place d v ≡ place d w) → place d u ≡ place d w
         go (inl m) ih = absurd (omega (arith, way-rises f s r))
         go (inr m) ih = group-place u v (present-from u v g) (present-to f u v g) m ∙ ih (omega (arith, one-group f u v m))
 
@@ -237,12 +239,13 @@ module _ (f : Follow) (s : Sampled f) where
       point-level (name y) b e = p .shared y z b o .0 (omega arith) .0
       point-level end b e = absurd (omega (arith, p .held z .1 o))
 
-      -- A way from before the factor to behind it, that begins on its level or above, or ends on its level or below, does not stop in it
+      -- A way from before the factor to behind it, that begins on its level or above, or ends on its level or below,
+      -- does not stop in it
       no-stop : (u v w : Point) → steps f u v → Way f v w → place d u < suc (factorOf d z) → suc (factorOf d z) < place d w →
           (levelOf f z ≤ level f u) ⊎ (level f w ≤ levelOf f z) → ¬ (place d v ≡ suc (factorOf d z))
       no-stop u v w g r h k (inl b) e = go (rises f u v g)
         where
-          go : (level f u < level f v) ⊎ OneGroup f u v → ⊥
+          go : (level f u < level f v) ⊎ OneGroup (steps f) u v → ⊥
           go (inl m) = omega (arith, point-level v (present-to f u v g) e)
           go (inr m) = omega (arith, group-place u v (present-from u v g) (present-to f u v g) m)
       no-stop u v w g r h k (inr b) e = omega (arith, flat r (omega (arith, point-level v (present-to f u v g) e)))
@@ -263,7 +266,7 @@ module _ (f : Follow) (s : Sampled f) where
           go (no m) (yes q) ih = (u, v, g, h, q)
           go (no m) (no q) ih = absurd (no-stop u v w g r h k b (omega arith))
 
-      skipped-crosses : Skipped f (levelOf f z) → Crossing
+      skipped-crosses : StepOver f (levelOf f z) → Crossing
       skipped-crosses (u, v, g, l, m) =
           (u, v, g, level-place u (name z) (present-from u v g) o l, level-place (name z) v o (present-to f u v g) m)
 

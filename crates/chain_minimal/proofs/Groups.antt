@@ -7,19 +7,18 @@ use mathlib.Core.Logic.{_↔_}
 use native.Mathlib.Omega.{arith}
 use lib.Dec.{eqb}
 use Rattle.model.proofs.Tests.{same-test}
-use Rattle.model_language.specs.Word.{name}
-use Rattle.model_language.specs.Step.{Reach, one, more}
-use Rattle.follow.specs.Follow.{Follow, steps}
+use Rattle.follow.specs.Follow.{Follow}
 use Rattle.chain_levels.specs.Below.{firstBelow}
 use Rattle.chain_levels.specs.Reach.{sameGroup, loops, leads, occurs, isSingle}
-use Rattle.chain_levels.specs.Level.{levelOf}
+use Rattle.chain_levels.specs.Rank.{levelOf}
 use Rattle.chain_levels.specs.Chain.{singleAt, leadsAt, fixed, singlesMode, groupMode}
 use Rattle.chain_levels.proofs.Tests.{and-is, not-is, eqb-is}
 use Rattle.chain_levels.proofs.Below.{first-is}
 use Rattle.chain_levels.proofs.Reach.{group-reach, group-sym, group-trans, loops-group, group-loops, group-below}
-use Rattle.chain_levels.proofs.Paths.{Occurs, occurs-is}
+use Rattle.chain_levels.proofs.Carry.{reach-occurs}
+use Rattle.chain_levels.proofs.Paths.{occurs-is}
 use Rattle.chain_levels.proofs.Levels.{group-level}
-use Rattle.chain_minimal.specs.Placed.{groupNo, modeFor}
+use Rattle.chain_minimal.specs.Arranged.{groupNo, modeFor}
 
 -- The name x occurs, on level l, and its number there is g.
 abbrev pub At : Follow → ℕ → ℕ → ℕ → Type 0
@@ -27,7 +26,7 @@ At f l g x = (occurs f x ≡ true) × (levelOf f x ≡ l) × (groupNo f x ≡ g)
 
 module _ (f : Follow) where
   -- The smallest number of the loop group of x.
-  abbrev least : ℕ → ℕ
+  abbrev pub least : ℕ → ℕ
   least x = firstBelow (f .names) (sameGroup f x)
 
   pub number-single : (x : ℕ) → loops f x ≡ false → groupNo f x ≡ 0
@@ -53,7 +52,7 @@ module _ (f : Follow) where
       go true p = (p, omega (arith, number-loop x p))
       go false p = absurd (omega (arith, number-single x p))
 
-  least-in : (x : ℕ) → loops f x ≡ true → sameGroup f x (least x) ≡ true
+  pub least-in : (x : ℕ) → loops f x ≡ true → sameGroup f x (least x) ≡ true
   least-in x e = first-is (f .names) (sameGroup f x) x (group-below f x x (loops-group f x e)) (loops-group f x e)
 
   least-same : (x y : ℕ) → sameGroup f x y ≡ true → least x ≡ least y
@@ -80,10 +79,6 @@ module _ (f : Follow) where
       go false p = omega (arith, number-single x p)
 
   -- A name of a loop group occurs.
-  reach-occurs : {a b : ℕ} → Reach (steps f) a b → Occurs f b
-  reach-occurs (one {x = a} g) = (name a, g)
-  reach-occurs (more g r) = reach-occurs r
-
   pub loop-occurs : (x : ℕ) → loops f x ≡ true → occurs f x ≡ true
   loop-occurs x e = occurs-is f x .1 (reach-occurs (group-reach f x x .0 (loops-group f x e) .0))
 

@@ -6,5 +6,6 @@ pub mod Built
 pub mod Modes
 pub mod FromLevels
 pub mod Exact
+pub mod Specified
 pub mod Main
 pub mod Demand

@@ -1,4 +1,5 @@
--- The chain of a list of words: it is a chain, stands as the levels say, is tight, and every other chain for the words accepts a word that it does not accept.
+-- The chain of a list of words: it is a chain, stands as the levels say, is tight, and every other chain for the words
+-- accepts a word that it does not accept.
 -- Assumes nothing.
 use Prim.Native.Nat.{ℕ, _+_, _≤_}
 use mathlib.Core.Path.{_≡_}
@@ -8,16 +9,18 @@ use lib.ListN.{length}
 use Rattle.model.specs.declared.Model.{Model}
 use Rattle.model.specs.Record.{none, IsChain}
 use Rattle.model.specs.Accept.{Accepts, Names}
-use Rattle.model_language.specs.Word.{AcceptsAll}
+use Rattle.model_language.specs.Word.{Fact, AcceptsAll}
 use Rattle.model_language.proofs.Theorem.{accepts-facts, words-steps, words-decided}
 use Rattle.follow.specs.Follow.{followOf, steps}
 use Rattle.chain_levels.specs.Chain.{chainOf}
 use Rattle.chain_levels.proofs.Facts.{steps-facts}
 use Rattle.chain_levels.proofs.Paths.{sampled}
 use Rattle.chain_minimal.specs.Tight.{Tight}
+use Rattle.chain_minimal.specs.Arranged.{Arranged}
 use Rattle.chain_minimal.specs.Placed.{Placed}
 use Rattle.chain_minimal.proofs.Unique.{same-record}
-use Rattle.chain_minimal.proofs.Exact.{placed-same}
+use Rattle.chain_minimal.proofs.Exact.{arranged-same}
+use Rattle.chain_minimal.proofs.Specified.{placed-law}
 use Rattle.chain_minimal.proofs.Built as Built
 use Rattle.chain_minimal.proofs.FromLevels as FromLevels
 
@@ -28,16 +31,23 @@ module _ (size n : ℕ) (room : n ≤ size) (small : size ≤ none) (words : Lis
   pub is-chain : IsChain size n ours
   is-chain = Built.is-chain (followOf n words) size room (sampled n words names some)
 
-  -- The record is the chain that the levels give, the only one that stands so,
-  pub is-placed : Placed (followOf n words) ours
-  is-placed = Built.is-placed (followOf n words) size room (sampled n words names some) small
+  -- The record is the chain that the levels give, and the only one: by executable levels,
+  pub is-arranged : Arranged (followOf n words) ours
+  is-arranged = Built.is-arranged (followOf n words) size room (sampled n words names some) small
 
-  pub only-placed : (m : Model) → IsChain size n m → Placed (followOf n words) m → m ≡ ours
-  only-placed m c p = placed-same (followOf n words) size n m ours c is-chain p is-placed
+  pub only-arranged : (m : Model) → IsChain size n m → Arranged (followOf n words) m → m ≡ ours
+  only-arranged m c p = arranged-same (followOf n words) size n m ours c is-chain p is-arranged
 
-  -- and it is tight.
+  -- and as specified over the steps that the words show.
+  pub is-placed : Placed (Fact words) ours
+  is-placed = placed-law n words names some ours .1 is-arranged
+
+  pub only-placed : (m : Model) → IsChain size n m → Placed (Fact words) m → m ≡ ours
+  only-placed m c p = only-arranged m c (placed-law n words names some m .0 p)
+
+  -- It is tight.
   pub is-tight : Tight (steps (followOf n words)) ours
-  is-tight = FromLevels.tight (followOf n words) (sampled n words names some) size n ours is-chain is-placed
+  is-tight = FromLevels.tight (followOf n words) (sampled n words names some) size n ours is-chain is-arranged
 
   pub accepts-words : AcceptsAll ours words
   accepts-words = accepts-facts size n ours is-chain words .1 (λ u v g. is-tight .sound u v (steps-facts n words names u v .1 g))

@@ -1,4 +1,5 @@
--- What the modes mean: a factor repeats if it is a loop group, and is optional if its level is skipped or has another factor.
+-- What the modes mean: a factor repeats if it is a loop group, and is optional if its level is skipped or has another
+-- factor.
 -- Assumes nothing.
 use Prim.Native.Nat.{ℕ, zero, suc, _+_, _≤_, _<_}
 use mathlib.Core.Path.{_≡_, refl, sym, _∙_}
@@ -11,13 +12,13 @@ use Rattle.model_language.specs.Step.{optional, repeats}
 use Rattle.follow.specs.Follow.{Follow}
 use Rattle.chain_levels.specs.Below.{anyBelow, countBelow}
 use Rattle.chain_levels.specs.Reach.{loops, occurs}
-use Rattle.chain_levels.specs.Level.{levelOf, skipped}
+use Rattle.chain_levels.specs.Rank.{levelOf, skipped}
 use Rattle.chain_levels.specs.Chain.{singleAt, leadsAt, factorsAt, fixed, singlesMode, groupMode}
 use Rattle.chain_levels.proofs.Tests.{and-is, not-is, eqb-is, some-is, both-ways, refuted}
 use Rattle.chain_levels.proofs.Below.{count-one, count-two, count-some, count-other}
 use Rattle.chain_levels.proofs.Paths.{occurs-is, occurs-below}
-use Rattle.chain_levels.proofs.Skipped.{Skipped, skipped-is}
-use Rattle.chain_minimal.specs.Placed.{groupNo, modeFor}
+use Rattle.chain_levels.proofs.Skipped.{StepOver, skipped-is}
+use Rattle.chain_minimal.specs.Arranged.{groupNo, modeFor}
 use Rattle.chain_minimal.proofs.Groups.{At, single-at, leader-at, leader-of}
 
 -- The level of x has a name of another factor.
@@ -80,7 +81,7 @@ module _ (f : Follow) where
         go false e = omega (arith, factors-are false e)
 
     -- Two names with different numbers stand in two factors.
-    two-factors : (g h x y : ℕ) → At f l g x → At f l h y → ¬ (g ≡ h) → 2 ≤ factorsAt f l
+    pub two-factors : (g h x y : ℕ) → At f l g x → At f l h y → ¬ (g ≡ h) → 2 ≤ factorsAt f l
     two-factors zero zero x y a b d = absurd (d refl)
     two-factors zero (suc k) x y a b d = omega (arith, singles-there x a, groups-one k y b)
     two-factors (suc j) zero x y a b d = omega (arith, singles-there y b, groups-one j x a)
@@ -91,13 +92,13 @@ module _ (f : Follow) where
         go (no h) = omega (arith, factors-low, groups-two k j y x b a (omega arith))
 
     -- If the level has not just the factor of x then it has a name of another one.
-    abbrev Other : ℕ → Type 0
+    abbrev pub Other : ℕ → Type 0
     Other g = (w : ℕ) × (h : ℕ) × At f l h w × (¬ (h ≡ g))
 
     a-leader : (k : ℕ) → leadsAt f l k ≡ true → (g : ℕ) → ¬ (suc k ≡ g) → Other g
     a-leader k e g d = (k, suc k, leader-at f l k .0 e, d)
 
-    other-factor : (g x : ℕ) → At f l g x → ¬ (factorsAt f l ≡ 1) → Other g
+    pub other-factor : (g x : ℕ) → At f l g x → ¬ (factorsAt f l ≡ 1) → Other g
     unfolding groups
     other-factor zero x a d =
         let k = count-some (f .names) (leadsAt f l) (omega (arith, singles-there x a, d)) in
@@ -112,29 +113,29 @@ module _ (f : Follow) where
 
   -- ---- when a factor is optional
 
-  fixed-is : (l : ℕ) → (fixed f l ≡ true) ↔ ((skipped f l ≡ false) × (factorsAt f l ≡ 1))
+  pub fixed-is : (l : ℕ) → (fixed f l ≡ true) ↔ ((skipped f l ≡ false) × (factorsAt f l ≡ 1))
   unfolding fixed
   fixed-is l = (
     λ e. let p = and-is (not (skipped f l)) (eqb (factorsAt f l) 1) .0 e in (not-is (skipped f l) .0 (p .0), eqb-is (factorsAt f l) 1 .0 (p .1)),
     λ p. and-is (not (skipped f l)) (eqb (factorsAt f l) 1) .1 (not-is (skipped f l) .1 (p .0), eqb-is (factorsAt f l) 1 .1 (p .1)),
   )
 
-  pub optional-is : (x : ℕ) → occurs f x ≡ true → (optional (modeFor f x) ≡ true) ↔ (Skipped f (levelOf f x) ⊎ Crowded f x)
+  pub optional-is : (x : ℕ) → occurs f x ≡ true → (optional (modeFor f x) ≡ true) ↔ (StepOver f (levelOf f x) ⊎ Crowded f x)
   optional-is x o = (λ e. to (not-is (fixed f (levelOf f x)) .0 (sym (mode-optional x) ∙ e)), λ p. mode-optional x ∙ not-is (fixed f (levelOf f x)) .1 (from p))
     where
       here : At f (levelOf f x) (groupNo f x) x
       here = (o, refl, refl)
 
-      to : fixed f (levelOf f x) ≡ false → Skipped f (levelOf f x) ⊎ Crowded f x
+      to : fixed f (levelOf f x) ≡ false → StepOver f (levelOf f x) ⊎ Crowded f x
       to e = go (skipped f (levelOf f x)) refl
         where
-          go : (b : Bool) → skipped f (levelOf f x) ≡ b → Skipped f (levelOf f x) ⊎ Crowded f x
+          go : (b : Bool) → skipped f (levelOf f x) ≡ b → StepOver f (levelOf f x) ⊎ Crowded f x
           go true q = inl (skipped-is f (levelOf f x) .0 q)
           go false q =
               let w = other-factor (levelOf f x) (groupNo f x) x here (λ c. both-ways (fixed f (levelOf f x)) (fixed-is (levelOf f x) .1 (q, c)) e) in
               inr (w .0, w .2 .0, w .2 .1, λ r. w .3 (sym (w .2 .2) ∙ r))
 
-      from : Skipped f (levelOf f x) ⊎ Crowded f x → fixed f (levelOf f x) ≡ false
+      from : StepOver f (levelOf f x) ⊎ Crowded f x → fixed f (levelOf f x) ≡ false
       from (inl s) =
           refuted (fixed f (levelOf f x)) (λ e. both-ways (skipped f (levelOf f x)) (skipped-is f (levelOf f x) .1 s) (fixed-is (levelOf f x) .0 e .0))
       from (inr (w, ow, lw, d)) =

@@ -10,20 +10,17 @@ use Rattle.model.specs.declared.Model.{Model}
 use Rattle.model.specs.Record.{factorOf, modeOf, IsChain}
 use Rattle.model.proofs.Tests.{same-test}
 use Rattle.model_language.specs.Word.{Point, start, name, end}
-use Rattle.model_language.specs.Step.{optional, repeats, place, Held, Over, Within, Step, Includes, Reach, one, more, Ahead}
+use Rattle.model_language.specs.Reach.{one}
+use Rattle.model_language.specs.Step.{optional, repeats, place, Held, Over, Within, Step, Includes, Ahead}
 use Rattle.model_language.proofs.Walk.{stay}
 use Rattle.model_language.proofs.Shown.{point}
-use Rattle.model_language.proofs.Reach.{reach-ahead}
+use Rattle.model_language.proofs.Reach.{reach-wider, reach-ahead}
 use Rattle.model_language.proofs.Theorem.{reach-law, step-to}
 use Rattle.chain_levels.proofs.Tests.{refuted}
 use Rattle.chain_minimal.specs.Tight.{Tight}
 use Rattle.chain_minimal.proofs.Order.{named, equal-counts, equal-factors, equal-records}
 
 -- ---- chains alone
-
-reach-wider : {S T : Point → Point → Type 0} → ((u v : Point) → S u v → T u v) → {x y : ℕ} → Reach S x y → Reach T x y
-reach-wider h (one g) = one (h _ _ g)
-reach-wider h (more g r) = more (h _ _ g) (reach-wider h r)
 
 -- Two names, each ahead of the other, share a factor that repeats.
 ahead-both : (m : Model) (x y : ℕ) → Ahead m x y → Ahead m y x → (factorOf m x ≡ factorOf m y) × (repeats (modeOf m (factorOf m x)) ≡ true)

@@ -1,12 +1,14 @@
--- Chains that are tight for a sample: no step of theirs can be spared.
+-- A means: `is-tight` and `only-ours` in crates/chain_minimal/proofs/Main.antt join it to `Accepts`.
 -- Assumes nothing.
+-- Chains that are tight for a sample: no step of theirs can be spared.
 use Prim.Native.Nat.{ℕ, suc, _<_}
 use mathlib.Core.Path.{_≡_}
 use mathlib.Core.Bool.{true, false}
 use Rattle.model.specs.declared.Model.{Model}
 use Rattle.model.specs.Record.{factorOf, modeOf}
 use Rattle.model_language.specs.Word.{Point, name}
-use Rattle.model_language.specs.Step.{optional, repeats, place, Step, Reach}
+use Rattle.model_language.specs.Reach.{Reach}
+use Rattle.model_language.specs.Step.{optional, repeats, place, Step}
 
 -- S is the steps of the sample.
 pub record Tight (S : Point → Point → Type 0) (m : Model) : Type 0 where

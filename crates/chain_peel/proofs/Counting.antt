@@ -12,7 +12,7 @@ use Rattle.model.specs.Build.{withFactor}
 use Rattle.follow.specs.Follow.{Follow}
 use Rattle.chain_levels.specs.Below.{anyBelow, countBelow}
 use Rattle.chain_levels.specs.Reach.{loops, occurs, leads, isSingle, sameGroup}
-use Rattle.chain_levels.specs.Level.{levelOf}
+use Rattle.chain_levels.specs.Rank.{levelOf}
 use Rattle.chain_levels.specs.Chain.{singleAt, leadsAt, factorsAt, withSingles, withGroups, withLevel, chainTo, singlesMode, groupMode}
 use Rattle.chain_levels.proofs.Tests.{and-is, not-is, eqb-is, both-ways}
 use Rattle.chain_levels.proofs.Below.{count-all, count-join, some-count}

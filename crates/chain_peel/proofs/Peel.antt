@@ -10,7 +10,7 @@ use lib.Dec.{ltb, eqb}
 use Rattle.model.proofs.Tests.{same-test}
 use Rattle.follow.specs.Follow.{Follow}
 use Rattle.chain_levels.specs.Reach.{reaches, loops, occurs, leads, isSingle}
-use Rattle.chain_levels.specs.Level.{isBefore, levelOf, lastLevel}
+use Rattle.chain_levels.specs.Rank.{isBefore, levelOf, lastLevel}
 use Rattle.chain_levels.specs.Chain.{singleAt, leadsAt}
 use Rattle.chain_peel.specs.Shown.{Shown}
 use Rattle.chain_peel.specs.Sets.{isLower, isAt, isHigher, inRows}

@@ -9,7 +9,7 @@ use lib.Dec.{ltb}
 use Rattle.model.proofs.Tests.{same-test}
 use Rattle.follow.specs.Follow.{Follow}
 use Rattle.chain_levels.specs.Below.{anyBelow}
-use Rattle.chain_levels.specs.Level.{levelOf, lastLevel, skipped}
+use Rattle.chain_levels.specs.Rank.{levelOf, lastLevel, skipped}
 use Rattle.chain_peel.specs.Shown.{Shown}
 use Rattle.chain_peel.specs.Sets.{isLower, isHigher, meets, inRows, stepsOver}
 use Rattle.chain_levels.proofs.Tests.{and-is, or-is, ltb-is, some-is}

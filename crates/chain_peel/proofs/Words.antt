@@ -7,7 +7,7 @@ use mathlib.Core.List.{List, List·Memᴰ}
 use mathlib.Core.Logic.{_⊎_, inl, inr}
 use Rattle.model.specs.Accept.{Names}
 use Rattle.model_language.specs.Word.{start, name, end}
-use Rattle.model_language.specs.Step.{one}
+use Rattle.model_language.specs.Reach.{one}
 use Rattle.follow.specs.Follow.{Follow, followOf}
 use Rattle.follow.specs.Sample.{Over}
 use Rattle.follow.proofs.Laws.{over-in}

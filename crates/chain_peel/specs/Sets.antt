@@ -1,12 +1,13 @@
--- The names of the levels below a level, of a level, and of those above it.
+-- A means: `peel`, `skipped-law` in crates/chain_peel/proofs/{Peel,Skips}.antt join it to chain_levels/specs/Rank.antt.
 -- Assumes nothing.
+-- The names of the levels below a level, of a level, and of those above it.
 use Prim.Native.Nat.{ℕ}
 use mathlib.Core.Bool.{Bool, _&&_, _||_}
 use lib.Dec.{eqb, ltb}
 use Rattle.follow.specs.Follow.{Follow}
 use Rattle.chain_levels.specs.Below.{anyBelow}
 use Rattle.chain_levels.specs.Reach.{occurs}
-use Rattle.chain_levels.specs.Level.{levelOf}
+use Rattle.chain_levels.specs.Rank.{levelOf}
 
 -- x occurs, on a level below l.
 unfoldable pub isLower : Follow → ℕ → ℕ → Bool

@@ -1,5 +1,6 @@
--- What follow facts have that words over their names show.
+-- A means: `shown-words` in crates/chain_peel/proofs/Words.antt joins it to `followOf`.
 -- Assumes nothing.
+-- What follow facts have that words over their names show.
 use Prim.Native.Nat.{ℕ, _<_}
 use mathlib.Core.Path.{_≡_}
 use mathlib.Core.Bool.{true}

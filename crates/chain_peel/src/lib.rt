@@ -1,1 +1,2 @@
-// Levels taken off one after the other: laws of the levels and of the chain for the code that builds it. There is no function here.
+// Levels taken off one after the other: laws of the levels and of the chain for the code that builds it. There is no
+// function here.

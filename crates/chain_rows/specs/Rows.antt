@@ -1,5 +1,6 @@
--- A relation between names, kept as a row of words: word a keeps the set of the names that a is related to.
+-- A means: `tables-made` in crates/chain/proofs/Stage.antt joins it to crates/chain_levels/specs/Reach.antt.
 -- Assumes nothing.
+-- A relation between names, kept as a row of words: word a keeps the set of the names that a is related to.
 use Prim.Native.Nat.{ℕ}
 use mathlib.Core.Path.{_≡_}
 use mathlib.Core.Bool.{Bool, _&&_, _||_, not}

@@ -1,4 +1,6 @@
--- The chain of a sample.
+-- A means: the chain of a sample, as built. `model-is-chain` in crates/demands/proofs/Demands.antt says that it is the
+-- record which the call answers; `is-placed` and `only-placed` in crates/chain_minimal/proofs/Demand.antt join it to
+-- `Placed`.
 -- Assumes nothing.
 use Prim.Native.Nat.{ℕ}
 use mathlib.Core.List.{List}

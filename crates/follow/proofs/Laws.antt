@@ -1,4 +1,5 @@
--- The struct that a sample gives holds the facts that the sample shows, and no others; order and repeats of words do not matter.
+-- The struct that a sample gives holds the facts that the sample shows, and no others; order and repeats of words do
+-- not matter.
 -- Assumes nothing.
 use Prim.Native.Nat.{ℕ, zero, suc, _≤_, _<_}
 use mathlib.Core.Path.{_≡_, refl, sym, _∙_, ap}

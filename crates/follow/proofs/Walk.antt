@@ -46,7 +46,8 @@ all-below-more n m (x ∷ w) l h =
     (lt-ltb x m (lt-of-lt-of-le (ltb-true x n (and-left (ltb x n) (allBelow n w) h)) l))
     (all-below-more n m w l (and-right (ltb x n) (allBelow n w) h))
 
--- Where the walk stands: at a place with so many blocks still to come, after so many blocks of the parent; what is to come decides the rest.
+-- Where the walk stands: at a place with so many blocks still to come, after so many blocks of the parent; what is to
+-- come decides the rest.
 pub record Walk (s : List ℕ) (parent : ℕ) (facts : Facts) (blocks at left : ℕ) : Type 0 where
   pub rest : List Block
   pub stands : drop at s ≡ blocksBytes rest []

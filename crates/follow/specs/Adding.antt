@@ -1,5 +1,6 @@
--- What the struct holds after words were added to it, one after the other.
+-- A means: a struct with words added; `facts-shown` in crates/follow/proofs/Laws.antt joins it to `followOf`.
 -- Assumes nothing.
+-- `word-shown` there joins the struct with one more word to `showing`.
 use Prim.Native.Nat.{ℕ}
 use mathlib.Core.Bool.{false, _||_}
 use mathlib.Core.List.{List, [], _∷_}
@@ -58,7 +59,8 @@ withWords facts (w ∷ ws) = withWords (withWord facts w) ws
 unfoldable pub factsOf : List (List ℕ) → Facts
 factsOf words = withWords noFacts words
 
--- The facts f and those that the word w shows, no others: "Adding a word changes only the facts which that word shows" (paper 01).
+-- The facts f and those that the word w shows, no others.
+-- Paper 01: "Adding a word changes only the facts which that word shows."
 abbrev pub showing : Follow → List ℕ → Follow
 showing f w =
     record {

@@ -1,5 +1,6 @@
--- Paper 01, "Follow facts": what the words of one parent's sample show, and nothing else.
+-- A means: executable follow facts; `follow-law` in crates/chain_levels/proofs/Theorem.antt joins them to `Fact`.
 -- Assumes nothing.
+-- Paper 01, "Follow facts": what the words of one parent's sample show, and nothing else.
 use Prim.Native.Nat.{ℕ, _<_}
 use mathlib.Core.Path.{_≡_}
 use mathlib.Core.Bool.{Bool, true, false, _&&_, _||_}

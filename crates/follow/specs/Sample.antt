@@ -1,4 +1,4 @@
--- Paper 01: "A parent's sample is the words of all its blocks."
+-- To be believed: paper 01, "A parent's sample is the words of all its blocks."
 -- Assumes nothing.
 use Prim.Native.Nat.{ℕ}
 use mathlib.Core.Bool.{cond}

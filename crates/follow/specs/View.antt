@@ -1,4 +1,4 @@
--- Follow facts as the code holds them, read as yes and no.
+-- A means: the facts that a struct holds; `facts-shown` in crates/follow/proofs/Laws.antt joins them to `followOf`.
 -- Assumes nothing.
 use Prim.Native.Nat.{ℕ}
 use lib.ListN.{getD}

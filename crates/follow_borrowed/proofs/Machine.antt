@@ -1,8 +1,6 @@
--- Facts and words as the machine keeps them: what both walks of this crate use.
---     typed      the machine's value for facts has the type that the code's locals have
---     put-down   a local that holds facts, beside what they own, is a place where they lie, which can be lent
---     taken-up   and back
--- Assumes `Given`.
+-- Facts and words as the machine keeps them: what both walks of this crate use.     typed      the machine's value for
+-- facts has the type that the code's locals have     put-down   a local that holds facts, beside what they own, is a
+-- place where they lie, which can be lent     taken-up   and back Assumes `Given`.
 use Prim.Native.Nat.{ℕ}
 use mathlib.Core.List.{List, [], _∷_}
 use lib.Dec.{T as Holds}

@@ -1,4 +1,5 @@
-// A word added to follow facts that are lent by `&mut`, over `follow::add_word`. Both functions are proved by a walk of their MIR, by hand.
+// A word added to follow facts that are lent by `&mut`, over `follow::add_word`. Both functions are proved by a walk of
+// their MIR, by hand.
 use follow::Facts;
 ghost use mathlib.Core.Path.{_≡_};
 ghost use mathlib.Core.Bool.{true};
@@ -14,7 +15,8 @@ pub fn add_word_to(facts: &mut Facts, word: &[u8])
     *facts = follow::add_word(*facts, word);
 }
 
-// The facts with a word added, by value: a local is lent to `add_word_to` and handed back, so that a caller needs no walk by hand.
+// The facts with a word added, by value: a local is lent to `add_word_to` and handed back, so that a caller needs no
+// walk by hand.
 pub fn after_word(facts: Facts, word: &[u8]) -> Facts
     requires { ⌜ allBelow places (now word) ≡ true ⌝ }
     ensures { λ r. ⌜ r ≡ withWord facts (now (word .entry)) ⌝ }

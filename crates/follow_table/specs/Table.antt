@@ -1,5 +1,6 @@
--- The follow facts of all parents in one table: 64 rows of 68 words, the row of parent p from word 68 · p on.
+-- A means: a table of follow facts; `walks-done` in crates/follow_table/proofs/Walks.antt joins it to `factsOf`.
 -- Assumes nothing.
+-- It has the facts of all parents: 64 rows of 68 words, the row of parent p from word 68 · p on.
 use Prim.Native.Nat.{ℕ, _+_, _*_, _<_}
 use mathlib.Core.Path.{_≡_}
 use mathlib.Core.Bool.{_||_}
@@ -24,7 +25,8 @@ tableSize = 4352
 unfoldable pub rowOf : List ℕ → ℕ → List ℕ
 rowOf table p = take rowSize (drop (p * rowSize) table)
 
--- The facts that a row keeps: the set of starts, the set of ends, 1 where a word is empty, the number of blocks, then the names that follow each name.
+-- The facts that a row keeps: the set of starts, the set of ends, 1 where a word is empty, the number of blocks, then
+-- the names that follow each name.
 unfoldable pub factsIn : List ℕ → Facts
 factsIn row = record { starts = ofWord (getD row 0 0); ends = ofWord (getD row 1 0); follows = drop 4 row; empty = eqb (getD row 2 0) 1 }
 

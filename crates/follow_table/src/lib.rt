@@ -1,4 +1,5 @@
-// The follow facts of all parents of a book, gathered in one walk over its blocks into a table with a row of words for each parent.
+// The follow facts of all parents of a book, gathered in one walk over its blocks into a table with a row of words for
+// each parent.
 use book::Layout;
 use book::part;
 use book_access::block_at_place;
@@ -20,7 +21,8 @@ ghost use Rattle.book.specs.Access.{LaidOut};
 ghost use Rattle.follow.specs.Follow.{isEmpty};
 ghost use Rattle.follow_table.specs.Table.{rowSize, tableSize, rowOf, factsIn, countIn, HasRoom, HeadAdded, RowAdded, Added, Gathered};
 
-// A row: the set of starts, the set of ends, 1 where a word is empty, the number of blocks, then the names that follow each name.
+// A row: the set of starts, the set of ends, 1 where a word is empty, the number of blocks, then the names that follow
+// each name.
 const STARTS: usize = 0;
 
 const ENDS: usize = 1;

@@ -1,4 +1,4 @@
--- Which names a name reaches by steps of a chain.
+-- More steps reach no fewer names; which names a name reaches by steps of a chain.
 -- Assumes nothing.
 use Prim.Native.Nat.{ℕ, zero, suc, _+_, _-_, _<_}
 use mathlib.Core.Path.{_≡_, refl, sym}
@@ -6,10 +6,15 @@ use mathlib.Core.Logic.{_⊎_, inl, inr}
 use native.Mathlib.Omega.{arith}
 use Rattle.model.specs.declared.Model.{Model}
 use Rattle.model.specs.Record.{factorOf}
-use Rattle.model_language.specs.Word.{name}
-use Rattle.model_language.specs.Step.{Over, Within, Step, Reach, one, more, Ahead}
+use Rattle.model_language.specs.Word.{Point, name}
+use Rattle.model_language.specs.Reach.{Reach, one, more}
+use Rattle.model_language.specs.Step.{Over, Within, Step, Ahead}
 use Rattle.model_language.proofs.Walk.{stay}
 use Rattle.model_language.proofs.Shown.{step-up}
+
+pub reach-wider : {S T : Point → Point → Type 0} → ((u v : Point) → S u v → T u v) → {x y : ℕ} → Reach S x y → Reach T x y
+reach-wider h (one g) = one (h _ _ g)
+reach-wider h (more g r) = more (h _ _ g) (reach-wider h r)
 
 step-ahead : (m : Model) (x y : ℕ) → Step m (name x) (name y) → Ahead m x y
 step-ahead m x y s = go (s .way)

@@ -1,4 +1,5 @@
--- For every step of a chain there is a way from the start to the end that goes over it, with one name of each factor before and behind it.
+-- For every step of a chain there is a way from the start to the end that goes over it, with one name of each factor
+-- before and behind it.
 -- Assumes nothing.
 use Prim.Native.Nat.{ℕ, zero, suc, _+_, _-_, _≤_, _<_}
 use mathlib.Core.Path.{_≡_, refl}

@@ -1,5 +1,5 @@
--- What a word shows, in paper 01's words: its first name may start, its last may end, of two names side by side the second follows the first, and an empty
--- word leads from start to end. Nothing else.
+-- What a word shows, in paper 01's words: its first name may start, its last may end, of two names side by side the
+-- second follows the first, and an empty word leads from start to end. Nothing else.
 -- Assumes nothing.
 use Prim.Native.Nat.{ℕ}
 use mathlib.Core.Path.{_≡_, refl, ap}

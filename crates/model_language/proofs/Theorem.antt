@@ -1,4 +1,5 @@
--- A chain's words form a local language: whether a word is accepted depends only on the steps that it shows. The statements to read first.
+-- A chain's words form a local language: whether a word is accepted depends only on the steps that it shows. The
+-- statements to read first.
 -- Assumes nothing.
 use Prim.Native.Nat.{ℕ, suc, _+_, _-_, _≤_, _<_}
 use mathlib.Core.Path.{_≡_}
@@ -11,7 +12,8 @@ use Rattle.model.specs.Record.{none, factorOf, IsChain}
 use Rattle.model.specs.Accept.{Accepts, Names}
 use Rattle.model.proofs.Acceptance.{accepts-run}
 use Rattle.model_language.specs.Word.{Point, start, name, end, Shows, Fact, AcceptsAll}
-use Rattle.model_language.specs.Step.{Step, Includes, Reach, Ahead}
+use Rattle.model_language.specs.Reach.{Reach}
+use Rattle.model_language.specs.Step.{Step, Includes, Ahead}
 use Rattle.model_language.proofs.Walk.{Walk, walk-steps, next-to, run-walk, walk-run}
 use Rattle.model_language.proofs.Shown.{step-up, point, onward, step-walk}
 use Rattle.model_language.proofs.Reach.{reach-ahead, ahead-reach}

@@ -1,4 +1,4 @@
--- The steps of a model record, and which names they lead to.
+-- A means: the steps of a record; `accepts-steps` in crates/model_language/proofs/Theorem.antt joins them to `Accepts`.
 -- Assumes nothing.
 use Prim.Native.Nat.{ℕ, zero, suc, _≤_, _<_}
 use mathlib.Core.Path.{_≡_}
@@ -58,11 +58,6 @@ pub record Step (m : Model) (u v : Point) : Type 0 where
 -- Every step of m is a step of k.
 abbrev pub Includes : Model → Model → Type 0
 Includes m k = (u v : Point) → Step m u v → Step k u v
-
--- One or more steps lead from the name x to the name y.
-pub data Reach (S : Point → Point → Type 0) : ℕ → ℕ → Type 0 where
-  one : {x y : ℕ} → S (name x) (name y) → Reach S x y
-  more : {x y z : ℕ} → S (name x) (name y) → Reach S y z → Reach S x z
 
 -- x stands in an earlier factor than y, or in the same one and it repeats.
 abbrev pub Ahead : Model → ℕ → ℕ → Type 0

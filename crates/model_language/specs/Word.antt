@@ -1,5 +1,6 @@
--- What a word and a list of words show: paper 01's follow facts, as steps between points.
+-- To be believed: paper 01, "Follow facts", as the steps between points that a word and a list of words show.
 -- Assumes nothing.
+-- `shows-law` in crates/model_language/proofs/Shows.antt states the steps of a word in the paper's own terms.
 use Prim.Native.Nat.{ℕ}
 use mathlib.Core.Path.{_≡_}
 use mathlib.Core.List.{List, [], _∷_}

@@ -1,4 +1,5 @@
--- `add_word_to` meets its contract: a walk of its MIR, by hand. The borrow of the facts is opened, the record is read and passed to `follow::add_word`, what that returns is stored, and the borrow is closed at it.
+-- `add_word_to` meets its contract: a walk of its MIR, by hand. The borrow of the facts is opened, the record is read
+-- and passed to `follow::add_word`, what that returns is stored, and the borrow is closed at it.
 -- Of `add_word` it knows the contract alone.
 -- Assumes nothing.
 use Prim.Native.Nat.{ℕ}
@@ -120,7 +121,8 @@ module _ {M : Type 1} (𝓤 : URA M) (H : Heap 𝓤) (A : Atoms 𝓤) (W : Given
         use1 W (‵ WordOwn ⊛ ‵ WordOwn) (shr-slice-copy 𝓤 H A W (named 1) κ′ u8 .twice w (seen w ∷ [])) $ split ! $ move ! (5 ∷ 6 ∷ 3 ∷ []) $
         opens ! tt Row {h = f} b o (λ vs. spelt ! Row (Is Row) (shows 𝓤 H A Row) (LL.vals T.the-type T′.the-laws) (LL.tells T.the-type T′.the-laws) fullShare f vs b o $
         move ! (1 ∷ []) $ peeks ! Row (Is Row) (shows 𝓤 H A Row) f (kept f ∷ []) (λ is. move ! (1 ∷ 0 ∷ []) $
-        -- [the record's cell; what it owns; the open borrow; obs; auth; the word's; the word's; true; the word's token; _4; …; _3; …; _2; …; _1; …; room for _0; …]
+        -- [the record's cell; what it owns; the open borrow; obs; auth; the word's; the word's; true; the word's token;
+        -- _4; …; _3; …; _2; …; _1; …; room for _0; …]
         assigns ! (of-opd ! (load ! (from ! (hop ! (look ! 15 refl) (stop !))) (look-raw ! 0 refl))) (from ! (stop !)) (init ! 9 refl (typed 𝓤 H A W f _ is)) $
         -- `add_word`
         move ! (8 ∷ 1 ∷ 5 ∷ []) $ use3 W (raw (Add 𝓤 H A at-mem run .pre to-add)) (asked below) $
@@ -128,7 +130,8 @@ module _ {M : Type 1} (𝓤 : URA M) (H : Heap 𝓤) (A : Atoms 𝓤) (W : Given
         use1 W (later (some (λ (r : Facts). (Token ⊛ ‵ (Row .own r (u ∷ []))) ⊛ raw (ensured 𝓤 H A add.ended (add.clauses 𝓤 H A at-mem run) (κ′, tt) (f, (w, tt)) tt r)))) (id⊢ 𝓤 _) $ await ! tt $ pick ! (λ r.
         split ! $ move ! (1 ∷ []) $ use1 W (raw (fact 𝓤 (r ≡ withWord f (now w)))) (told r) $ heard ! (r ≡ withWord f (now w)) (λ e. split ! $ move ! (1 ∷ []) $
         peeks ! Row (Is Row) (shows 𝓤 H A Row) r (u ∷ []) (λ is′.
-        -- [what the result owns; the word's token; the record's cell; the open borrow; obs; auth; the word's; true; _4; …; _3; …; _2; …; _1; …; room for _0; …]
+        -- [what the result owns; the word's token; the record's cell; the open borrow; obs; auth; the word's; true; _4;
+        -- …; _3; …; _2; …; _1; …; room for _0; …]
         land ! (from ! (stop !)) (init ! 10 refl (typed 𝓤 H A W r _ is′)) $
         assigns ! (of-opd ! (load ! (from ! (stop !)) (look ! 10 refl))) (from ! (hop ! (look ! 14 refl) (stop !))) (store-raw ! 2 refl (typed 𝓤 H A W r _ is′)) $
         assigns ! (of-opd ! (unit-lit !)) (from ! (stop !)) (init ! 16 refl (tt, tt)) $

@@ -1,4 +1,5 @@
--- `after_word` meets its contract: a walk of its MIR, by hand. The local is lent to `add_word_to` for a lifetime that is made for the call, comes back at the facts that the call left, and is returned.
+-- `after_word` meets its contract: a walk of its MIR, by hand. The local is lent to `add_word_to` for a lifetime that
+-- is made for the call, comes back at the facts that the call left, and is returned.
 -- Of `add_word_to` it knows the contract alone.
 -- Assumes nothing.
 use Prim.Native.Nat.{ℕ}
@@ -129,19 +130,23 @@ module _ {M : Type 1} (𝓤 : URA M) (H : Heap 𝓤) (A : Atoms 𝓤) (W : Given
         assigns ! (addr ! (from ! (stop !))) (from ! (stop !)) (init ! 0 refl (tt, tt)) $
         move ! (13 ∷ []) $ fsplit ! $ move ! (1 ∷ []) $ fsplit ! $
         use1 W (‵ WordOwn ⊛ ‵ WordOwn) (shr-slice-copy 𝓤 H A W (named 0) κ u8 .twice w (seen w ∷ [])) $ split ! $
-        -- [the word's; the word's; true; what the facts own; _5; …; _4; …; _3; …; _2; …; _1; …; room for _0; …; the token]
+        -- [the word's; the word's; true; what the facts own; _5; …; _4; …; _3; …; _2; …; _1; …; room for _0; …; the
+        -- token]
         move ! (8 ∷ 3 ∷ []) $ use2 W (‵ (partAt Row fullShare f l₃ 0)) (put-down 𝓤 H A W f l₃) $
         lft-new ! tt (λ ν. move ! (1 ∷ []) $ use1 W (later (some (λ (δ : GName). ‵ (Loan l₃ ν δ) ⊛ ‵ (Rest l₃ ν δ)))) (lends-ref 𝓤 H A W Row (named 0) (ν ∷ []) f l₃ 0) $ await ! tt $ pick ! (λ δ. split ! $
-        -- [the loan; the lender's; the loan's token; the word's; the word's; true; _5; …; _4; …; … of _3; _2; …; _1; …; room for _0; …; the token]
+        -- [the loan; the lender's; the loan's token; the word's; the word's; true; _5; …; _4; …; … of _3; _2; …; _1; …;
+        -- room for _0; …; the token]
         move ! (2 ∷ 17 ∷ []) $ join ! $ move ! (0 ∷ 1 ∷ 3 ∷ []) $ use3 W (raw (Add 𝓤 H A at-mem run .pre (to-add l₃ ν δ))) (asked l₃ ν δ below) $
         calls-at ! fm (Add 𝓤 H A at-mem run) known (to-add l₃ ν δ) (and-then ! (load ! (from ! (stop !)) (look ! 4 refl)) (and-then ! (load ! (from ! (stop !)) (look ! 9 refl)) (no-more !))) (λ u.
         use1 W (later (some (λ (r : Unit {0}). (Tokens ν ⊛ ‵ (Nothing .own r (u ∷ []))) ⊛ some (Told l₃ ν δ)))) (id⊢ 𝓤 _) $ await ! tt $ pick ! (λ r.
         split ! $ move ! (1 ∷ []) $ pick ! (λ ls. split ! $ move ! (1 ∷ []) $ heard ! (ls .0 ≡ withWord f (now w)) (λ e. fsplit ! $ move ! (2 ∷ []) $ split ! $ move ! (1 ∷ []) $ feqL ! (λ is-unit.
-        -- [the tokens; the last facts; true; the lender's; the word's; true; _5; …; _4; …; … of _3; _2; …; _1; …; room for _0; …]
+        -- [the tokens; the last facts; true; the lender's; the word's; true; _5; …; _4; …; … of _3; _2; …; _1; …; room
+        -- for _0; …]
         land ! (from ! (stop !)) (init ! 8 refl (subst (λ (v : Val). Holds (hasTy tyUnit v) × WT v) (sym (ap only is-unit)) (tt, tt))) $
         split ! $ lft-end ! tt $ move ! (0 ∷ 4 ∷ 2 ∷ []) $ use3 W (later (‵ (partAt Row fullShare (ls .0) l₃ 0))) (ref-back 𝓤 H A W Row (ν ∷ []) δ (ls .0) l₃ 0) $ await ! tt $
         use1 W (‵ (fat fullShare T′.mir l₃ 0 (kept (ls .0))) ⊛ ‵ (Row .own (ls .0) (kept (ls .0) ∷ []))) (taken-up 𝓤 H A W (ls .0) l₃) $ split ! $ move ! (1 ∷ []) $
-        -- [what the facts own; _3; the token; true; the word's; true; _5; …; _4; …; … of _3; _2; …; _1; …; room for _0; …]
+        -- [what the facts own; _3; the token; true; the word's; true; _5; …; _4; …; … of _3; _2; …; _1; …; room for _0;
+        -- …]
         peeks ! Row (Is Row) (shows 𝓤 H A Row) (ls .0) (kept (ls .0) ∷ []) (λ is′.
         assigns ! (of-opd ! (load ! (from ! (stop !)) (look ! 1 refl))) (from ! (stop !)) (init ! 15 refl (typed 𝓤 H A W (ls .0) _ is′)) $
         returns ! (look ! 15 refl) $ forget ! 1 refl $ forget ! 6 refl $ forget ! 8 refl $ forget ! 11 refl $ forget ! 13 refl $ forget ! 15 refl $
