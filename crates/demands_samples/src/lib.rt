@@ -1,0 +1,1 @@
+// The marked samples of paper 01, as printed: no function.
