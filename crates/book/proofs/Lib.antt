@@ -9,3 +9,4 @@ pub mod FieldStops
 pub mod NameStops
 pub mod BlockStops
 pub mod Stops
+pub mod Onward

@@ -1,8 +1,9 @@
--- Bytes are refused for the conditions of specs/Stops.antt and for no other: `book-refused`, the statement to read, at the end.
+-- Bytes are refused for the conditions of specs/Stops.antt and for no other: `book-refused`, the statement to read, at
+-- the end.
 -- Assumes nothing.
 use Prim.Native.Nat.{ℕ, _≤_, _<_}
 use mathlib.Core.Path.{_≡_, refl, sym, _∙_, subst}
-use mathlib.Core.Bool.{Bool, true, false, not, true≢false}
+use mathlib.Core.Bool.{true, false, not}
 use mathlib.Core.List.{List, []}
 use mathlib.Core.Logic.{_↔_, inl, inr, ⊎-elim}
 use native.Mathlib.Omega.{arith}
@@ -13,16 +14,16 @@ use Rattle.refusal.specs.declared.Refusal.{Refusal}
 use Rattle.refusal.specs.declared.Refusal.the-variants.{BookTooLong, BytesMissing, BadNameCount, BadName, NameNotAbove, NumberNotBelow, BytesLeftOver, BadParent, NoBlock, NotAChain, BadWord, BufferTooShort, NotADeclaration, UnknownName, NameTwice}
 use Rattle.refusal.specs.Table.{ofBook}
 use Rattle.refusal.specs.Answer.{Answer, given, refused, onward, refuseIf}
-use Rattle.refusal.proofs.Answers.{given-refused, onward-refused, check-refused}
-use Rattle.nameset.specs.Places.{places, goodCount}
-use Rattle.nameset.proofs.Count.{count-bounds, bounds-count}
+use Rattle.refusal.proofs.Answers.{onward-given, check-given, given-same, given-refused, onward-refused, check-refused}
+use Rattle.nameset.specs.Places.{goodCount, OutOfRange}
+use Rattle.nameset.proofs.Count.{count-bounds, bounds-count, count-bad}
 use Rattle.book.specs.Field.{Field, field, countOf}
-use Rattle.book.specs.Book.{Block, Book, longestBook, nameOf, namesOf, blockOf, blocksOf, nameSection, blockSection, bookOf}
+use Rattle.book.specs.Book.{Block, Book, longestBook, nameOf, namesOf, blockOf, blocksOf, nameSection, blockSection, bookOf, IsBook}
 use Rattle.book.specs.Bytes.{blocksBytes}
-use Rattle.book.specs.Stops.{countAt, lastOf, Within, NamesRead, AtName, AtSection, BlocksRead, AtBlock, AtEnd, Missing, BadCount, Stops}
+use Rattle.book.specs.Stops.{countAt, lastOf, Within, NamesRead, AtName, AtSection, BlocksRead, AtBlock, AtEnd, Whole, Missing, BadCount, Stops}
 use Rattle.book.proofs.Counts.{count-missing, count-given}
 use Rattle.book.proofs.Told.{blocks-told}
-use Rattle.book.proofs.Sections.{count-told, name-section-told}
+use Rattle.book.proofs.Sections.{count-told, name-section-told, block-section-told}
 use Rattle.book.proofs.FieldStops.{count-stop}
 use Rattle.book.proofs.NameStops.{NameStop, missing, bad, low, name-stop, name-missing, name-bad, name-low, NamesStop, names-stop, names-refused, names-given}
 use Rattle.book.proofs.BlockStops.{BlockStop, cut, over, block-stop, block-missing, block-bad, BlocksStop, blocks-stop, blocks-refused, blocks-given}
@@ -71,7 +72,7 @@ module _ (s : List ℕ) (r : Refusal) where
       no-count : (n : Field ℕ) → countOf s ≡ given n → goodCount (n .value) ≡ false → BadCount s
       no-count n h g =
           let c = count-told s n h in
-          (short, c .enough, λ b. true≢false (sym (bounds-count (n .value) (rw (← c .value) (b .0)) (rw (← c .value) (b .1))) ∙ g))
+          (short, c .enough, subst OutOfRange (sym (c .value)) (count-bad (n .value) .0 g))
 
       counted : (n : Field ℕ) → countOf s ≡ given n → refuseIf (not (goodCount (n .value))) BadNameCount (namesOf (n .value) [] (n .rest)) ≡ refused r → Stops s r
       counted n h e =
@@ -144,11 +145,7 @@ module _ (s : List ℕ) where
 
   bad-count-refused : BadCount s → bookOf s ≡ refused BadNameCount
   unfolding nameSection
-  bad-count-refused (short, enough, b) = named-refused short BadNameCount (rw (count-given s 0 enough, wrong (goodCount (countAt s 0)) (count-bounds (countAt s 0))))
-    where
-      wrong : (t : Bool) → (t ≡ true → (1 ≤ countAt s 0) × (countAt s 0 ≤ places)) → t ≡ false
-      wrong true h = absurd (b (h refl))
-      wrong false h = refl
+  bad-count-refused (short, enough, b) = named-refused short BadNameCount (rw (count-given s 0 enough, count-bad (countAt s 0) .1 b))
 
   name-refused : (last rest : List ℕ) → AtName s last rest → (r : Refusal) → nameOf last rest ≡ refused r → bookOf s ≡ refused r
   unfolding nameSection
@@ -210,6 +207,52 @@ module _ (s : List ℕ) where
 -- Bytes are refused by a number exactly where its condition holds.
 pub book-refused : (s : List ℕ) (r : Refusal) → (bookOf s ≡ refused r) ↔ Stops s r
 book-refused s r = (refused-stops s r, stops-refused s r)
+
+-- And they are a book exactly where its parts are all there is.
+module _ (s : List ℕ) (b : Book) where
+  given-whole : bookOf s ≡ given b → Whole s b
+  unfolding bookOf
+  given-whole e =
+      let l = check-given (ltb longestBook (length s)) BookTooLong _ b e in
+      let f = onward-given (nameSection s) _ b (l .1) in
+      let g = onward-given (blockSection (length (f .0 .value)) (f .0 .rest)) _ b (f .2) in
+      let t = name-section-told s (f .0) (f .1) in
+      let u = block-section-told (length (f .0 .value)) (f .0 .rest) (g .0) (g .1) in
+      let c = count-bounds (length (f .0 .value)) (t .good) in
+      subst (Whole s) (given-same _ b (g .2))
+      (record {
+        section = f .0 .rest;
+        names =
+            record {
+              short = ltb-false longestBook (length s) (l .0);
+              enough = t .enough;
+              some = rw (t .count) (c .0);
+              few = rw (t .count) (c .1);
+              rising = t .rising;
+              stand = t .bytes;
+            };
+        all-names = sym (t .count);
+        enough = u .enough;
+        all-blocks = u .count;
+        within = rw (t .count) (u .within);
+        stand = u .bytes;
+      })
+
+  whole-given : Whole s b → bookOf s ≡ given b
+  unfolding bookOf blockSection
+  whole-given w =
+      rw (
+        le-ltb longestBook (length s) (w .names .short),
+        section-given s (b .names) (w .section) (w .names) (w .all-names),
+        w .all-names,
+        count-given (w .section) 0 (w .enough),
+        w .all-blocks,
+        w .stand,
+        blocks-given (countAt s 0) (b .blocks) [] (w .within),
+      )
+
+  pub book-whole : IsBook s b ↔ Whole s b
+  book-whole = (given-whole, whole-given)
 
 -- So they are refused by the numbers of a book and by no other.
 pub book-stops : (s : List ℕ) (r : Refusal) → bookOf s ≡ refused r → ofBook r ≡ true

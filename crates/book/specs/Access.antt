@@ -1,4 +1,5 @@
--- Going back to the names and blocks of a book that was read.
+-- A means: going back to the names and blocks of a book that was read, for the layers above it. A name has a number
+-- exactly when it is one of the names: `known-in` in crates/declaration_spelling/proofs/Named.antt.
 -- Assumes nothing.
 use Prim.Native.Nat.{ℕ, suc, _+_, _≤_}
 use mathlib.Core.Path.{_≡_}
@@ -34,6 +35,7 @@ pub record BlockFits (bytes : List ℕ) (at : ℕ) : Type 0 where
   pub head : at + 2 ≤ length bytes
   pub whole : at + 2 + getD bytes (at + 1) 0 ≤ length bytes
 
--- The block that stands at a place: its parent, and where its children begin and end. The next block stands where they end.
+-- The block that stands at a place: its parent, and where its children begin and end. The next block stands where they
+-- end.
 unfoldable pub blockPlace : List ℕ → ℕ → BlockPlace
 blockPlace bytes at = record { parent = getD bytes at 0; from = at + 2; to = at + 2 + getD bytes (at + 1) 0 }

@@ -1,7 +1,9 @@
--- Paper 01, "The book" and rows 1 to 7 of "Where a call stops": what a list of bytes is as a book.
--- Read from `bookOf`, at the end, inwards: the checks of a definition apply from top to bottom, and the first that applies is the answer.
+-- To be believed: which book a list of bytes is (paper 01, "The book" and rows 1 to 7 of "Where a call stops"). Read
+-- from `bookOf`, at the end, inwards: the checks of a definition apply from top to bottom, and the first that applies
+-- is the answer.
 -- Assumes nothing.
 use Prim.Native.Nat.{ℕ, zero, suc}
+use mathlib.Core.Path.{_≡_}
 use mathlib.Core.Bool.{Bool, true, _&&_, not}
 use mathlib.Core.List.{List, [], _∷_}
 use lib.Dec.{ltb}
@@ -32,7 +34,8 @@ unfoldable pub allBelow : ℕ → List ℕ → Bool
 allBelow n [] = true
 allBelow n (x ∷ xs) = ltb x n && allBelow n xs
 
--- One name, after the name `before`: a length byte, then that many bytes; "4: bad length or byte"; "5: not above the one before".
+-- One name, after the name `before`: a length byte, then that many bytes; "4: bad length or byte"; "5: not above the
+-- one before".
 unfoldable pub nameOf : List ℕ → List ℕ → Answer (Field (List ℕ))
 nameOf before bytes =
     onward (byteOf bytes) (λ size.
@@ -90,6 +93,10 @@ bookOf bytes =
     (onward (nameSection bytes) (λ names.
     onward (blockSection (length (names .value)) (names .rest)) (λ blocks.
     given (record { names = names .value; blocks = blocks }))))
+
+-- The bytes are the book b: they are not refused.
+abbrev pub IsBook : List ℕ → Book → Type 0
+IsBook bytes b = bookOf bytes ≡ given b
 
 -- The names and the blocks of a book, none where it is refused.
 unfoldable pub namesIn : List ℕ → List (List ℕ)

@@ -1,4 +1,4 @@
--- Names and blocks as the bytes of a book, each before the bytes that follow it.
+-- To be believed: names and blocks as the bytes of a book, each before the bytes that follow it.
 -- Assumes nothing.
 use Prim.Native.Nat.{ℕ}
 use mathlib.Core.List.{List, [], _∷_, _++_}

@@ -1,4 +1,4 @@
--- Reading a list of bytes field by field, left to right: "2: bytes missing for it, before its value" (paper 01).
+-- To be believed: reading a list of bytes field by field, left to right (paper 01, row 2).
 -- Assumes nothing.
 use Prim.Native.Nat.{ℕ, _+_, _*_}
 use mathlib.Core.List.{List, [], _∷_}

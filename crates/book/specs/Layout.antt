@@ -1,4 +1,5 @@
--- Where the parts of a book stand among its bytes, so that a name or a block is found again without reading from the start.
+-- A means: where the parts of a book are among its bytes, so that a name or a block is found again without reading from
+-- the start. The laws of crates/book/proofs/Laws.antt join it to the book.
 -- Assumes nothing.
 use Prim.Native.Nat.{ℕ, _+_}
 use mathlib.Core.List.{List, [], _∷_}

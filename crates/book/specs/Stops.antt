@@ -1,4 +1,6 @@
--- Rows 1 to 7 of paper 01's "Where a call stops", without any reader: which bytes are refused by which number. Read from `Stops`, at the end, upwards.
+-- To be believed: which bytes are refused by which number, rows 1 to 7 of paper 01's "Where a call stops", and which
+-- are a book. Stated of the bytes, without the function that reads; `book-refused` and `book-whole` in
+-- proofs/Stops.antt say that `bookOf` agrees. Read from `Stops`, at the end, upwards.
 -- Assumes nothing.
 use Prim.Native.Nat.{ℕ, _+_, _*_, _≤_, _<_}
 use mathlib.Core.Path.{_≡_}
@@ -8,10 +10,10 @@ use mathlib.Core.Logic.{_⊎_}
 use lib.ListN.{length, drop, getD}
 use Rattle.refusal.specs.declared.Refusal.{Refusal}
 use Rattle.refusal.specs.declared.Refusal.the-variants.{BookTooLong, BytesMissing, BadNameCount, BadName, NameNotAbove, NumberNotBelow, BytesLeftOver, BadParent, NoBlock, NotAChain, BadWord, BufferTooShort, NotADeclaration, UnknownName, NameTwice}
-use Rattle.nameset.specs.Places.{places}
+use Rattle.nameset.specs.Places.{places, OutOfRange}
 use Rattle.name.specs.Rule.{goodLength, goodBytes}
 use Rattle.name.specs.Order.{rises}
-use Rattle.book.specs.Book.{Block, longestBook, allBelow}
+use Rattle.book.specs.Book.{Block, Book, longestBook, allBelow}
 use Rattle.book.specs.Bytes.{nameBytes, namesBytes, blockBytes, blocksBytes}
 
 -- ---- what was read before a place
@@ -81,6 +83,16 @@ pub record AtEnd (s rest : List ℕ) : Type 0 where
   pub read : BlocksRead s m blocks rest
   pub all : length blocks ≡ m
 
+-- The bytes are the book b, whole: the count N, its names, the count M, its blocks, and nothing behind them.
+pub record Whole (s : List ℕ) (b : Book) : Type 0 where
+  pub section : List ℕ
+  pub names : NamesRead s (b .names) section
+  pub all-names : length (b .names) ≡ countAt s 0
+  pub enough : 2 ≤ length section
+  pub all-blocks : countAt section 0 ≡ length (b .blocks)
+  pub within : Within (countAt s 0) (b .blocks)
+  pub stand : drop 2 section ≡ blocksBytes (b .blocks) []
+
 -- ---- what is wrong there
 
 -- A name's length byte is missing; or the length is good, and bytes of the name are missing.
@@ -113,18 +125,25 @@ abbrev pub Missing : List ℕ → Type 0
 Missing s = (length s < 2) ⊎ (((last rest : List ℕ) × AtName s last rest × NameMissing rest)
     ⊎ (((rest : List ℕ) × AtSection s rest × (length rest < 2)) ⊎ ((rest : List ℕ) × AtBlock s rest × BlockMissing (countAt s 0) rest)))
 
--- 3: the count N is 0 or above 64.
+-- 3: the count N is there, and is 0 or above 64.
 abbrev pub BadCount : List ℕ → Type 0
-BadCount s = (length s ≤ longestBook) × (2 ≤ length s) × (¬ ((1 ≤ countAt s 0) × (countAt s 0 ≤ places)))
+BadCount s = (length s ≤ longestBook) × (2 ≤ length s) × OutOfRange (countAt s 0)
 
 -- The bytes are refused by this number, and no number above 7 is one of a book.
 abbrev pub Stops : List ℕ → Refusal → Type 0
+-- 1: "above 60,000 bytes"
 Stops s BookTooLong = longestBook < length s
+-- 2: "bytes missing for it, before its value"
 Stops s BytesMissing = Missing s
+-- 3: "0 or above 64"
 Stops s BadNameCount = BadCount s
+-- 4: "bad length or byte"
 Stops s BadName = (last rest : List ℕ) × AtName s last rest × NameBad rest
+-- 5: "not above the one before"
 Stops s NameNotAbove = (last rest : List ℕ) × AtName s last rest × NameLow last rest
+-- 6: "number not below N"
 Stops s NumberNotBelow = (rest : List ℕ) × AtBlock s rest × BlockBad (countAt s 0) rest
+-- 7: "bytes left over"
 Stops s BytesLeftOver = (rest : List ℕ) × AtEnd s rest × (0 < length rest)
 Stops s BadParent = ⊥
 Stops s NoBlock = ⊥

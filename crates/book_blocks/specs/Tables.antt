@@ -1,4 +1,4 @@
--- What the steps of reading blocks answer: the definitions' answers as the code holds them.
+-- A means: the answers of the steps that read blocks, as the code has them. The functions of this crate promise them.
 -- Assumes nothing.
 use Prim.Native.Nat.{ℕ, _+_}
 use mathlib.Core.List.{List, [], _∷_}

@@ -1,4 +1,4 @@
--- What the steps of reading names answer: the definitions' answers as the code holds them.
+-- A means: the answers of the steps that read names, as the code has them. The functions of this crate promise them.
 -- Assumes nothing.
 use Prim.Native.Nat.{ℕ}
 use mathlib.Core.Bool.{not}

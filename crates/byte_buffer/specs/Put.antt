@@ -1,4 +1,4 @@
--- Bytes put into a buffer.
+-- A means: bytes put into a buffer; `wrote-start` and `wrote-none` in proofs/Puts.antt say what the buffer then holds.
 -- Assumes nothing.
 use Prim.Native.Nat.{ℕ, _+_}
 use mathlib.Core.Path.{_≡_}

@@ -1,4 +1,4 @@
--- The largest number of a row.
+-- A means: the largest number of a row; `most-law` in proofs/Laws.antt says what it tells of each number.
 -- Assumes nothing.
 use Prim.Native.Nat.{ℕ, max}
 use mathlib.Core.List.{List, [], _∷_}

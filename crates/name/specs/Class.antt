@@ -1,4 +1,5 @@
--- Paper 01, "The book": "A name starts with A-Z, a-z or `_`; later bytes may also be 0-9, `-` or `.`."
+-- To be believed: the bytes of names (paper 01, "The book"): "A name starts with A-Z, a-z or `_`; later bytes may also
+-- be 0-9, `-` or `.`."
 -- Assumes nothing.
 use Prim.Native.Nat.{ℕ, zero, suc}
 use mathlib.Core.Bool.{Bool, cond, _&&_, _||_}

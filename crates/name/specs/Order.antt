@@ -1,4 +1,4 @@
--- Paper 01, "The book": names are "compared byte by byte, a proper prefix first".
+-- To be believed: the order of names (paper 01, "The book"): "compared byte by byte, a proper prefix first".
 -- Assumes nothing.
 use Prim.Native.Nat.{ℕ}
 use mathlib.Core.Bool.{Bool, true, false, cond}

@@ -1,4 +1,4 @@
--- Paper 01, "The book": the rule for names, a length of 1 to 32 and bytes of the right classes.
+-- To be believed: the rule for names (paper 01, "The book"): a length of 1 to 32, and bytes of the right classes.
 -- Assumes nothing.
 use Prim.Native.Nat.{ℕ}
 use mathlib.Core.Bool.{Bool, true, false, _&&_}

@@ -1,5 +1,5 @@
--- The laws of the sets, for the proofs of callers: what members each operation gives, that sets with the same members are equal,
--- that a set of code is `Sized` and stays so, the smallest member, and that a set without it is smaller.
+-- The laws of the sets, for the proofs of callers: what members each operation gives, that sets with the same members
+-- are equal, that a set of code is `Sized` and stays so, the smallest member, and that a set without it is smaller.
 -- Assumes nothing.
 use Prim.Native.Nat.{ℕ, zero, suc, _-_, _^_, _≤_, _<_}
 use mathlib.Core.Path.{_≡_, refl, sym, _∙_, ap}
@@ -58,9 +58,10 @@ member-rest s j =
 
 -- ---- `Sized`
 
--- Each set that code holds is `Sized`. In a caller's proof `search needs` shows it of a parameter, `Sized (c .before .args .s)`, and of
--- what a call gave, `Sized (c .union .result)`, since `c` has it of both. Of a set that was read from an array `search (needs, sized-element)` shows it,
--- and `search (needs, sized-field)` where the array is a field of a struct.
+-- Each set that code holds is `Sized`. In a caller's proof `search needs` shows it of a parameter, `Sized (c .before
+-- .args .s)`, and of what a call gave, `Sized (c .union .result)`, since `c` has it of both. Of a set that was read
+-- from an array `search (needs, sized-element)` shows it, and `search (needs, sized-field)` where the array is a field
+-- of a struct.
 
 pub sized-empty : Sized empty
 sized-empty = pow-pos places

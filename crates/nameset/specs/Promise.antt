@@ -1,4 +1,4 @@
--- What the functions of the crate promise of their results.
+-- A means: what the functions of this crate promise of their results, by the members of the sets.
 -- Assumes nothing.
 use Prim.Native.Nat.{ℕ, _≤_, _<_}
 use mathlib.Core.Path.{_≡_}

@@ -1,4 +1,5 @@
--- Sets of name numbers, and what each operation of the crate computes. What members each result has is in proofs/Laws.antt.
+-- A means: sets of name numbers, and what each operation of this crate computes. The laws in proofs/Laws.antt say which
+-- members each result has.
 -- Assumes nothing.
 use Prim.Native.Nat.{ℕ, _-_, _/_, _%_, _^_, _<_}
 use mathlib.Core.Bool.{Bool}

@@ -105,8 +105,8 @@ impl NameSet {
         }
     }
 
-    // A set and the word that keeps it in a row of numbers: rows that are lent to a call are numbers, since a lent row of structs
-    // takes a proof by hand.
+    // A set and the word that keeps it in a row of numbers: rows that are lent to a call are numbers, since a lent row
+    // of structs takes a proof by hand.
     pub fn of_word(word: u64) -> NameSet
         ensures { λ r. ⌜ r ≡ ofWord word ⌝ }
     {

@@ -1,4 +1,5 @@
--- Answers as the specifications have them: a value, or the refusal that comes first.
+-- To be believed: answers as the specifications have them: a value, or the refusal that comes first.
+-- `number-refused` and `number-given` in proofs/Answers.antt say what the number of an answer tells.
 -- Assumes nothing.
 use Prim.Native.Nat.{ℕ}
 use mathlib.Core.Bool.{Bool, true, false}
@@ -35,3 +36,7 @@ outcomeOf (refused r) = Refused r
 abbrev pub outcomeNumber : Outcome → ℕ
 outcomeNumber Done = 0
 outcomeNumber (Refused r) = numberOf r
+
+-- The number that a call answers beside its value: 0 where the value is given.
+abbrev pub answerNumber : {A : Type 0} → Answer A → ℕ
+answerNumber a = outcomeNumber (outcomeOf a)

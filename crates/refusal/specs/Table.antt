@@ -1,4 +1,4 @@
--- Paper 01, "Where a call stops": the number of each refusal, and what a refused call answers.
+-- To be believed: the number of each refusal, and what a refused call answers (paper 01, "Where a call stops").
 -- Assumes nothing.
 use Prim.Native.Nat.{ℕ}
 use mathlib.Core.Bool.{Bool, true, false}

@@ -1,4 +1,5 @@
--- `read_names` meets its contract: the names read so far stand in the table, and what is left to read decides the rest of the answer.
+-- `read_names` meets its contract: the names read so far stand in the table, and what is left to read decides the rest
+-- of the answer.
 -- Assumes nothing.
 use Prim.Native.Nat.{ℕ, suc, _+_, _-_, _≤_, _<_}
 use mathlib.Core.Path.{_≡_, refl, sym, _∙_}

@@ -1,4 +1,5 @@
--- `class_table` meets its contract: the table is computed by the rule, all of its 256 entries, and is the one in the code.
+-- `class_table` meets its contract: the table is computed by the rule, all of its 256 entries, and is the one in the
+-- code.
 -- Assumes nothing.
 use mathlib.Core.Path.{refl}
 use Rattle.name.specs.Class.{classTable}
