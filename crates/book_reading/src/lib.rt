@@ -12,7 +12,7 @@ ghost use Rattle.book.specs.Book.{bookOf};
 ghost use Rattle.book.specs.Layout.{readingOf, noReading};
 
 // The most bytes that a book has.
-const LONGEST: usize = 60000;
+pub const LONGEST: usize = 60000;
 
 fn refused(refusal: Refusal) -> Reading
     ensures { λ r. ⌜ r ≡ noReading refusal ⌝ }

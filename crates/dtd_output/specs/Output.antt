@@ -1,4 +1,5 @@
--- Paper 01, "The program": what it prints for any bytes as the book.
+-- To be believed: what the program prints for any bytes as the book (paper 01, "The program"). `program-line` in
+-- crates/demands/proofs/Demands.antt says which model a line has.
 -- Assumes nothing.
 use Prim.Native.Nat.{ℕ, zero, suc, _+_, _/_, _%_}
 use mathlib.Core.Bool.{cond}

@@ -1,4 +1,4 @@
--- `main` meets its contract: it reads, has the output put together, and writes.
+-- `main` meets its contract: its buffer is longer than any book, and the bytes that were read are a part of it.
 -- Assumes nothing.
 use mathlib.Core.Path.{sym}
 use lib.Seq.{length-take-le}
@@ -6,51 +6,55 @@ use borrow.Author.Needs.{needs}
 use Rattle.dtd.proofs.main.Statement.{statement}
 use Rattle.dtd.proofs.main.Tie as tie
 
-slice-aggregate-read-full : tie.Need-slice-aggregate-read-full
-slice-aggregate-read-full c = search needs
+slice-aggregate-read-input : tie.Need-slice-aggregate-read-input
+slice-aggregate-read-input c = search needs
 
-read-full-requires : tie.Need-read-full-requires
-read-full-requires c κs = search needs
+read-input-requires : tie.Need-read-input-requires
+read-input-requires c κs = search needs
 
-tell-failed-read-requires : tie.Need-tell-failed-read-requires
-tell-failed-read-requires c κs = search needs
-
-slice-aggregate-put-output : tie.Need-slice-aggregate-put-output
-slice-aggregate-put-output c = search needs
+enum-known-size : tie.Need-enum-known-size
+enum-known-size c = search needs
 
 array-share-prefix-book : tie.Need-array-share-prefix-book
-array-share-prefix-book c = search needs
+array-share-prefix-book c =
+    let told = c .before .size .given .1 in
+    rw told at (c .before .before .before .before .read-input .ensures .0)
 
-slice-aggregate-put-output-2 : tie.Need-slice-aggregate-put-output-2
-slice-aggregate-put-output-2 c = search needs
+slice-aggregate-print-output : tie.Need-slice-aggregate-print-output
+slice-aggregate-print-output c =
+    let told = c .before .before .size .given .1 in
+    sym (length-take-le _ _ (rw told at (c .before .before .before .before .before .read-input .ensures .0)))
 
-put-output-requires : tie.Need-put-output-requires
-put-output-requires c κs = search needs
+print-output-requires : tie.Need-print-output-requires
+print-output-requires c κs = search needs
 
-array-share-prefix-text : tie.Need-array-share-prefix-text
-array-share-prefix-text c = search needs
+enum-told : tie.Need-enum-told
+enum-told c = search needs
 
-slice-aggregate-print : tie.Need-slice-aggregate-print
-slice-aggregate-print c = sym (length-take-le _ _ (c .before .before .put-output .ensures .1))
+slice-aggregate-say : tie.Need-slice-aggregate-say
+slice-aggregate-say c = search needs
 
-print-requires : tie.Need-print-requires
-print-requires c κs = search needs
+say-requires : tie.Need-say-requires
+say-requires c κs = search needs
 
 returns : tie.Need-returns
 returns c = search needs
+
+returns-2 : tie.Need-returns-2
+returns-2 c = search needs
 
 pub main-spec : {M : Type 1} → statement M
 main-spec =
     tie.close
     (tie.spec
-    slice-aggregate-read-full
-    read-full-requires
-    tell-failed-read-requires
-    slice-aggregate-put-output
+    slice-aggregate-read-input
+    read-input-requires
+    enum-known-size
     array-share-prefix-book
-    slice-aggregate-put-output-2
-    put-output-requires
-    array-share-prefix-text
-    slice-aggregate-print
-    print-requires
-    returns)
+    slice-aggregate-print-output
+    print-output-requires
+    enum-told
+    slice-aggregate-say
+    say-requires
+    returns
+    returns-2)

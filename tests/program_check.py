@@ -1,0 +1,214 @@
+#!/usr/bin/env python3
+"""The program on the longest books, on inputs that come in pieces and on inputs that cannot be read.
+
+Usage: python3 tests/program_check.py target/bin/dtd
+
+Each case gives the program a standard input and compares its standard output, its standard error and its status with
+what is written down here from paper 01. Where a read fails, it must print nothing and say so on standard error.
+Each difference is printed; the status is 1 if there is one, else 0.
+"""
+import contextlib
+import os
+import subprocess
+import sys
+import tempfile
+import threading
+import time
+
+LONGEST = 60000  # the most bytes that a book has
+PATIENCE = 60  # seconds after which a program that has not ended counts as hanging
+UNREAD = b"dtd: standard input could not be read: nothing was printed. Give the book as a file: dtd < BOOK\n"
+
+
+# ---- books
+
+def count(n):
+    """A two-byte count, the low byte first."""
+    return bytes([n % 256, n // 256])
+
+
+def block(parent, children):
+    return bytes([parent, len(children)]) + bytes(children)
+
+
+def book(names, blocks):
+    head = count(len(names)) + b"".join(bytes([len(n)]) + n for n in names)
+    return head + count(len(blocks)) + b"".join(blocks)
+
+
+# Paper 01, "The program".
+EXAMPLE = book(
+    [b"contribution", b"entry", b"leaver", b"member", b"reason", b"total"],
+    [block(1, [3, 0, 5]), block(1, [3, 2, 4]), block(1, [3, 0, 4])],
+)
+EXAMPLE_PRINTED = b"<!ELEMENT entry (member,(contribution|leaver),(reason|total))>\n"
+
+
+def book_of(size):
+    """A book of so many bytes: blocks of a with 255 times b, and a last block of b that is filled with a."""
+    names = [b"a", b"b"]
+    full, left = divmod(size - len(book(names, [])), 257)
+    whole = book(names, [block(0, [1] * 255)] * full + [block(1, [0] * (left - 2))])
+    assert len(whole) == size
+    return whole
+
+
+# As for the sample aa of paper 01: each model is one loop group of one name on a level that is not skipped.
+FULL_PRINTED = b"<!ELEMENT a (b+)>\n<!ELEMENT b (a+)>\n"
+
+
+# ---- inputs: each is a context that gives the file descriptor to read from
+
+class NotHere(Exception):
+    """An input that this machine cannot make."""
+
+
+@contextlib.contextmanager
+def file_of(data):
+    with tempfile.TemporaryFile() as file:
+        file.write(data)
+        file.seek(0)
+        yield file.fileno()
+
+
+def write_pieces(end, data, size, pause):
+    """Writes the data in pieces of a size, with a pause after each; stops where nobody reads any more."""
+    with contextlib.suppress(BrokenPipeError), os.fdopen(end, "wb", buffering=0) as out:
+        for start in range(0, len(data), size):
+            out.write(data[start:start + size])
+            time.sleep(pause)
+
+
+@contextlib.contextmanager
+def pipe_of(data, size, pause):
+    """A pipe into which the data is written in pieces while the program reads."""
+    reading, writing = os.pipe()
+    writer = threading.Thread(target=write_pieces, args=(writing, data, size, pause))
+    writer.start()
+    try:
+        yield reading
+    finally:
+        os.close(reading)
+        writer.join()
+
+
+@contextlib.contextmanager
+def non_blocking(data, ended):
+    """A non-blocking pipe with the data in it; it has ended or is still open for writing."""
+    reading, writing = os.pipe()
+    os.set_blocking(reading, False)
+    os.write(writing, data)
+    if ended:
+        os.close(writing)
+    try:
+        yield reading
+    finally:
+        os.close(reading)
+        if not ended:
+            os.close(writing)
+
+
+@contextlib.contextmanager
+def directory():
+    reading = os.open("/", os.O_RDONLY)
+    try:
+        yield reading
+    finally:
+        os.close(reading)
+
+
+@contextlib.contextmanager
+def lost_terminal():
+    """One end of a terminal whose other end is closed: a read of it fails (EIO)."""
+    try:
+        reading, other = os.openpty()
+    except OSError as error:
+        raise NotHere(f"no terminal can be made here: {error}") from error
+    os.close(other)
+    try:
+        yield reading
+    finally:
+        os.close(reading)
+
+
+@contextlib.contextmanager
+def closed():
+    yield None
+
+
+# ---- the cases: what it is, the input, what is printed, what is said on standard error
+
+def cases():
+    full = book_of(LONGEST)
+    return [
+        ("a good book of 60,000 bytes", file_of(full), FULL_PRINTED, b""),
+        ("a good book of 60,000 bytes and one byte more", file_of(full + b"\0"), b"refused 1\n", b""),
+        ("a book of 60,001 bytes that is good otherwise", file_of(book_of(LONGEST + 1)), b"refused 1\n", b""),
+        ("60,000 bytes that are no book", file_of(b"\xff" * LONGEST), b"refused 3\n", b""),
+        ("60,001 bytes that are no book", file_of(b"\xff" * (LONGEST + 1)), b"refused 1\n", b""),
+        ("a file of 1,000,000 bytes", file_of(full + bytes(1000000 - LONGEST)), b"refused 1\n", b""),
+        ("1,000,000 bytes through a pipe", pipe_of(full + bytes(1000000 - LONGEST), 65536, 0), b"refused 1\n", b""),
+        ("an input with no byte", file_of(b""), b"refused 2\n", b""),
+        ("a book of 60,000 bytes in pieces of 1,000", pipe_of(full, 1000, 0.003), FULL_PRINTED, b""),
+        ("a book that comes byte by byte", pipe_of(EXAMPLE, 1, 0.005), EXAMPLE_PRINTED, b""),
+        ("a non-blocking pipe with a book in it and its end", non_blocking(EXAMPLE, ended=True), EXAMPLE_PRINTED, b""),
+        ("a non-blocking pipe with nothing in it yet", non_blocking(b"", ended=False), b"", UNREAD),
+        ("a non-blocking pipe with half a book in it", non_blocking(EXAMPLE[:30], ended=False), b"", UNREAD),
+        ("a non-blocking pipe with a book in it and no end yet", non_blocking(EXAMPLE, ended=False), b"", UNREAD),
+        ("a closed standard input", closed(), b"", UNREAD),
+        ("a directory", directory(), b"", UNREAD),
+        ("a terminal that is gone", lost_terminal(), b"", UNREAD),
+    ]
+
+
+# ---- the check
+
+def run(program, reading):
+    """The program's standard output, standard error and status; without a descriptor its standard input is closed."""
+    close = (lambda: os.close(0)) if reading is None else None
+    ended = subprocess.run([program], stdin=reading, capture_output=True, timeout=PATIENCE, preexec_fn=close)
+    return ended.stdout, ended.stderr, ended.returncode
+
+
+def short(text):
+    return repr(text if len(text) <= 200 else text[:200] + b"..")
+
+
+def differences(program, given, printed, said):
+    """How the program's behaviour on the input differs from what is expected, a line for each difference."""
+    try:
+        with given as reading:
+            found = run(program, reading)
+    except subprocess.TimeoutExpired:
+        return [f"it has not ended after {PATIENCE} s"]
+    except NotHere as why:
+        print(f"program_check: a case is skipped: {why}")
+        return []
+    wanted = (printed, said, 0)
+    names = ("standard output", "standard error")
+    lines = [f"{n}: expected {short(w)}, found {short(f)}" for n, w, f in zip(names, wanted, found) if w != f]
+    if found[2] != 0:
+        lines.append(f"status: expected 0, found {found[2]}")
+    return lines
+
+
+def main():
+    if len(sys.argv) != 2:
+        sys.exit("usage: python3 tests/program_check.py PROGRAM")
+    program = os.path.abspath(sys.argv[1])
+    if not os.access(program, os.X_OK):
+        sys.exit(f"program_check: {sys.argv[1]} is no program that can be run")
+    failed = 0
+    all_cases = cases()
+    for label, given, printed, said in all_cases:
+        lines = differences(program, given, printed, said)
+        for line in lines:
+            print(f"program_check: {label}: {line}")
+        failed += bool(lines)
+    if failed:
+        sys.exit(f"program_check: {failed} of {len(all_cases)} cases failed")
+    print(f"program_check: {len(all_cases)} cases passed")
+
+
+if __name__ == "__main__":
+    main()
