@@ -1,41 +1,54 @@
--- Answers as C and Rust get them: the refusal's number, 0 for none, beside the value or what is due of a refused call.
+-- To be believed: answers as C and Rust get them, with the refusal's number first, 0 for none; and what each call for
+-- them promises: there is an answer x that fulfils the promise of the call in Rattle, and the reply is x converted.
+-- What follows for a caller is stated at the end of crates/demands/proofs/Demands.antt.
 -- Assumes nothing.
 use Prim.Native.Nat.{ℕ}
-use mathlib.Core.Bool.{Bool}
+use mathlib.Core.Path.{_≡_}
 use mathlib.Core.List.{List}
-use Rattle.refusal.specs.Answer.{Answer, valueOr, outcomeOf, outcomeNumber}
+use Rattle.refusal.specs.Answer.{outcomeNumber}
 use Rattle.model.specs.declared.Model.{Model}
-use Rattle.model.specs.Record.{dueModel}
-use Rattle.declaration_spelling.specs.Read.{Declared}
 use Rattle.declaration_writing.specs.declared.Written.{Written}
-use Rattle.declaration_writing.specs.Write.{lengthDue}
-use Rattle.declaration_reading.specs.Read.{parentDue, modelDue}
+use Rattle.declaration_writing.specs.Write.{WritesDeclaration}
+use Rattle.declaration_reading.specs.declared.Declaration.{Declaration}
+use Rattle.declaration_reading.specs.Read.{ReadsDeclaration}
 use Rattle.intake.specs.declared.Acceptance.{Acceptance}
-use Rattle.intake.specs.Acceptance.{acceptanceNumber, acceptanceYes, yesDue}
+use Rattle.intake.specs.declared.Inferred.{Inferred}
+use Rattle.intake.specs.Acceptance.{acceptanceNumber, acceptanceYes, AcceptsWord}
+use Rattle.intake.specs.Inference.{InfersModel}
+use Rattle.intake.specs.Writing.{WritesSample}
 use Rattle.curlewsong.specs.declared.ModelReply.{ModelReply}
 use Rattle.curlewsong.specs.declared.Verdict.{Verdict}
 use Rattle.curlewsong.specs.declared.LengthReply.{LengthReply}
 use Rattle.curlewsong.specs.declared.TextReply.{TextReply}
 
--- The number of an answer's refusal, 0 where it is given.
-unfoldable pub refusalIn : {A : Type 0} → Answer A → ℕ
-refusalIn a = outcomeNumber (outcomeOf a)
+-- ---- an answer as C gets it
 
-unfoldable pub modelReply : Answer Model → ModelReply
-modelReply a = record { refusal = refusalIn a; model = valueOr dueModel a }
+unfoldable pub modelReply : Inferred → ModelReply
+modelReply x = record { refusal = outcomeNumber (x .outcome); model = x .model }
 
-unfoldable pub verdict : Answer Bool → Verdict
-verdict a = record { refusal = refusalIn a; yes = yesDue a }
+unfoldable pub verdict : Acceptance → Verdict
+verdict x = record { refusal = acceptanceNumber x; yes = acceptanceYes x }
 
-unfoldable pub lengthReply : Answer (List ℕ) → LengthReply
-lengthReply a = record { refusal = refusalIn a; length = lengthDue a }
+unfoldable pub lengthReply : Written → LengthReply
+lengthReply x = record { refusal = outcomeNumber (x .outcome); length = x .length }
 
-unfoldable pub textReply : Answer Declared → TextReply
-textReply a = record { refusal = refusalIn a; parent = parentDue a; model = modelDue a }
+unfoldable pub textReply : Declaration → TextReply
+textReply x = record { refusal = outcomeNumber (x .outcome); parent = x .parent; model = x .model }
 
--- The same of the answers that the calls give.
-unfoldable pub verdictOf : Acceptance → Verdict
-verdictOf x = record { refusal = acceptanceNumber x; yes = acceptanceYes x }
+-- ---- the whole promise of each call
 
-unfoldable pub lengthOf : Written → LengthReply
-lengthOf w = record { refusal = outcomeNumber (w .outcome); length = w .length }
+abbrev pub RepliesModel : List ℕ → ℕ → ModelReply → Type 0
+RepliesModel bytes parent r = (x : Inferred) × InfersModel bytes parent x × (r ≡ modelReply x)
+
+abbrev pub RepliesWord : ℕ → Model → List ℕ → Verdict → Type 0
+RepliesWord n m w r = (x : Acceptance) × AcceptsWord n m w x × (r ≡ verdict x)
+
+-- The buffer held `before` and then holds `after`.
+abbrev pub RepliesWritten : List ℕ → ℕ → Model → LengthReply → List ℕ → List ℕ → Type 0
+RepliesWritten bytes parent m r before after = (x : Written) × WritesDeclaration bytes parent m x before after × (r ≡ lengthReply x)
+
+abbrev pub RepliesSample : List ℕ → ℕ → LengthReply → List ℕ → List ℕ → Type 0
+RepliesSample bytes parent r before after = (x : Written) × WritesSample bytes parent x before after × (r ≡ lengthReply x)
+
+abbrev pub RepliesText : List ℕ → List ℕ → TextReply → Type 0
+RepliesText bytes text r = (x : Declaration) × ReadsDeclaration bytes text x × (r ≡ textReply x)

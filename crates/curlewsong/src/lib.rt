@@ -1,15 +1,10 @@
-// The calls for C and Rust, as include/curlewsong.h declares them: each is a call open to the outside, its refusal as a number.
+// The calls for C and Rust, as include/curlewsong.h declares them: each is a call open to the outside, its refusal as a
+// number.
 use declaration_writing::Written;
 use intake::Acceptance;
 use model::Model;
 ghost use mathlib.Core.Path.{_≡_};
-ghost use lib.ListN.{length};
-ghost use Rattle.declaration_writing.specs.Write.{bufferAfter, writeAnswer};
-ghost use Rattle.declaration_reading.specs.Read.{readAnswer};
-ghost use Rattle.intake.specs.Acceptance.{answerOf};
-ghost use Rattle.intake.specs.Inference.{modelAnswer};
-ghost use Rattle.intake.specs.Writing.{sampleText};
-ghost use Rattle.curlewsong.specs.Reply.{modelReply, verdict, verdictOf, lengthReply, lengthOf, textReply};
+ghost use Rattle.curlewsong.specs.Reply.{verdict, lengthReply, RepliesModel, RepliesWord, RepliesWritten, RepliesSample, RepliesText};
 
 // A model, or the empty one and why.
 #[repr(C)]
@@ -41,7 +36,7 @@ pub struct TextReply {
 }
 
 fn verdict_of(answer: Acceptance) -> Verdict
-    ensures { λ r. ⌜ r ≡ verdictOf answer ⌝ }
+    ensures { λ r. ⌜ r ≡ verdict answer ⌝ }
 {
     match answer {
         Acceptance::Yes => Verdict {
@@ -60,7 +55,7 @@ fn verdict_of(answer: Acceptance) -> Verdict
 }
 
 fn length_of(answer: Written) -> LengthReply
-    ensures { λ r. ⌜ r ≡ lengthOf answer ⌝ }
+    ensures { λ r. ⌜ r ≡ lengthReply answer ⌝ }
 {
     let outcome = answer.outcome;
     LengthReply {
@@ -72,7 +67,7 @@ fn length_of(answer: Written) -> LengthReply
 // The model of a parent from its blocks: 1 to 7, 8, 9.
 #[no_mangle]
 pub extern "C" fn curlewsong_model_of_parent(book: &[u8], parent: usize) -> ModelReply
-    ensures { λ r. ⌜ r ≡ modelReply (modelAnswer (now (book .entry)) parent) ⌝ }
+    ensures { λ r. ⌜ RepliesModel (now (book .entry)) parent r ⌝ }
 {
     let answer = intake::model_of_parent(book, parent);
     let outcome = answer.outcome;
@@ -86,7 +81,7 @@ pub extern "C" fn curlewsong_model_of_parent(book: &[u8], parent: usize) -> Mode
 // Whether a model over so many names accepts a word: 3, 10, 11.
 #[no_mangle]
 pub extern "C" fn curlewsong_accepts_word(names: usize, model: Model, word: &[u8]) -> Verdict
-    ensures { λ r. ⌜ r ≡ verdict (answerOf names model (now (word .entry))) ⌝ }
+    ensures { λ r. ⌜ RepliesWord names model (now (word .entry)) r ⌝ }
 {
     verdict_of(intake::accepts_word(names, model, word))
 }
@@ -99,8 +94,7 @@ pub extern "C" fn curlewsong_write_declaration(
     model: Model,
     buffer: &mut [u8],
 ) -> LengthReply
-    ensures { λ r. ⌜ (r ≡ lengthReply (writeAnswer (now (book .entry)) parent model (length (now (buffer .entry)))))
-        × (now (buffer .exit) ≡ bufferAfter (now (buffer .entry)) (writeAnswer (now (book .entry)) parent model (length (now (buffer .entry))))) ⌝ }
+    ensures { λ r. ⌜ RepliesWritten (now (book .entry)) parent model r (now (buffer .entry)) (now (buffer .exit)) ⌝ }
 {
     length_of(intake::write_declaration(book, parent, model, buffer))
 }
@@ -112,8 +106,7 @@ pub extern "C" fn curlewsong_write_from_sample(
     parent: usize,
     buffer: &mut [u8],
 ) -> LengthReply
-    ensures { λ r. ⌜ (r ≡ lengthReply (sampleText (now (book .entry)) parent (length (now (buffer .entry)))))
-        × (now (buffer .exit) ≡ bufferAfter (now (buffer .entry)) (sampleText (now (book .entry)) parent (length (now (buffer .entry))))) ⌝ }
+    ensures { λ r. ⌜ RepliesSample (now (book .entry)) parent r (now (buffer .entry)) (now (buffer .exit)) ⌝ }
 {
     length_of(intake::write_from_sample(book, parent, buffer))
 }
@@ -121,7 +114,7 @@ pub extern "C" fn curlewsong_write_from_sample(
 // Reads a declaration: 1 to 7, 13, 14, 15.
 #[no_mangle]
 pub extern "C" fn curlewsong_read_declaration(book: &[u8], text: &[u8]) -> TextReply
-    ensures { λ r. ⌜ r ≡ textReply (readAnswer (now (book .entry)) (now (text .entry))) ⌝ }
+    ensures { λ r. ⌜ RepliesText (now (book .entry)) (now (text .entry)) r ⌝ }
 {
     let answer = intake::read_declaration(book, text);
     let outcome = answer.outcome;

@@ -1,11 +1,11 @@
--- What a cursor owns: the borrow of its text comes out of it, and with a number goes into one. Both are Copy, so nothing is used up. The walks of the functions over a cursor cite this.
---     Text, CursorT        the types of a text and of a cursor, over their lifetime
---     bytes, whole         the machine values of a text and of a cursor
---     spelled, told        how a cursor's machine values are spelled, and that its type tells them
---     both                 what a cursor owns is had twice
---     text-out, text-in    a cursor owns its text's borrow beside itself;        a text's borrow and a number that fits make a cursor
---     typed                a cursor's machine value has the struct's type, whatever name its lifetime has there: in a local of a body it has none
--- The last four assume `Given`. The rest assumes nothing.
+-- What a cursor owns: the borrow of its text comes out of it, and with a number goes into one. Both are Copy, so
+-- nothing is used up. The walks of the functions over a cursor cite this.     Text, CursorT        the types of a text
+-- and of a cursor, over their lifetime     bytes, whole         the machine values of a text and of a cursor
+-- spelled, told        how a cursor's machine values are spelled, and that its type tells them     both
+-- what a cursor owns is had twice     text-out, text-in    a cursor owns its text's borrow beside itself;        a
+-- text's borrow and a number that fits make a cursor     typed                a cursor's machine value has the struct's
+-- type, whatever name its lifetime has there: in a local of a body it has none The last four assume `Given`. The rest
+-- assumes nothing.
 use mathlib.Core.Path.{_≡_, refl}
 use Prim.Native.Nat.{ℕ, _<_, _^_}
 use mathlib.Core.List.{List, [], _∷_}

@@ -1,4 +1,5 @@
-// A text together with the place of its next unread byte: thin steps over the functions of `declaration_scan`, and the next token by them.
+// A text together with the place of its next unread byte: thin steps over the functions of `declaration_scan`, and the
+// next token by them.
 use declaration_scan::Piece;
 ghost use mathlib.Core.Path.{_≡_};
 ghost use Prim.Native.Nat.{_≤_};

@@ -1,4 +1,5 @@
--- The members of a set, rising: the smallest, then those of the set without it. For the set of a factor's names they are the factor's members.
+-- The members of a set, rising: the smallest, then those of the set without it. For the set of a factor's names they
+-- are the factor's members.
 -- Assumes nothing.
 use Prim.Native.Nat.{ℕ, zero, suc, _+_, _≤_, _<_}
 use mathlib.Core.Path.{_≡_, refl, sym, _∙_, ap}

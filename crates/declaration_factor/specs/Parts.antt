@@ -1,4 +1,5 @@
--- The parts of the house spelling as they are written, from left to right.
+-- A means: the parts of a declaration as they are written, from left to right; `text-is` in
+-- crates/declaration_text/proofs/Text.antt says that together they are the canonical form.
 -- Assumes nothing.
 use Prim.Native.Nat.{ℕ, zero, suc, _<_}
 use mathlib.Core.Path.{_≡_}
@@ -59,7 +60,8 @@ unfoldable pub leads : Bool → Bool → List (List ℕ) → List ℕ
 leads many some [] = []
 leads many some (x ∷ xs) = shown (leadByte many some) ++ (x ++ leads many true xs)
 
--- The names of a set, rising, each behind its lead. For the set of a factor's names it is `namesText`: `names-of-set` in proofs/Rising.antt.
+-- The names of a set, rising, each behind its lead. For the set of a factor's names it is `namesText`: `names-of-set`
+-- in proofs/Rising.antt.
 unfoldable pub setText : List (List ℕ) → ℕ → NameSet → Bool → Bool → List ℕ
 setText names n s many some = leads many some (namesAt names (rising s 0 n))
 

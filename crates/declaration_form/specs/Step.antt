@@ -1,4 +1,5 @@
--- The walk of crate `declaration_walk` by places of the text: what a token is, by its kind and its bytes, and the state behind it.
+-- A means: the walk of crate `declaration_walk` by places of the text: what a token is, by its kind and its bytes, and
+-- the state behind it; `form-is` in proofs/Places.antt joins it to the walk.
 -- Assumes nothing.
 use Prim.Native.Nat.{ℕ, _≤_, _<_}
 use mathlib.Core.Path.{_≡_}

@@ -20,7 +20,8 @@ const CLOSED: u8 = 10;
 
 const NOWHERE: u8 = 11;
 
-// The signal of each kind of token: 0 any other byte, 1 a word, 3 `(`, 4 `)`, 5 `,`, 6 `|`, 7 `>`, 8 a mark; 2 is the word `EMPTY`.
+// The signal of each kind of token: 0 any other byte, 1 a word, 3 `(`, 4 `)`, 5 `,`, 6 `|`, 7 `>`, 8 a mark; 2 is the
+// word `EMPTY`.
 const SIGNALS: [u8; 11] = [0, 1, 3, 4, 5, 6, 7, 8, 8, 8, 0];
 
 // The next state for each signal, a row for each state.
@@ -80,7 +81,8 @@ fn sign_signal(kind: u8) -> u8
     SIGNALS[kind as usize]
 }
 
-// Whether a word of this length that begins with this byte keeps the rule for names; its other bytes may all stand in one.
+// Whether a word of this length that begins with this byte keeps the rule for names; its other bytes may all stand in
+// one.
 fn good_word(size: usize, first: u8) -> bool
     ensures { λ r. ⌜ r ≡ (goodLength size && startByte first) ⌝ }
 {

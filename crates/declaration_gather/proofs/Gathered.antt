@@ -17,10 +17,11 @@ use Rattle.model.specs.Record.{none as noFactor, emptyModel}
 use Rattle.declaration_spelling.specs.Token.{word, lpar}
 use Rattle.declaration_spelling.specs.House.{Factor, opening}
 use Rattle.declaration_spelling.specs.Spelled.{factorTokens, othersTokens, bodyTokens}
-use Rattle.declaration_spelling.specs.Form.{cut, tokens, Form, allFactors, allForm, formOf}
+use Rattle.declaration_spelling.specs.Form.{cut, tokens, allFactors, allForm, formOf}
 use Rattle.declaration_spelling.specs.Read.{known, numberFor, numbered, total, noneTwice, valuesFrom, placeFrom, modeAt, recordOf, Declared, declared, orRefuse, judged, readText}
-use Rattle.declaration_spelling.specs.Stops.{Full, Small, HasForm}
+use Rattle.declaration_spelling.specs.Stops.{Form, Full, Small, HasForm}
 use Rattle.declaration_spelling.proofs.Tests.{and-is}
+use Rattle.declaration_spelling.proofs.Named.{all-law}
 use Rattle.declaration_spelling.proofs.Bytes.{name-word}
 use Rattle.declaration_spelling.proofs.Cutting.{cut-complete}
 use Rattle.declaration_spelling.proofs.Tree.{proper-body, full-numbered, small-numbered}
@@ -160,7 +161,7 @@ module _ (size : ℕ) (names : List (List ℕ)) (fits : size ≤ 255) (some-plac
   form-tokens : (text : List ℕ) (d : Form) → HasForm text d → tokens (cut (drop 9 text) .pieces) ≡ word (d .parent) ∷ bodyTokens (d .factors)
   unfolding allForm
   form-tokens text d F =
-      let g = and-is (isName (d .parent)) (allFactors isName (d .factors)) .0 (F .good) in
+      let g = and-is (isName (d .parent)) (allFactors isName (d .factors)) .0 (all-law isName d .1 (F .good)) in
       let t = F .spelled .rest in
       let c = cut-complete (word opening) (word (d .parent) ∷ bodyTokens (d .factors)) t (name-word (d .parent) (g .0), proper-body (d .factors) (g .1) (F .small)) (F .spelled .spaced) in
       ap (λ (s : List ℕ). tokens (cut s .pieces)) (behind-opening text t (F .spelled .opens)) ∙ c .0

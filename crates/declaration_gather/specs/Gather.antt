@@ -1,4 +1,5 @@
--- A text that has the form of a declaration, read token by token: every name looked up (14), then the record filled, a name twice (15).
+-- A means: a text that has the form of a declaration, read token by token: every name looked up (14), then the record
+-- filled, a name twice (15); `text-answer` in proofs/Gathered.antt says that it is what the reader answers.
 -- Assumes nothing.
 use Prim.Native.Nat.{ℕ, zero, suc}
 use mathlib.Core.Bool.{Bool, true, false, cond, not, _&&_}

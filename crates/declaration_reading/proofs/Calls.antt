@@ -20,8 +20,7 @@ use Rattle.book.proofs.Laws.{laid-out, book-refused}
 use Rattle.declaration_spelling.specs.House.{opening}
 use Rattle.declaration_spelling.specs.Form.{strip}
 use Rattle.declaration_spelling.proofs.Tests.{strip-is}
-use Rattle.declaration_spelling.proofs.Books.{few}
-use Rattle.declaration_writing.proofs.Back.{names-of}
+use Rattle.declaration_spelling.proofs.Books.{few, names-are}
 use Rattle.declaration_walk.specs.Walk.{acceptsRest, hasForm}
 use Rattle.declaration_gather.specs.Gather.{tokensAnswer, textAnswer}
 use Rattle.declaration_gather.proofs.Gathered.{text-answer}
@@ -68,7 +67,7 @@ module _ (s text : List ℕ) (b : Reading) (read : b ≡ readingOf (bookOf s)) w
     -- the answer is the walk's
     answer-is : readAnswer s text ≡ textAnswer places (namesIn s) text
     unfolding readAnswer
-    answer-is = rw (laid .read, ← names-of s (laid .book) (laid .read)) (sym (text-answer places (namesIn s) (omega arith) (omega arith) (few s (b .layout) laid) text))
+    answer-is = rw (laid .read, ← names-are s (laid .book) (laid .read)) (sym (text-answer places (namesIn s) (omega arith) (omega arith) (few s (b .layout) laid) text))
 
     pub stopped-form : (r : Declaration) (t : Bool) → t ≡ hasForm text → t ≡ false → r ≡ declarationOf (noDeclaration NotADeclaration) → ReadsDeclaration s text r
     unfolding textAnswer

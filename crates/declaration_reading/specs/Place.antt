@@ -1,4 +1,5 @@
--- The walk of crate `declaration_gather` by places of the text: the tokens from a place on, and what a token is by its kind and its bytes.
+-- A means: the walk of crate `declaration_gather` by places of the text: the tokens from a place on, and what a token
+-- is by its kind and its bytes. The functions of this crate promise it.
 -- Assumes nothing.
 use Prim.Native.Nat.{ℕ, zero, suc, _-_}
 use mathlib.Core.Bool.{Bool, true, cond}

@@ -1,4 +1,6 @@
--- What the call that reads a declaration answers: 1 to 7, 13, 14, 15, in this order, else the parent and the record.
+-- A means: what the call that reads a declaration answers: 1 to 7, 13, 14, 15, in this order, else the parent and the
+-- record. `read-refusals` and `read-exactly` in crates/demands/proofs/Demands.antt say what that is. To be believed is
+-- `Reads`.
 -- Assumes nothing.
 use Prim.Native.Nat.{ℕ}
 use mathlib.Core.Path.{_≡_}
@@ -6,6 +8,7 @@ use mathlib.Core.Bool.{Bool, cond}
 use mathlib.Core.List.{List}
 use Rattle.refusal.specs.declared.Refusal.{Refusal}
 use Rattle.refusal.specs.declared.Refusal.the-variants.{UnknownName, NameTwice}
+use Rattle.refusal.specs.declared.Outcome.the-variants.{Done}
 use Rattle.refusal.specs.Table.{stoppedBy}
 use Rattle.refusal.specs.Answer.{Answer, given, refused, onward, outcomeOf}
 use Rattle.nameset.specs.Places.{places}
@@ -41,7 +44,11 @@ noDeclaration r = refused r
 unfoldable pub twiceOrUnknown : Bool → Refusal
 twiceOrUnknown known = cond known NameTwice UnknownName
 
--- What the call promises of its answer r.
+-- The call was not refused, and this is the parent and the record that it answered.
+abbrev pub Reads : Declaration → ℕ → Model → Type 0
+Reads r p m = (r .outcome ≡ Done) × (r .parent ≡ p) × (r .model ≡ m)
+
+-- The whole promise of the call that reads a declaration.
 pub record ReadsDeclaration (bytes text : List ℕ) (r : Declaration) : Type 0 where
   pub same : r ≡ declarationOf (readAnswer bytes text)
   pub outcome : r .outcome ≡ outcomeOf (readAnswer bytes text)

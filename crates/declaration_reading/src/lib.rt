@@ -103,7 +103,8 @@ fn read_model(bytes: &[u8], layout: Layout, text: &[u8], at: usize, parent: usiz
     read_factors(bytes, layout, text, at, parent)
 }
 
-// The parent and the model from a place on. In a text that has the form of a declaration a word stands there; without one the answer is 13.
+// The parent and the model from a place on. In a text that has the form of a declaration a word stands there; without
+// one the answer is 13.
 fn read_tokens(bytes: &[u8], layout: Layout, text: &[u8], at: usize) -> Declaration
     requires { ⌜ LaidOut (now bytes) layout × (at ≤ length (now text)) ⌝ }
     ensures { λ r. ⌜ r ≡ declarationOf (tokensAnswer places (namesIn (now (bytes .entry))) (tokensAt (now (text .entry)) at)) ⌝ }

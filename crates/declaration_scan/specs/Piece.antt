@@ -1,4 +1,5 @@
--- The token that comes next in a text, by its place.
+-- A means: the token that comes next in a text, by its place; `piece-over` and `piece-first` in proofs/Pieces.antt join
+-- it to the tokens of the text.
 -- Assumes nothing.
 use Prim.Native.Nat.{ℕ, _+_}
 use mathlib.Core.Bool.{cond}
@@ -11,7 +12,8 @@ use Rattle.declaration_spelling.specs.Form.{sign}
 use Rattle.declaration_scan.specs.declared.Piece.{Piece}
 use Rattle.declaration_scan.specs.Unread.{nextOf, runOf, kindOf}
 
--- How many bytes the token at the start of a text has: a run of name bytes, or one byte, or none at the end of the text.
+-- How many bytes the token at the start of a text has: a run of name bytes, or one byte, or none at the end of the
+-- text.
 unfoldable pub tokenLength : List ℕ → ℕ
 tokenLength [] = 0
 tokenLength (b ∷ bs) = cond (laterByte b) (runOf laterByte (b ∷ bs)) 1

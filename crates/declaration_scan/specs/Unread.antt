@@ -1,4 +1,5 @@
--- What is left of a text: its next byte, and the run of bytes at its start that pass a test.
+-- A means: what is left of a text: its next byte, and the run of bytes at its start that pass a test; `cut-spaces`,
+-- `cut-sign` and `cut-word` in proofs/Cuts.antt join it to the tokens of the text.
 -- Assumes nothing.
 use Prim.Native.Nat.{ℕ, suc}
 use mathlib.Core.Bool.{Bool, cond}
@@ -19,7 +20,8 @@ unfoldable pub runOf : (ℕ → Bool) → List ℕ → ℕ
 runOf test [] = 0
 runOf test (b ∷ bs) = cond (test b) (suc (runOf test bs)) 0
 
--- The kind of a token that is no word, by its first byte: 0 the end of the text, 2 `(`, 3 `)`, 4 `,`, 5 `|`, 6 `>`, 7 `?`, 8 `+`, 9 `*`, 10 any other.
+-- The kind of a token that is no word, by its first byte: 0 the end of the text, 2 `(`, 3 `)`, 4 `,`, 5 `|`, 6 `>`, 7
+-- `?`, 8 `+`, 9 `*`, 10 any other.
 unfoldable pub signKind : ℕ → ℕ
 signKind next =
     cond (eqb next 40) 2

@@ -99,7 +99,8 @@ fn sign_kind(next: usize) -> u8
     }
 }
 
-// Where the run of name bytes at a place ends. None begins with a sign, so the table of classes is made for the others alone.
+// Where the run of name bytes at a place ends. None begins with a sign, so the table of classes is made for the others
+// alone.
 fn run_end(text: &[u8], from: usize, sign: u8) -> usize
     requires { ⌜ (from ≤ length (now text)) × (sign ≡ signKind (nextOf (drop from (now text)))) ⌝ }
     ensures { λ r. ⌜ (r ≡ from + runOf laterByte (drop from (now (text .entry)))) × (r ≤ length (now (text .entry))) ⌝ }

@@ -8,8 +8,8 @@ use mathlib.Core.Option.{Option, none, some}
 use Rattle.declaration_spelling.specs.Token.{Token, word, lpar, rpar, comma, bar, end, mark, other}
 use Rattle.declaration_spelling.specs.House.{Factor, emptyWord}
 use Rattle.declaration_spelling.specs.Spelled.{markTokens, barsTokens, groupTokens, factorTokens, othersTokens, bodyTokens}
-use Rattle.declaration_spelling.specs.Form.{same, Run, emptyRun, pushed, marked, parted, closes, State, start, first, second, next, after, body, done, run, listed, content, Form, forParent, parse}
-use Rattle.declaration_spelling.specs.Stops.{Full}
+use Rattle.declaration_spelling.specs.Form.{same, Run, emptyRun, pushed, marked, parted, closes, State, start, first, second, next, after, body, done, run, listed, content, forParent, parse}
+use Rattle.declaration_spelling.specs.Stops.{Form, Full}
 use Rattle.declaration_spelling.proofs.Tests.{and-is, same-is, same-refl, none-some, some-injective}
 
 abbrev push : List ℕ → Run → Run

@@ -108,10 +108,11 @@ module _ (size n : ℕ) (fits : size ≤ 255) (m : Model) (c : IsChain size n m)
   house-order (suc r) i e = (omega arith, refl, λ x. members-all i x (omega arith), house-order r (suc i) (omega arith))
 
 -- the house spelling of a chain is a spelling of it
-pub house-spelled : (size : ℕ) (names : List (List ℕ)) (p : ℕ) (m : Model) → size ≤ 255 → p < length names → IsChain size (length names) m → Spelled names (declaration names p m) p m
+pub house-spelled : (size : ℕ) (names : List (List ℕ)) (p : ℕ) (m : Model) → size ≤ 255 → p < length names → IsChain size (length names) m → Spelled size names (declaration names p m) p m
 unfolding declaration houseText factorsOf
 house-spelled size names p m fits l c = record {
   parent = l;
+  chain = c;
   factors = factorsFrom m (length names) 0 (m .count);
   order = house-order size (length names) fits m c (m .count) 0 (omega arith);
   spelled = record {

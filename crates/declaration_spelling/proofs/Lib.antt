@@ -4,6 +4,7 @@ pub mod Cutting
 pub mod Form
 pub mod House
 pub mod Names
+pub mod Named
 pub mod Numbers
 pub mod Tree
 pub mod Length

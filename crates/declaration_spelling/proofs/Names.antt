@@ -29,7 +29,7 @@ abbrev pub AllBelow : ℕ → List (Factor ℕ) → Type 0
 AllBelow n [] = Unit {0}
 AllBelow n (f ∷ fs) = Below n (f .names) × AllBelow n fs
 
-is-same : (o : Order) → isSame o ≡ true → o ≡ Same
+pub is-same : (o : Order) → isSame o ≡ true → o ≡ Same
 is-same Lower e = absurd (false≢true e)
 is-same Same e = refl
 is-same Above e = absurd (false≢true e)

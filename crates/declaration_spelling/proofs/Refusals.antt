@@ -3,7 +3,7 @@
 use Prim.Native.Nat.{ℕ, zero, suc, _<_}
 use mathlib.Core.Path.{_≡_, refl, sym, _∙_, subst}
 use mathlib.Core.Bool.{Bool, true, false, not, _&&_, true≢false}
-use mathlib.Core.List.{List}
+use mathlib.Core.List.{List, List·Memᴰ, List·Memᴰ·tail}
 use mathlib.Core.Option.{Option, none, some}
 use mathlib.Core.Logic.{_↔_}
 use native.Mathlib.Omega.{arith}
@@ -14,9 +14,10 @@ use borrow.Author.Tests.{leb-false, lt-leb}
 use Rattle.refusal.specs.declared.Refusal.the-variants.{NotADeclaration, UnknownName, NameTwice}
 use Rattle.refusal.specs.Answer.{given, refused, onward, refuseIf}
 use Rattle.declaration_spelling.specs.House.{Factor}
-use Rattle.declaration_spelling.specs.Form.{Form, allForm, formOf}
-use Rattle.declaration_spelling.specs.Stops.{HasForm}
+use Rattle.declaration_spelling.specs.Form.{allForm, formOf}
+use Rattle.declaration_spelling.specs.Stops.{Form, modelNames, formNames, Twice, HasForm}
 use Rattle.declaration_spelling.specs.Read.{known, numbered, total, noneTwice, Declared, orRefuse, judged, readText}
+use Rattle.declaration_spelling.proofs.Named.{all-law, some-law, known-in, unknown-in, twice-names}
 use Rattle.declaration_spelling.proofs.Theorem.{form-sound, form-complete}
 
 -- the three ends of a text that has the form
@@ -36,7 +37,7 @@ not-13 true false x e = let z : _≡_ {A = ℕ} 0 1 = cc in omega arith
 not-13 false b x e = let z : _≡_ {A = ℕ} 0 1 = cc in omega arith
 
 -- a number stands in the model twice
-pub twice-law : (n : ℕ) (fs : List (Factor ℕ)) → (noneTwice n fs ≡ false) ↔ ((x : ℕ) × (x < n) × (1 < total x fs))
+twice-law : (n : ℕ) (fs : List (Factor ℕ)) → (noneTwice n fs ≡ false) ↔ ((x : ℕ) × (x < n) × (1 < total x fs))
 unfolding noneTwice
 twice-law zero fs = (λ e. absurd (true≢false e), λ p. absurd (omega (arith, p .1)))
 twice-law (suc n) fs = (λ e. to (leb (total n fs) 1) refl e (twice-law n fs .0), λ p. from p (twice-law n fs .1))
@@ -92,29 +93,46 @@ module _ (size : ℕ) (names : List (List ℕ)) where
       from : ((d : Form) → HasForm text d → ⊥) → readText size names text ≡ refused NotADeclaration
       from h = at (formOf text) refl h
 
+  -- the names of a form that the book has
+  unknown-form : (d : Form) → (allForm (known names) d ≡ false) ↔ ((x : List ℕ) × List·Memᴰ x (formNames d) × (¬ List·Memᴰ x names))
+  unknown-form d =
+      let h = some-law (known names) d in
+      (λ e. let r = h .0 e in (r .0, r .1, unknown-in names (r .0) .0 (r .2)), λ (x, m, n). h .1 (x, m, unknown-in names x .1 n))
+
+  known-form : (d : Form) → (allForm (known names) d ≡ true) ↔ ((x : List ℕ) → List·Memᴰ x (formNames d) → List·Memᴰ x names)
+  known-form d =
+      let h = all-law (known names) d in
+      (λ e x m. known-in names x .0 (h .0 e x m), λ k. h .1 (λ x m. known-in names x .1 (k x m)))
+
   -- 14: it has the form, and a name of it is not in the book
-  pub refused-14 : (text : List ℕ) → (readText size names text ≡ refused UnknownName) ↔ ((d : Form) × HasForm text d × (allForm (known names) d ≡ false))
+  pub refused-14 : (text : List ℕ) →
+      (readText size names text ≡ refused UnknownName) ↔ ((d : Form) × HasForm text d × ((x : List ℕ) × List·Memᴰ x (formNames d) × (¬ List·Memᴰ x names)))
   unfolding judged
-  refused-14 text = (to, λ p. formed text (p .0) (p .1) ∙ rw (p .2))
+  refused-14 text = (λ e. to e (has-form text (λ q. let z : _≡_ {A = ℕ} 0 1 = cc in omega arith)), λ (d, F, u). formed text d F ∙ rw (unknown-form d .1 u))
     where
-      with : readText size names text ≡ refused UnknownName → ((d : Form) × HasForm text d) → (d : Form) × HasForm text d × (allForm (known names) d ≡ false)
-      with e (d, F) = (d, F, unknown-is (allForm (known names) d) (noneTwice (length names) (numbered names (d .factors))) _ (sym (formed text d F) ∙ e))
+      to : readText size names text ≡ refused UnknownName → ((d : Form) × HasForm text d) →
+          (d : Form) × HasForm text d × ((x : List ℕ) × List·Memᴰ x (formNames d) × (¬ List·Memᴰ x names))
+      to e (d, F) =
+          (d, F, unknown-form d .0 (unknown-is (allForm (known names) d) (noneTwice (length names) (numbered names (d .factors))) _ (sym (formed text d F) ∙ e)))
 
-      to : readText size names text ≡ refused UnknownName → (d : Form) × HasForm text d × (allForm (known names) d ≡ false)
-      to e = with e (has-form text (λ q. let z : _≡_ {A = ℕ} 0 1 = cc in omega arith))
-
-  -- 15: it has the form, all its names are in the book, and one stands twice in the model
+  -- 15: it has the form, all its names are in the book, and one comes twice in the model
   pub refused-15 : (text : List ℕ) → (readText size names text ≡ refused NameTwice)
-      ↔ ((d : Form) × HasForm text d × (allForm (known names) d ≡ true) × (noneTwice (length names) (numbered names (d .factors)) ≡ false))
-  unfolding judged
-  refused-15 text = (to, λ p. formed text (p .0) (p .1) ∙ rw (p .2, p .3))
+      ↔ ((d : Form) × HasForm text d × ((x : List ℕ) → List·Memᴰ x (formNames d) → List·Memᴰ x names) × Twice (modelNames (d .factors)))
+  unfolding judged formNames
+  refused-15 text = (λ e. to e (has-form text (λ q. let z : _≡_ {A = ℕ} 0 1 = cc in omega arith)), from)
     where
-      with : readText size names text ≡ refused NameTwice → ((d : Form) × HasForm text d)
-          → (d : Form) × HasForm text d × (allForm (known names) d ≡ true) × (noneTwice (length names) (numbered names (d .factors)) ≡ false)
-      with e (d, F) =
-          let p = twice-is (allForm (known names) d) (noneTwice (length names) (numbered names (d .factors))) _ (sym (formed text d F) ∙ e) in
-          (d, F, p .0, p .1)
+      twice-form : (d : Form) → ((x : List ℕ) → List·Memᴰ x (formNames d) → List·Memᴰ x names) → (noneTwice (length names) (numbered names (d .factors)) ≡ false) ↔ Twice (modelNames (d .factors))
+      twice-form d k =
+          let n = twice-law (length names) (numbered names (d .factors)) in
+          let t = twice-names names (d .factors) (λ x m. known-in names x .1 (k x (List·Memᴰ·tail m))) in
+          (λ e. t .0 (n .0 e), λ w. n .1 (t .1 w))
 
-      to : readText size names text ≡ refused NameTwice
-          → (d : Form) × HasForm text d × (allForm (known names) d ≡ true) × (noneTwice (length names) (numbered names (d .factors)) ≡ false)
-      to e = with e (has-form text (λ q. let z : _≡_ {A = ℕ} 0 1 = cc in omega arith))
+      to : readText size names text ≡ refused NameTwice → ((d : Form) × HasForm text d) →
+          (d : Form) × HasForm text d × ((x : List ℕ) → List·Memᴰ x (formNames d) → List·Memᴰ x names) × Twice (modelNames (d .factors))
+      to e (d, F) =
+          let p = twice-is (allForm (known names) d) (noneTwice (length names) (numbered names (d .factors))) _ (sym (formed text d F) ∙ e) in
+          let k = known-form d .0 (p .0) in
+          (d, F, k, twice-form d k .0 (p .1))
+
+      from : ((d : Form) × HasForm text d × ((x : List ℕ) → List·Memᴰ x (formNames d) → List·Memᴰ x names) × Twice (modelNames (d .factors))) → readText size names text ≡ refused NameTwice
+      from (d, F, k, t) = formed text d F ∙ rw (known-form d .1 k, twice-form d k .1 t)

@@ -1,4 +1,5 @@
--- The form of a text, as the reader finds it: the text is cut into tokens, the white space between them is looked at, and the tokens are parsed.
+-- A means: the form of a text, as the reader finds it: the text is cut into tokens, the white space between them is
+-- looked at, and the tokens are parsed. `form-sound` and `form-complete` in proofs/Theorem.antt join it to `HasForm`.
 -- Assumes nothing.
 use Prim.Native.Nat.{ℕ, suc}
 use mathlib.Core.Bool.{Bool, true, false, cond, not, _&&_}
@@ -9,6 +10,7 @@ use Rattle.name.specs.Class.{laterByte}
 use Rattle.name.specs.Rule.{isName}
 use Rattle.declaration_spelling.specs.Token.{isSpace, Token, word, lpar, rpar, comma, bar, end, mark, other, Room, tight, apart, free, room}
 use Rattle.declaration_spelling.specs.House.{Factor, opening, emptyWord}
+use Rattle.declaration_spelling.specs.Stops.{Form}
 
 -- Two byte lists are equal.
 unfoldable pub same : List ℕ → List ℕ → Bool
@@ -132,8 +134,8 @@ closes (end ∷ t ∷ ts) = false
 closes (mark m ∷ ts) = false
 closes (other b ∷ ts) = false
 
--- Where a parse stands: before a factor; behind a group's bracket; behind its first name; behind a bar; behind a later name;
--- behind a factor's names; behind its mark.
+-- Where a parse stands: before a factor; behind a group's bracket; behind its first name; behind a bar; behind a later
+-- name; behind a factor's names; behind its mark.
 pub data State : Type 0 where
   start first second next after body done : State
 
@@ -218,11 +220,6 @@ content (bar ∷ ts) = none
 content (end ∷ ts) = none
 content (mark m ∷ ts) = none
 content (other b ∷ ts) = none
-
--- A declaration by the bytes of its names.
-pub record Form : Type 0 where
-  pub parent : List ℕ
-  pub factors : List (Factor (List ℕ))
 
 unfoldable pub forParent : List ℕ → Option (List (Factor (List ℕ))) → Option Form
 forParent x none = none

@@ -1,5 +1,6 @@
--- Paper 01, "The declaration": "House spelling: `<!ELEMENT`, one space, the parent, one space, `EMPTY` if F = 0, else `(`, the factors joined by `,`,
--- and `)`; then `>`. A factor with one name is the name; with more, `(`, the names in rising order joined by `|`, `)`. Its mark follows."
+-- To be believed: the canonical form of a declaration, paper 01's house spelling: "`<!ELEMENT`, one space, the parent,
+-- one space, `EMPTY` if F = 0, else `(`, the factors joined by `,`, and `)`; then `>`. A factor with one name is the
+-- name; with more, `(`, the names in rising order joined by `|`, `)`. Its mark follows."
 -- Assumes nothing.
 use Prim.Native.Nat.{ℕ, zero, suc}
 use mathlib.Core.Bool.{cond}
@@ -51,7 +52,7 @@ opening = 60 ∷ 33 ∷ 69 ∷ 76 ∷ 69 ∷ 77 ∷ 69 ∷ 78 ∷ 84 ∷ []
 unfoldable pub emptyWord : List ℕ
 emptyWord = 69 ∷ 77 ∷ 80 ∷ 84 ∷ 89 ∷ []
 
--- Each text below has what follows it as its last argument.
+-- Each function below takes the text that comes after its own as its last argument, and gives both joined.
 
 -- A mark: none for mode 0.
 unfoldable pub markText : ℕ → List ℕ → List ℕ
@@ -63,7 +64,8 @@ unfoldable pub barsText : List (List ℕ) → List ℕ → List ℕ
 barsText [] after = 41 ∷ after
 barsText (x ∷ xs) after = 124 ∷ (x ++ barsText xs after)
 
--- "A factor with one name is the name; with more, `(`, the names joined by `|`, `)`." A chain has no factor without a name.
+-- "A factor with one name is the name; with more, `(`, the names joined by `|`, `)`." A chain has no factor without a
+-- name.
 unfoldable pub groupText : List (List ℕ) → List ℕ → List ℕ
 groupText [] after = 40 ∷ 41 ∷ after
 groupText (x ∷ []) after = x ++ after
@@ -86,6 +88,6 @@ bodyText (f ∷ fs) = 40 ∷ factorText f (othersText fs)
 unfoldable pub houseText : List ℕ → List (Factor (List ℕ)) → List ℕ
 houseText parent factors = opening ++ (32 ∷ (parent ++ (32 ∷ bodyText factors)))
 
--- The house spelling of the record m for the parent p.
+-- The canonical form of the declaration of the record m for the parent p.
 unfoldable pub declaration : List (List ℕ) → ℕ → Model → List ℕ
 declaration names p m = houseText (nameAt names p) (named names (factorsOf m (length names)))

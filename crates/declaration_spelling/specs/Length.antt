@@ -1,4 +1,5 @@
--- The length of a declaration in house spelling.
+-- A means: the length of a declaration in canonical form. To be believed is `longestDeclaration`, the greatest there is
+-- (`longest-declaration` in proofs/Length.antt).
 -- Assumes nothing.
 use Prim.Native.Nat.{ℕ, zero, suc, _+_}
 use mathlib.Core.List.{List, [], _∷_}

@@ -1,4 +1,6 @@
--- What the reader answers to a text: "13: not the form above", then "14: a name not in the book", then "15: a name twice in the model".
+-- A means: what the reader answers to a text: "13: not the form above", then "14: a name not in the book", then "15: a
+-- name twice in the model". `read-exactly` in proofs/Theorem.antt joins it to `Spelled`, proofs/Refusals.antt to the
+-- conditions.
 -- Assumes nothing.
 use Prim.Native.Nat.{ℕ, zero, suc, _+_}
 use mathlib.Core.Bool.{Bool, true, false, cond, not, _&&_}
@@ -16,7 +18,8 @@ use Rattle.model.specs.declared.Model.{Model}
 use Rattle.model.specs.Record.{none as noFactor}
 use Rattle.declaration_spelling.specs.House.{Factor}
 use Rattle.declaration_spelling.specs.Spelled.{times}
-use Rattle.declaration_spelling.specs.Form.{Form, allForm, formOf}
+use Rattle.declaration_spelling.specs.Form.{allForm, formOf}
+use Rattle.declaration_spelling.specs.Stops.{Form}
 
 -- ---- names and numbers
 

@@ -1,4 +1,6 @@
--- What a spelling of a record is, without any reader: the tokens of its declaration, the names of each group in any order, with a choice of white space.
+-- To be believed: what a spelling of a record is: the tokens of its declaration, the names of each group in any order,
+-- with a choice of white space. Stated without the function that reads; `read-exactly` in proofs/Theorem.antt says that
+-- the two agree.
 -- Assumes nothing.
 use Prim.Native.Nat.{ℕ, zero, suc, _<_}
 use mathlib.Core.Path.{_≡_}
@@ -7,11 +9,12 @@ use mathlib.Core.List.{List, [], _∷_, _++_}
 use lib.Dec.{eqb}
 use lib.ListN.{length}
 use Rattle.model.specs.declared.Model.{Model}
-use Rattle.model.specs.Record.{factorOf, modeOf}
+use Rattle.model.specs.Record.{factorOf, modeOf, IsChain}
 use Rattle.declaration_spelling.specs.Token.{Token, word, lpar, rpar, comma, bar, end, mark, Spells}
 use Rattle.declaration_spelling.specs.House.{Factor, nameAt, named, opening, emptyWord}
 
--- The tokens of a declaration, one function for each text of the house spelling; each has what follows it as its last argument.
+-- The tokens of a declaration, one function for each text of the canonical form; each has what follows it as its last
+-- argument.
 
 unfoldable pub markTokens : ℕ → List Token → List Token
 markTokens zero after = after
@@ -48,15 +51,18 @@ unfoldable pub times : ℕ → List ℕ → ℕ
 times x [] = 0
 times x (y ∷ ys) = cond (eqb x y) (suc (times x ys)) (times x ys)
 
--- These are the factors of m from factor i on, each with its names in any order: a name of the factor stands there once, any other never.
+-- These are the factors of m from factor i on, each with its names in any order: a name of the factor stands there
+-- once, any other never.
 abbrev pub Reordered : Model → ℕ → List (Factor ℕ) → Type 0
 Reordered m i [] = i ≡ m .count
 Reordered m i (f ∷ fs) =
     (i < m .count) × (f .mode ≡ modeOf m i) × ((x : ℕ) → times x (f .names) ≡ cond (eqb (factorOf m x) i) 1 0) × Reordered m (suc i) fs
 
--- The text is a spelling of the declaration of the record m for the parent p.
-pub record Spelled (names : List (List ℕ)) (text : List ℕ) (p : ℕ) (m : Model) : Type 0 where
+-- The text is a spelling of the declaration of the record m, a chain over the names, for the parent p.
+-- `size` is the number of places of a record, 64 in paper 01.
+pub record Spelled (size : ℕ) (names : List (List ℕ)) (text : List ℕ) (p : ℕ) (m : Model) : Type 0 where
   pub parent : p < length names
+  pub chain : IsChain size (length names) m
   pub factors : List (Factor ℕ)
   pub order : Reordered m 0 factors
   pub spelled : SpelledBy (nameAt names p) (named names factors) text

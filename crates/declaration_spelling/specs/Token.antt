@@ -1,4 +1,5 @@
--- Paper 01, "The declaration": the tokens of a declaration, the bytes of each, and the white space that may stand between two of them.
+-- To be believed: the tokens of a declaration, the bytes of each, and the white space that may be between two of them
+-- (paper 01, "The declaration").
 -- Assumes nothing.
 use Prim.Native.Nat.{ℕ, zero, suc}
 use mathlib.Core.Path.{_≡_}
@@ -37,7 +38,7 @@ spell (other b) = b ∷ []
 pub data Room : Type 0 where
   tight apart free : Room
 
--- What a token leaves to a word or an opening bracket that follows it: a word keeps them apart.
+-- The spaces before a word or `(`: at least one after a word, any number after anything else.
 unfoldable pub behind : Token → Room
 behind (word w) = apart
 behind lpar = free
@@ -48,7 +49,8 @@ behind end = free
 behind (mark m) = free
 behind (other b) = free
 
--- "one or more spaces in place of each space, and spaces before `>`, after and before any bracket, comma or bar, but none before a mark"
+-- "one or more spaces in place of each space, and spaces before `>`, after and before any bracket, comma or bar, but
+-- none before a mark"
 unfoldable pub room : Token → Token → Room
 room t (word w) = behind t
 room t lpar = behind t
@@ -70,7 +72,8 @@ abbrev pub All : (ℕ → Bool) → List ℕ → Type 0
 All test [] = Unit {0}
 All test (b ∷ bs) = (test b ≡ true) × All test bs
 
--- The text, behind the token t, is these tokens in order, with fitting white space before each, and nothing behind the last.
+-- The text, behind the token t, is these tokens in order, with fitting white space before each, and nothing behind the
+-- last.
 abbrev pub Spells : Token → List Token → List ℕ → Type 0
 Spells t [] text = text ≡ []
 Spells t (u ∷ us) text =

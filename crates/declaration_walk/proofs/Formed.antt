@@ -8,7 +8,8 @@ use mathlib.Core.Option.{Option, none, some}
 use Rattle.name.specs.Rule.{isName}
 use Rattle.declaration_spelling.specs.Token.{Token, word, lpar, rpar, comma, bar, end, mark, other, behind, room}
 use Rattle.declaration_spelling.specs.House.{opening}
-use Rattle.declaration_spelling.specs.Form.{strip, Piece, Cut, cut, fits, spaced, tokens, Form, parse, allForm, keptIf, formCut, formRest, formOf}
+use Rattle.declaration_spelling.specs.Form.{strip, Piece, Cut, cut, fits, spaced, tokens, parse, allForm, keptIf, formCut, formRest, formOf}
+use Rattle.declaration_spelling.specs.Stops.{Form}
 use Rattle.declaration_spelling.proofs.Form.{parse-sound}
 use Rattle.declaration_walk.specs.Walk.{signalOf, stepOf, walk, isWord, fitsAfter, goodToken, accepts, acceptsRest, hasForm}
 use Rattle.declaration_walk.proofs.Runs.{found, found-cond, lost, parse-walk}

@@ -9,7 +9,8 @@ use Rattle.name.specs.Rule.{goodLength, allLater, goodBytes, isName}
 use Rattle.declaration_spelling.specs.Token.{Token, word}
 use Rattle.declaration_spelling.specs.House.{Factor, emptyWord}
 use Rattle.declaration_spelling.specs.Spelled.{markTokens, barsTokens, groupTokens, factorTokens, othersTokens, bodyTokens}
-use Rattle.declaration_spelling.specs.Form.{Form, allNames, allFactors, allForm}
+use Rattle.declaration_spelling.specs.Form.{allNames, allFactors, allForm}
+use Rattle.declaration_spelling.specs.Stops.{Form}
 use Rattle.declaration_walk.specs.Walk.{goodToken}
 
 unfoldable pub allGood : List Token → Bool

@@ -1,4 +1,5 @@
--- The form of a declaration as a walk along its tokens: a state, a token, the next state.
+-- A means: the form of a declaration as a walk along its tokens: a state, a token, the next state; `form-found` in
+-- proofs/Formed.antt joins it to `formOf`.
 -- Assumes nothing.
 use Prim.Native.Nat.{ℕ, _+_, _*_}
 use mathlib.Core.Bool.{Bool, true, false, cond, not, _&&_}
@@ -11,7 +12,8 @@ use Rattle.declaration_spelling.specs.Token.{Token, word, lpar, rpar, comma, ba
 use Rattle.declaration_spelling.specs.House.{opening, emptyWord}
 use Rattle.declaration_spelling.specs.Form.{same, strip, Piece, cut}
 
--- What a token is to the walk: 0 any other byte, 1 a word, 2 the word `EMPTY`, 3 `(`, 4 `)`, 5 `,`, 6 `|`, 7 `>`, 8 a mark.
+-- What a token is to the walk: 0 any other byte, 1 a word, 2 the word `EMPTY`, 3 `(`, 4 `)`, 5 `,`, 6 `|`, 7 `>`, 8 a
+-- mark.
 unfoldable pub signalOf : Token → ℕ
 signalOf (word x) = cond (same x emptyWord) 2 1
 signalOf lpar = 3
@@ -22,8 +24,10 @@ signalOf end = 7
 signalOf (mark m) = 8
 signalOf (other b) = 0
 
--- The next state for each signal, a row for each state: 0 before the parent; 1 before the model; 2 before a factor; 3 behind a group's bracket;
--- 4 behind its first name; 5 behind a bar; 6 behind a later name; 7 behind a factor's names; 8 behind its mark; 9 before `>`; 10 behind `>`; 11 nowhere.
+-- The next state for each signal, a row for each state: 0 before the parent; 1 before the model; 2 before a factor; 3
+-- behind a group's bracket;
+-- 4 behind its first name; 5 behind a bar; 6 behind a later name; 7 behind a factor's names; 8 behind its mark; 9
+-- before `>`; 10 behind `>`; 11 nowhere.
 unfoldable pub table : List ℕ
 table =
     11 ∷ 1 ∷ 1 ∷ 11 ∷ 11 ∷ 11 ∷ 11 ∷ 11 ∷ 11 ∷
@@ -57,7 +61,8 @@ isWord end = false
 isWord (mark m) = false
 isWord (other b) = false
 
--- White space before a token, behind a word or not: a word or a bracket needs it behind a word, a mark has none before it.
+-- White space before a token, behind a word or not: a word or a bracket needs it behind a word, a mark has none before
+-- it.
 unfoldable pub fitsAfter : Bool → Bool → Token → Bool
 fitsAfter behindWord gap (word x) = cond behindWord gap true
 fitsAfter behindWord gap lpar = cond behindWord gap true

@@ -1,4 +1,5 @@
--- What the call that writes a declaration answers: 1 to 7, 8, 10, 12, in this order, else the declaration.
+-- A means: what the call that writes a declaration answers: 1 to 7, 8, 10, 12, in this order, else the declaration.
+-- `write-refusals`, `write-kept` and `write-done` in crates/demands/proofs/Demands.antt say what that is.
 -- Assumes nothing.
 use Prim.Native.Nat.{ℕ}
 use mathlib.Core.Path.{_≡_}
@@ -43,10 +44,16 @@ lengthDue (refused r) = stoppedBy r .length
 unfoldable pub written : Answer (List ℕ) → Written
 written a = record { outcome = outcomeOf a; length = lengthDue a }
 
--- The buffer then: the text stands at its start and all other bytes keep their values; a refused call leaves every byte.
+-- The buffer then: the text stands at its start and all other bytes keep their values; a refused call leaves every
+-- byte.
 unfoldable pub bufferAfter : List ℕ → Answer (List ℕ) → List ℕ
 bufferAfter buffer a = wrote buffer 0 (valueOr [] a)
 
--- What a call that writes promises, for the text or refusal a that is due: its answer w, and what the buffer, which held `before`, then holds.
+-- What a call that writes promises, for the text or refusal a that it is to give: its answer w, and what the buffer,
+-- which held `before`, then holds.
 abbrev pub Writes : Answer (List ℕ) → Written → List ℕ → List ℕ → Type 0
 Writes a w before after = (w ≡ written a) × (after ≡ bufferAfter before a)
+
+-- The whole promise of the call that writes a declaration with a record.
+abbrev pub WritesDeclaration : List ℕ → ℕ → Model → Written → List ℕ → List ℕ → Type 0
+WritesDeclaration bytes parent m w before after = Writes (writeAnswer bytes parent m (length before)) w before after

@@ -1,4 +1,4 @@
-// Writing one declaration into a lent buffer.
+// Writing one declaration into a borrowed buffer.
 use book::Layout;
 use byte_buffer::put_all;
 use declaration_text::put_declaration;
@@ -13,7 +13,7 @@ ghost use Rattle.book.specs.Book.{namesIn};
 ghost use Rattle.book.specs.Access.{LaidOut};
 ghost use Rattle.model.specs.Record.{IsChain};
 ghost use Rattle.declaration_spelling.specs.House.{declaration};
-ghost use Rattle.declaration_writing.specs.Write.{fitted, written, writeAnswer, noText, Writes};
+ghost use Rattle.declaration_writing.specs.Write.{fitted, written, noText, Writes, WritesDeclaration};
 
 // The most bytes that a declaration has.
 const LONGEST: usize = 2253;
@@ -34,7 +34,8 @@ pub fn refused(refusal: Refusal) -> Written
     }
 }
 
-// The declaration of a chain for a parent, of a book that was read, or 12. It is put together aside, so that no byte of the buffer changes unless all fit.
+// The declaration of a chain for a parent, of a book that was read, or 12. It is put together aside, so that no byte of
+// the buffer changes unless all fit.
 pub fn write_chain(
     bytes: &[u8],
     layout: Layout,
@@ -59,7 +60,7 @@ pub fn write_chain(
 
 // The call: any bytes as the book, any parent, any record, any buffer.
 pub fn write_declaration(bytes: &[u8], parent: usize, m: Model, buffer: &mut [u8]) -> Written
-    ensures { λ r. ⌜ Writes (writeAnswer (now (bytes .entry)) parent m (length (now (buffer .entry)))) r (now (buffer .entry)) (now (buffer .exit)) ⌝ }
+    ensures { λ r. ⌜ WritesDeclaration (now (bytes .entry)) parent m r (now (buffer .entry)) (now (buffer .exit)) ⌝ }
 {
     let reading = book_reading::read_book(bytes);
     let outcome = reading.outcome;

@@ -1,4 +1,5 @@
--- Demand 3, for the call: the model accepts every sample word, and every other chain that does accepts some word that ours does not.
+-- Demand 3, for the call: the model accepts every sample word, and every other chain that does accepts some word that
+-- ours does not.
 -- The statements to read; their proofs are cited from `chain_minimal`, where the same is stated for lists of words.
 -- Assumes nothing.
 use Prim.Native.Nat.{ℕ, _+_, _≤_}
@@ -13,11 +14,12 @@ use Rattle.book.specs.Book.{Book, bookOf}
 use Rattle.model.specs.declared.Model.{Model}
 use Rattle.model.specs.Record.{none, IsChain}
 use Rattle.model.specs.Accept.{Accepts, Names}
-use Rattle.model_language.specs.Word.{AcceptsAll}
+use Rattle.model_language.specs.Word.{Fact, AcceptsAll}
 use Rattle.follow.specs.Follow.{Follow}
 use Rattle.follow.specs.Sample.{SameWords}
 use Rattle.follow.proofs.Laws.{same-facts}
 use Rattle.chain_levels.specs.Chain.{chainOf}
+use Rattle.chain_minimal.specs.Placed.{Placed}
 use Rattle.chain_minimal.proofs.Demand as Demand
 use Rattle.chain_sample.specs.Sample.{chainOfWords}
 use Rattle.intake.specs.declared.Inferred.{Inferred}
@@ -62,13 +64,23 @@ module _ (bytes : List ℕ) (parent : ℕ) (answer : Inferred) (call : answer �
   unfolding chainOfWords
   accepts-sample = subst (λ (m : Model). AcceptsAll m sample) model-is (Demand.accepts-words places n (few bytes book read) small sample (sample-names bytes book read parent) block)
 
-  -- and every other chain over the book's names that accepts every sample word accepts a word, handed over here, that ours does not accept.
+  -- and every other chain over the book's names that accepts every sample word accepts a word, handed over here, that
+  -- ours does not accept.
   pub no-better : (other : Model) → IsChain places n other → AcceptsAll other sample → ¬ (other ≡ ours) →
       (w : List ℕ) × Accepts other w × (¬ Accepts ours w) × (length w ≤ other .count + 1) × Names n w
   unfolding chainOfWords
   no-better other c a =
       subst (λ (m : Model). ¬ (other ≡ m) → (w : List ℕ) × Accepts other w × (¬ Accepts m w) × (length w ≤ other .count + 1) × Names n w) model-is
       (Demand.other-accepts-more places n (few bytes book read) small sample (sample-names bytes book read parent) block other c a)
+
+  -- It is the chain that the levels give, over the steps that the sample's words show, and the only chain that is.
+  pub is-placed : Placed (Fact sample) ours
+  unfolding chainOfWords
+  is-placed = subst (Placed (Fact sample)) model-is (Demand.is-placed places n (few bytes book read) small sample (sample-names bytes book read parent) block)
+
+  pub only-placed : (m : Model) → IsChain places n m → Placed (Fact sample) m → m ≡ ours
+  unfolding chainOfWords
+  only-placed m c p = Demand.only-placed places n (few bytes book read) small sample (sample-names bytes book read parent) block m c p ∙ model-is
 
 -- "In whatever order and however often": the chain depends only on which words there are.
 pub same-sample : (n : ℕ) (us vs : List (List ℕ)) → SameWords us vs → chainOfWords n us ≡ chainOfWords n vs

@@ -1,11 +1,11 @@
 -- What callers may rely on, in the words of paper 01. The statements to read first.
 -- Assumes nothing.
 use Prim.Native.Nat.{ℕ, _≤_, _<_}
-use mathlib.Core.Path.{_≡_, refl, sym, _∙_}
+use mathlib.Core.Path.{_≡_, refl, sym, _∙_, ap}
 use mathlib.Core.Bool.{Bool, true, false, not, _||_, false≢true}
-use mathlib.Core.List.{List}
-use mathlib.Core.Logic.{_↔_}
-use borrow.Author.Tests.{ltb-false, le-ltb, not-false}
+use mathlib.Core.List.{List, List·Memᴰ}
+use mathlib.Core.Logic.{_↔_, _⊎_, inl, inr}
+use borrow.Author.Tests.{ltb-true, ltb-false, lt-ltb, le-ltb, not-false}
 use lib.Dec.{ltb}
 use lib.ListN.{length}
 use Rattle.refusal.specs.declared.Refusal.the-variants.{BadNameCount, NotAChain, BadWord}
@@ -14,7 +14,6 @@ use Rattle.nameset.specs.Places.{places, goodCount}
 use Rattle.nameset.proofs.Count.{count-bounds, bounds-count}
 use Rattle.book.specs.Book.{allBelow}
 use Rattle.model.specs.declared.Model.{Model}
-use Rattle.model.specs.Record.{IsChain}
 use Rattle.model.specs.Check.{isChain}
 use Rattle.model.specs.Accept.{Accepts, Names}
 use Rattle.model.specs.Run.{accepts}
@@ -23,16 +22,8 @@ use Rattle.model.proofs.Chain.{chain-law}
 use Rattle.model.proofs.Acceptance.{accepts-law}
 use Rattle.intake.specs.declared.Acceptance.{Acceptance}
 use Rattle.intake.specs.declared.Acceptance.the-variants.{Yes}
-use Rattle.intake.specs.Acceptance.{badModel, longest, badWord, answerOf, acceptance, AcceptsWord}
-use Rattle.intake.proofs.Words.{names-law}
-
--- Nothing stops the call for acceptance of a word.
-pub record Passes (n : ℕ) (m : Model) (w : List ℕ) : Type 0 where
-  pub some : 0 < n
-  pub few : n ≤ places
-  pub chain : IsChain places n m
-  pub short : length w ≤ longest
-  pub names : Names n w
+use Rattle.intake.specs.Acceptance.{badModel, longestWord, badWord, answerOf, acceptance, Passes, AcceptsWord}
+use Rattle.intake.proofs.Words.{names-law, not-below}
 
 -- ---- helpers
 
@@ -40,15 +31,33 @@ neither : (a b : Bool) → (a || b) ≡ false → (a ≡ false) × (b ≡ false)
 neither true b e = absurd (false≢true (sym e))
 neither false b e = (refl, e)
 
-pub good-word : (n : ℕ) (w : List ℕ) → badWord n w ≡ false → (length w ≤ longest) × Names n w
+pub good-word : (n : ℕ) (w : List ℕ) → badWord n w ≡ false → (length w ≤ longestWord) × Names n w
 unfolding badWord
 good-word n w e =
-    let p = neither (ltb longest (length w)) (not (allBelow n w)) e in
-    (ltb-false longest (length w) (p .0), names-law n w .0 (not-false (allBelow n w) (p .1)))
+    let p = neither (ltb longestWord (length w)) (not (allBelow n w)) e in
+    (ltb-false longestWord (length w) (p .0), names-law n w .0 (not-false (allBelow n w) (p .1)))
 
-pub word-good : (n : ℕ) (w : List ℕ) → (length w ≤ longest) × Names n w → badWord n w ≡ false
+pub word-good : (n : ℕ) (w : List ℕ) → (length w ≤ longestWord) × Names n w → badWord n w ≡ false
 unfolding badWord
-word-good n w h = rw (le-ltb longest (length w) (h .0), names-law n w .1 (h .1))
+word-good n w h = rw (le-ltb longestWord (length w) (h .0), names-law n w .1 (h .1))
+
+-- 11: "above 255 names, or a number not below N"
+pub bad-word : (n : ℕ) (w : List ℕ) → (badWord n w ≡ true) ↔ ((longestWord < length w) ⊎ ((x : ℕ) × List·Memᴰ x w × (n ≤ x)))
+unfolding badWord
+bad-word n w = (λ e. to (ltb longestWord (length w)) refl (allBelow n w) refl e, from)
+  where
+    to : (a : Bool) → ltb longestWord (length w) ≡ a → (b : Bool) → allBelow n w ≡ b → (a || not b) ≡ true → (longestWord < length w) ⊎ ((x : ℕ) × List·Memᴰ x w × (n ≤ x))
+    to true p b q e = inl (ltb-true longestWord (length w) p)
+    to false p true q e = absurd (false≢true e)
+    to false p false q e = inr (not-below n w .0 q)
+
+    or-right : (a b : Bool) → b ≡ true → (a || b) ≡ true
+    or-right true b e = refl
+    or-right false b e = e
+
+    from : (longestWord < length w) ⊎ ((x : ℕ) × List·Memᴰ x w × (n ≤ x)) → (ltb longestWord (length w) || not (allBelow n w)) ≡ true
+    from (inl l) = rw (lt-ltb longestWord (length w) l)
+    from (inr h) = or-right (ltb longestWord (length w)) (not (allBelow n w)) (ap not (not-below n w .1 h))
 
 -- A yes says that no check stopped the call.
 clear : (a b c d : Bool) → acceptance (refuseIf a BadNameCount (refuseIf b NotAChain (refuseIf c BadWord (given d)))) ≡ Yes
@@ -62,7 +71,8 @@ clear false false false false e = absurd (never (cc))
 
 -- ---- demand 2, acceptance
 
--- The call answers yes exactly when nothing stops it and the word is a joining of one part for each factor of the model in order.
+-- The call answers yes exactly when nothing stops it and the word is a joining of one part for each factor of the model
+-- in order.
 pub yes-exactly : (n : ℕ) (m : Model) (w : List ℕ) (r : Acceptance) → AcceptsWord n m w r → (r ≡ Yes) ↔ (Passes n m w × Accepts m w)
 unfolding acceptance answerOf badModel badWord
 yes-exactly n m w r h = (λ e. to (clear (not (goodCount n)) (badModel n m) (badWord n w) (accepts m w) (sym (h .same) ∙ e)), λ p. h .same ∙ from (p .0) (p .1))
@@ -83,7 +93,7 @@ yes-exactly n m w r h = (λ e. to (clear (not (goodCount n)) (badModel n m) (bad
     from p a = rw (
       bounds-count n (p .some) (p .few),
       chain-law places n m .1 (p .chain),
-      le-ltb longest (length w) (p .short),
+      le-ltb longestWord (length w) (p .short),
       names-law n w .1 (p .names),
       accepts-law m w .1 a,
     )

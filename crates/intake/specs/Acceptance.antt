@@ -1,6 +1,8 @@
--- The call for acceptance of a word: its checks, in the order of paper 01's table, and its answer.
+-- A means: the checks of the call for acceptance of a word, in the order of paper 01's table, and its answer.
+-- `word-refusals` and `accepted-exactly` in crates/demands/proofs/Demands.antt say what that is. To be believed are
+-- `Passes`, `longestWord`, `acceptanceNumber` and `acceptanceYes`.
 -- Assumes nothing.
-use Prim.Native.Nat.{ℕ}
+use Prim.Native.Nat.{ℕ, _≤_, _<_}
 use mathlib.Core.Path.{_≡_}
 use mathlib.Core.Bool.{Bool, true, false, _||_, not}
 use mathlib.Core.List.{List}
@@ -8,11 +10,13 @@ use lib.Dec.{ltb}
 use lib.ListN.{length}
 use Rattle.refusal.specs.declared.Refusal.the-variants.{BadNameCount, NotAChain, BadWord}
 use Rattle.refusal.specs.Table.{stoppedBy}
-use Rattle.refusal.specs.Answer.{Answer, given, refused, refuseIf, outcomeOf, outcomeNumber}
+use Rattle.refusal.specs.Answer.{Answer, given, refused, refuseIf, answerNumber}
 use Rattle.nameset.specs.Places.{places, goodCount}
 use Rattle.book.specs.Book.{allBelow}
 use Rattle.model.specs.declared.Model.{Model}
+use Rattle.model.specs.Record.{IsChain}
 use Rattle.model.specs.Check.{isChain}
+use Rattle.model.specs.Accept.{Names}
 use Rattle.model.specs.Run.{accepts}
 use Rattle.intake.specs.declared.Acceptance.{Acceptance}
 use Rattle.intake.specs.declared.Acceptance.the-variants.{Yes, No, Refused}
@@ -22,12 +26,12 @@ unfoldable pub badModel : ℕ → Model → Bool
 badModel n m = not (isChain places n m)
 
 -- The most names that a word may have in a call.
-abbrev pub longest : ℕ
-longest = 255
+abbrev pub longestWord : ℕ
+longestWord = 255
 
 -- 11: "above 255 names, or a number not below N".
 unfoldable pub badWord : ℕ → List ℕ → Bool
-badWord n w = ltb longest (length w) || not (allBelow n w)
+badWord n w = ltb longestWord (length w) || not (allBelow n w)
 
 -- The call's answer: the first check that applies (3: "0 or above 64" for the count N), else whether m accepts w.
 unfoldable pub answerOf : ℕ → Model → List ℕ → Answer Bool
@@ -57,8 +61,16 @@ abbrev pub yesDue : Answer Bool → Bool
 yesDue (given b) = b
 yesDue (refused r) = stoppedBy r .yes
 
--- What the call promises of its answer r.
+-- Nothing stops the call.
+pub record Passes (n : ℕ) (m : Model) (w : List ℕ) : Type 0 where
+  pub some : 0 < n
+  pub few : n ≤ places
+  pub chain : IsChain places n m
+  pub short : length w ≤ longestWord
+  pub names : Names n w
+
+-- The whole promise of the call, of its answer r.
 pub record AcceptsWord (n : ℕ) (m : Model) (w : List ℕ) (r : Acceptance) : Type 0 where
   pub same : r ≡ acceptance (answerOf n m w)
-  pub number : acceptanceNumber r ≡ outcomeNumber (outcomeOf (answerOf n m w))
+  pub number : acceptanceNumber r ≡ answerNumber (answerOf n m w)
   pub yes : acceptanceYes r ≡ yesDue (answerOf n m w)

@@ -1,6 +1,8 @@
--- The call for the model of a parent: its checks, in the order of paper 01's table, and its answer.
+-- A means: the checks of the call for the model of a parent, in the order of paper 01's table, and its answer.
+-- `model-refusals` and demand 3 in crates/demands/proofs/Demands.antt say what that is. To be believed is `sampleOf`.
 -- Assumes nothing.
 use Prim.Native.Nat.{ℕ}
+use mathlib.Core.Path.{_≡_}
 use mathlib.Core.Bool.{Bool, true, false, not}
 use mathlib.Core.List.{List, [], _∷_}
 use lib.Dec.{ltb}
@@ -45,6 +47,10 @@ modelAnswer bytes parent = onward (bookOf bytes) (λ b. modelIn b parent)
 -- The answer as the code has it: a refused call answers the model due.
 unfoldable pub inferred : Answer Model → Inferred
 inferred a = record { outcome = outcomeOf a; model = valueOr dueModel a }
+
+-- The whole promise of the call, of its answer r.
+abbrev pub InfersModel : List ℕ → ℕ → Inferred → Type 0
+InfersModel bytes parent r = r ≡ inferred (modelAnswer bytes parent)
 
 -- The same, with the layout of the book for whoever goes back to its names.
 unfoldable pub found : Reading → Answer Model → Found

@@ -8,7 +8,7 @@ use refusal::Refusal;
 ghost use mathlib.Core.Path.{_≡_};
 ghost use Rattle.book.specs.Book.{bookOf};
 ghost use Rattle.book.specs.Layout.{readingOf};
-ghost use Rattle.intake.specs.Inference.{modelAnswer, noModel, inferred, found};
+ghost use Rattle.intake.specs.Inference.{modelAnswer, noModel, InfersModel, found};
 
 // The answer where there is no model.
 fn stopped(reading: Reading, refusal: Refusal) -> Found
@@ -49,7 +49,7 @@ pub fn find_model(bytes: &[u8], parent: usize) -> Found
 
 // The call: any bytes as the book, any parent.
 pub fn model_of_parent(bytes: &[u8], parent: usize) -> Inferred
-    ensures { λ r. ⌜ r ≡ inferred (modelAnswer (now (bytes .entry)) parent) ⌝ }
+    ensures { λ r. ⌜ InfersModel (now (bytes .entry)) parent r ⌝ }
 {
     let found = find_model(bytes, parent);
     let outcome = found.outcome;

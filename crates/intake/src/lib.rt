@@ -1,5 +1,6 @@
 // The five calls open to the outside. None has a requirement: each says for every input what it answers.
-// `write_declaration` and `read_declaration` have their promises in the crates `declaration_writing` and `declaration_reading`.
+// `write_declaration` and `read_declaration` have their promises in the crates `declaration_writing` and
+// `declaration_reading`.
 use book::Layout;
 use model::Model;
 use refusal::Outcome;

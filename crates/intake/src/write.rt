@@ -2,13 +2,11 @@
 use super::infer::find_model;
 use declaration_writing::Written;
 use refusal::Outcome;
-ghost use lib.ListN.{length};
-ghost use Rattle.declaration_writing.specs.Write.{Writes};
-ghost use Rattle.intake.specs.Writing.{sampleText};
+ghost use Rattle.intake.specs.Writing.{WritesSample};
 
 // The call: any bytes as the book, any parent, any buffer. 1 to 7, then 8, then 9, then 12, else the declaration.
 pub fn write_from_sample(bytes: &[u8], parent: usize, buffer: &mut [u8]) -> Written
-    ensures { λ r. ⌜ Writes (sampleText (now (bytes .entry)) parent (length (now (buffer .entry)))) r (now (buffer .entry)) (now (buffer .exit)) ⌝ }
+    ensures { λ r. ⌜ WritesSample (now (bytes .entry)) parent r (now (buffer .entry)) (now (buffer .exit)) ⌝ }
 {
     let found = find_model(bytes, parent);
     let outcome = found.outcome;

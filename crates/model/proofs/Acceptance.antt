@@ -1,4 +1,5 @@
--- The run from left to right accepts exactly the joinings of parts, for every record and every word. Between the two stands `Run`: the turns of a run, one by one.
+-- The run from left to right accepts exactly the joinings of parts, for every record and every word. Between the two
+-- stands `Run`: the turns of a run, one by one.
 -- Assumes nothing.
 use Prim.Native.Nat.{ℕ, zero, suc, _+_, _-_, _≤_, _<_}
 use mathlib.Core.Path.{_≡_, refl, sym, _∙_, ap}

@@ -1,5 +1,5 @@
--- Which words a record accepts, as paper 01 and XML 1.0, section 3.2, say it: "a joining of one part for each factor in order". A word is a list of name
--- numbers of any length.
+-- To be believed: which words a record accepts, as paper 01 and XML 1.0, section 3.2, have it: "a joining of one part
+-- for each factor in order". A word is a list of name numbers of any length.
 -- Assumes nothing.
 use Prim.Native.Nat.{ℕ, zero, suc, _<_}
 use mathlib.Core.Path.{_≡_}
@@ -17,7 +17,8 @@ abbrev pub Many : Model → ℕ → List ℕ → Type 0
 Many m i [] = Unit {0}
 Many m i (x ∷ u) = (factorOf m x ≡ i) × Many m i u
 
--- A part for factor i, by its mode: "one name of the factor; that or nothing; one or more names of it; or any number of them". No other mode has a part.
+-- A part for factor i, by its mode: "one name of the factor; that or nothing; one or more names of it; or any number of
+-- them". By any other mode nothing is accepted; the check of the record (10) refuses such modes.
 abbrev pub Part : ℕ → Model → ℕ → List ℕ → Type 0
 Part zero m i u = One m i u
 Part (suc zero) m i u = (u ≡ []) ⊎ One m i u

@@ -1,4 +1,5 @@
--- A record under construction: factors are appended one after the other.
+-- A means: a record under construction: factors are appended one after the other. The chain of the levels is built so;
+-- `is-placed` in crates/chain_minimal/proofs/Demand.antt says which record that is.
 -- Assumes nothing.
 use Prim.Native.Nat.{ℕ, suc, _+_}
 use mathlib.Core.Bool.{Bool, cond}

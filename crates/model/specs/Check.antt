@@ -1,4 +1,5 @@
--- The check of a model record, computed: it says exactly when the record is a chain over n names (proofs/Chain.antt). `size` is the number of places.
+-- A means: the check of a model record; `chain-law` in proofs/Chain.antt says that it passes exactly the chains. `size`
+-- is the number of places.
 -- Assumes nothing.
 use Prim.Native.Nat.{ℕ, zero, suc}
 use mathlib.Core.Bool.{Bool, true, false, _&&_, _||_}

@@ -1,4 +1,5 @@
--- The model record of paper 01, and when it is a chain over n names. The record has `size` places for names and as many for modes: 64 in paper 01.
+-- To be believed: the model record of paper 01, and when it is a chain over n names. The record has `size` places for
+-- names and as many for modes: 64 in paper 01.
 -- Assumes nothing.
 use Prim.Native.Nat.{ℕ, _≤_, _<_}
 use mathlib.Core.Path.{_≡_}

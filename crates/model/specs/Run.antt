@@ -1,4 +1,5 @@
--- Acceptance computed from left to right. A state is the factor that the word is in, and whether a name of it was taken; it does not depend on the word's length.
+-- A means: acceptance by a run from left to right; `accepts-law` in proofs/Acceptance.antt joins it to `Accepts`. A
+-- state is the factor that the word is in, and whether a name of it was taken; it does not depend on the word's length.
 -- Assumes nothing.
 use Prim.Native.Nat.{ℕ, zero, suc, _+_, _-_}
 use mathlib.Core.Bool.{Bool, true, false}
@@ -18,7 +19,8 @@ unfoldable pub either : Bool → Turn → Turn → Turn
 either true a b = a
 either false a b = b
 
--- "The mode byte and the next name decide whether the word stays in its factor": `taken` if a name of the factor was taken, `here` if it holds the next name.
+-- "The mode byte and the next name decide whether the word stays in its factor": `taken` if a name of the factor was
+-- taken, `here` if it holds the next name.
 unfoldable pub turnOf : ℕ → Bool → Bool → Turn
 turnOf zero taken here = either taken Leave (either here Take Refuse)
 turnOf (suc zero) taken here = either taken Leave (either here Take Leave)

@@ -22,7 +22,8 @@ impl Model {
         }
     }
 
-    // The record with one factor more, behind the others. Its names are in no factor yet, or leave the one that they are in.
+    // The record with one factor more, behind the others. Its names are in no factor yet, or leave the one that they
+    // are in.
     pub fn with_factor(self, names: NameSet, mode: u8) -> Model
         requires { ⌜ self .count < places ⌝ }
         ensures { λ r. ⌜ r ≡ withFactor self (member names) mode ⌝ }

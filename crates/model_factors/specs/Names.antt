@@ -1,4 +1,5 @@
--- The names of a factor as a set, and the sets of all factors as a row of words.
+-- A means: the names of a factor as a set, and the sets of all factors as a row of words; `names-of-set` in
+-- crates/declaration_factor/proofs/Rising.antt joins the set to the names of the factor.
 -- Assumes nothing.
 use Prim.Native.Nat.{ℕ, _<_}
 use mathlib.Core.Path.{_≡_}

@@ -1,7 +1,6 @@
 -- `curlewsong_accepts_word` meets its contract.
 -- Assumes nothing.
 use borrow.Author.Needs.{needs}
-use Rattle.curlewsong.proofs.Replies.{word-replied}
 use Rattle.curlewsong.proofs.curlewsong_accepts_word.Statement.{statement}
 use Rattle.curlewsong.proofs.curlewsong_accepts_word.Tie as tie
 
@@ -12,7 +11,7 @@ verdict-of-requires : tie.Need-verdict-of-requires
 verdict-of-requires c κs = search needs
 
 returns : tie.Need-returns
-returns c = word-replied _ _ _ _ _ (c .before .accepts-word .ensures) (c .verdict-of .ensures)
+returns c = (c .before .accepts-word .result, c .before .accepts-word .ensures, c .verdict-of .ensures)
 
 pub curlewsong-accepts-word-spec : {M : Type 1} → statement M
 curlewsong-accepts-word-spec =

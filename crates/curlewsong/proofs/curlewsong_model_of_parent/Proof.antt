@@ -12,7 +12,9 @@ outcome-number-requires : tie.Need-outcome-number-requires
 outcome-number-requires c κs = search needs
 
 returns : tie.Need-returns
-returns c = model-replied (c .before .before .model-of-parent .result) _ _ (c .before .before .model-of-parent .ensures) (c .outcome-number .ensures)
+returns c =
+    let x = c .before .before .model-of-parent .result in
+    (x, c .before .before .model-of-parent .ensures, model-replied x _ (c .outcome-number .ensures))
 
 pub curlewsong-model-of-parent-spec : {M : Type 1} → statement M
 curlewsong-model-of-parent-spec =

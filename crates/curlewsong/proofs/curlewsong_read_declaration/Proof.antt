@@ -12,7 +12,9 @@ outcome-number-requires : tie.Need-outcome-number-requires
 outcome-number-requires c κs = search needs
 
 returns : tie.Need-returns
-returns c = text-replied _ _ (c .before .before .read-declaration .result) _ (c .before .before .read-declaration .ensures) (c .outcome-number .ensures)
+returns c =
+    let x = c .before .before .read-declaration .result in
+    (x, c .before .before .read-declaration .ensures, text-replied x _ (c .outcome-number .ensures))
 
 pub curlewsong-read-declaration-spec : {M : Type 1} → statement M
 curlewsong-read-declaration-spec =

@@ -1,7 +1,6 @@
 -- `curlewsong_write_declaration` meets its contract.
 -- Assumes nothing.
 use borrow.Author.Needs.{needs}
-use Rattle.curlewsong.proofs.Replies.{length-replied}
 use Rattle.curlewsong.proofs.curlewsong_write_declaration.Statement.{statement}
 use Rattle.curlewsong.proofs.curlewsong_write_declaration.Tie as tie
 
@@ -15,7 +14,8 @@ same-length : tie.Need-same-length
 same-length c = search needs
 
 returns : tie.Need-returns
-returns c = (length-replied _ _ _ (c .before .before .before .write-declaration .ensures .0) (c .length-of .ensures), c .before .before .before .write-declaration .ensures .1)
+returns c =
+    (c .before .before .before .write-declaration .result, c .before .before .before .write-declaration .ensures, c .length-of .ensures)
 
 pub curlewsong-write-declaration-spec : {M : Type 1} → statement M
 curlewsong-write-declaration-spec =

@@ -1,7 +1,6 @@
 -- `curlewsong_write_from_sample` meets its contract.
 -- Assumes nothing.
 use borrow.Author.Needs.{needs}
-use Rattle.curlewsong.proofs.Replies.{length-replied}
 use Rattle.curlewsong.proofs.curlewsong_write_from_sample.Statement.{statement}
 use Rattle.curlewsong.proofs.curlewsong_write_from_sample.Tie as tie
 
@@ -15,7 +14,8 @@ same-length : tie.Need-same-length
 same-length c = search needs
 
 returns : tie.Need-returns
-returns c = (length-replied _ _ _ (c .before .before .before .write-from-sample .ensures .0) (c .length-of .ensures), c .before .before .before .write-from-sample .ensures .1)
+returns c =
+    (c .before .before .before .write-from-sample .result, c .before .before .before .write-from-sample .ensures, c .length-of .ensures)
 
 pub curlewsong-write-from-sample-spec : {M : Type 1} → statement M
 curlewsong-write-from-sample-spec =

@@ -1,7 +1,7 @@
 -- `length_of` meets its contract.
 -- Assumes nothing.
 use borrow.Author.Needs.{needs}
-use Rattle.curlewsong.proofs.Replies.{length-told}
+use Rattle.curlewsong.proofs.Replies.{length-replied}
 use Rattle.curlewsong.proofs.length_of.Statement.{statement}
 use Rattle.curlewsong.proofs.length_of.Tie as tie
 
@@ -9,7 +9,7 @@ outcome-number-requires : tie.Need-outcome-number-requires
 outcome-number-requires c κs = search needs
 
 returns : tie.Need-returns
-returns c = length-told (c .before .args .answer) _ (c .outcome-number .ensures)
+returns c = length-replied (c .before .args .answer) _ (c .outcome-number .ensures)
 
 pub length-of-spec : {M : Type 1} → statement M
 length-of-spec = tie.close (tie.spec outcome-number-requires returns)

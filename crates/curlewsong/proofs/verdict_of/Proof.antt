@@ -1,7 +1,7 @@
 -- `verdict_of` meets its contract: one verdict for each case.
 -- Assumes nothing.
 use borrow.Author.Needs.{needs}
-use Rattle.curlewsong.proofs.Replies.{said-yes, said-no, said-refused}
+use Rattle.curlewsong.proofs.Replies.{verdict-yes, verdict-no, verdict-refused}
 use Rattle.curlewsong.proofs.verdict_of.Statement.{statement}
 use Rattle.curlewsong.proofs.verdict_of.Tie as tie
 
@@ -18,13 +18,13 @@ number-requires : tie.Need-number-requires
 number-requires c κs = search needs
 
 returns : tie.Need-returns
-returns c = said-yes _ (c .enum-told .given .1)
+returns c = verdict-yes _ (c .enum-told .given .1)
 
 returns-2 : tie.Need-returns-2
-returns-2 c = said-no _ (c .enum-told2 .given .1)
+returns-2 c = verdict-no _ (c .enum-told2 .given .1)
 
 returns-3 : tie.Need-returns-3
-returns-3 c = said-refused _ _ _ (c .before .before .answer .given .1) (c .number .ensures)
+returns-3 c = verdict-refused _ _ _ (c .before .before .answer .given .1) (c .number .ensures)
 
 pub verdict-of-spec : {M : Type 1} → statement M
 verdict-of-spec =

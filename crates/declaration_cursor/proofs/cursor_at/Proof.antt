@@ -1,4 +1,5 @@
--- `cursor_at` meets its contract: a walk of its MIR, by hand. The text's borrow is had twice, once for the parameter at exit and once for the cursor.
+-- `cursor_at` meets its contract: a walk of its MIR, by hand. The text's borrow is had twice, once for the parameter at
+-- exit and once for the cursor.
 -- Assumes nothing.
 use mathlib.Core.Path.{refl}
 use Prim.Native.Nat.{ℕ, _<_, _^_}

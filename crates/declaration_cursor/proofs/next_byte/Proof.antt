@@ -1,4 +1,5 @@
--- `next_byte` meets its contract: a walk of its MIR, by hand. The cursor is taken apart for `declaration_scan::next_unread`, of which the proof knows its contract alone.
+-- `next_byte` meets its contract: a walk of its MIR, by hand. The cursor is taken apart for
+-- `declaration_scan::next_unread`, of which the proof knows its contract alone.
 -- Assumes nothing.
 use mathlib.Core.Path.{_≡_, refl}
 use Prim.Native.Nat.{ℕ, _<_, _≤_, _^_}
@@ -100,7 +101,8 @@ module _ {M : Type 1} (𝓤 : URA M) (H : Heap 𝓤) (A : Atoms 𝓤) (W : Given
         calls-at ! fm (Unread 𝓤 H A mem run) known to (and-then ! (load ! (from ! (stop !)) (look ! 4 refl)) (and-then ! (load ! (from ! (stop !)) (look ! 2 refl)) (no-more !))) (λ v.
         use1 W (later (some (λ (r : ℕ). ((‵ (flft κ q) ⊛ ‵ ftrue) ⊛ ‵ (usize .own r (v ∷ []))) ⊛ raw (ensured 𝓤 H A unread.ended (unread.clauses 𝓤 H A mem run) (κ, tt) (c .text, (c .at, tt)) tt r)))) (id⊢ 𝓤 _) $ await ! tt $ pick ! (λ r.
         split ! $ move ! (1 ∷ []) $ use1 W (raw (fact 𝓤 (Next r))) (said r) $ heard ! (Next r) (λ e. split ! $ move ! (1 ∷ []) $
-        -- [the byte; the lifetime; what the cursor owns; its place; …; its text; …; the cursor; …; room for the byte; …]
+        -- [the byte; the lifetime; what the cursor owns; its place; …; its text; …; the cursor; …; room for the byte;
+        -- …]
         peeks ! usize (Is usize) (shows 𝓤 H A usize) r (v ∷ []) (λ is′. land ! (from ! (stop !)) (init ! 9 refl (uint-lawful 𝓤 H A W w64 .typed r _ is′ .0)) $
         returns ! (look ! 9 refl) $ forget ! 3 refl $ forget ! 5 refl $ forget ! 7 refl $ forget ! 9 refl $
         move ! (9 ∷ 10 ∷ []) $ free1 ! $ move ! (7 ∷ 8 ∷ []) $ free1 ! $ move ! (5 ∷ 6 ∷ []) $ free1 ! $ move ! (3 ∷ 4 ∷ []) $ free1 ! $ free0 ! $ by ! (exits r v e)))))))))

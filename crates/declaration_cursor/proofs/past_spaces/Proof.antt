@@ -1,4 +1,6 @@
--- `past_spaces` meets its contract: a walk of its MIR, by hand. The cursor is taken apart for `declaration_scan::skip_spaces`, of which the proof knows its contract alone, and its text goes into a new one with the place that was found.
+-- `past_spaces` meets its contract: a walk of its MIR, by hand. The cursor is taken apart for
+-- `declaration_scan::skip_spaces`, of which the proof knows its contract alone, and its text goes into a new one with
+-- the place that was found.
 -- Assumes nothing.
 use mathlib.Core.Path.{_≡_, refl, ap}
 use Prim.Native.Nat.{ℕ, _<_, _≤_, _^_}
@@ -102,7 +104,8 @@ module _ {M : Type 1} (𝓤 : URA M) (H : Heap 𝓤) (A : Atoms 𝓤) (W : Given
         alloc1 ! (λ l₀. alloc1 ! (λ l₁. alloc1 ! (λ l₂. alloc1 ! (λ l₃. alloc1 ! (λ l₄. alloc1 ! (λ l₅. alloc0 ! $ params1 ! $ pass1 ! (init ! 8 refl wt) $ pass0 ! $
         assigns ! (of-opd ! (load ! (from ! (fld ! refl (stop !))) (look-in ! 8 (sub ! 0 refl (all !))))) (from ! (stop !)) (init ! 4 refl (tt, wt .1 .0)) $
         assigns ! (of-opd ! (load ! (from ! (fld ! refl (stop !))) (look-in ! 8 (sub ! 1 refl (all !))))) (from ! (stop !)) (init ! 2 refl (tt, wt .1 .1 .0)) $
-        -- [room for the text again; …; the place; …; the text; …; room for the new place; …; the cursor; …; room for the new cursor; …; what stands on entry]
+        -- [room for the text again; …; the place; …; the text; …; room for the new place; …; the cursor; …; room for
+        -- the new cursor; …; what stands on entry]
         move ! (12 ∷ []) $ use1 W (raw (Skip 𝓤 H A mem run .pre to) ⊛ ‵ Own) (apart within (wt .1 .1 .0 .fits)) $ split ! $
         calls-at ! fm (Skip 𝓤 H A mem run) known to (and-then ! (load ! (from ! (stop !)) (look ! 6 refl)) (and-then ! (load ! (from ! (stop !)) (look ! 4 refl)) (no-more !))) (λ v.
         use1 W (later (some (λ (r : ℕ). ((‵ (flft κ q) ⊛ ‵ ftrue) ⊛ ‵ (usize .own r (v ∷ []))) ⊛ raw (ensured 𝓤 H A skip.ended (skip.clauses 𝓤 H A mem run) (κ, tt) (c .text, (c .at, tt)) tt r)))) (id⊢ 𝓤 _) $ await ! tt $ pick ! (λ r.

@@ -1,5 +1,7 @@
--- `piece_at` meets its contract: a walk of its MIR, by hand. Of the four functions over a cursor that it calls the proof knows their contracts alone.
--- What the first two return is, by their contracts, a cursor that is known whole. The moved cursor is asked for its byte and then for its piece, so what it owns is had twice.
+-- `piece_at` meets its contract: a walk of its MIR, by hand. Of the four functions over a cursor that it calls the
+-- proof knows their contracts alone.
+-- What the first two return is, by their contracts, a cursor that is known whole. The moved cursor is asked for its
+-- byte and then for its piece, so what it owns is had twice.
 -- Assumes nothing.
 use mathlib.Core.Path.{_≡_, refl, subst}
 use Prim.Native.Nat.{ℕ, _<_, _≤_, _^_}
@@ -174,14 +176,16 @@ module _ {M : Type 1} (𝓤 : URA M) (H : Heap 𝓤) (A : Atoms 𝓤) (W : Given
         qed W (raw (onEntry 𝓤 H A f.signature (κ, tt) (q, tt) (x, (n, tt)) vals) ∷ []) ∵ enter ! C Λ code.function (bytes x ∷ vint w64 n ∷ []) _ $
         alloc1 ! (λ l₀. alloc1 ! (λ l₁. alloc1 ! (λ l₂. alloc1 ! (λ l₃. alloc1 ! (λ l₄. alloc1 ! (λ l₅. alloc1 ! (λ l₆. alloc1 ! (λ l₇. alloc0 ! $ params1 ! $
         pass1 ! (init ! 12 refl (shr-slice-lawful 𝓤 H A W (named 0) κ u8 .typed x (bytes x ∷ []) is .0)) $ pass1 ! (init ! 10 refl (tt, record { fits = fits })) $ pass0 ! $
-        -- [_7; …; _6; …; _5; …; _4; …; _3; …; at; …; text; …; room for the piece; …; what stands on entry]: `cursor_at`, into _4
+        -- [_7; …; _6; …; _5; …; _4; …; _3; …; at; …; text; …; room for the piece; …; what stands on entry]:
+        -- `cursor_at`, into _4
         move ! (16 ∷ []) $ use1 W (raw (Make 𝓤 H A mem run .pre to-make) ⊛ ‵ Own) goes-make $ split ! $
         calls-at ! fm (Make 𝓤 H A mem run) known-make to-make (and-then ! (load ! (from ! (stop !)) (look ! 14 refl)) (and-then ! (load ! (from ! (stop !)) (look ! 12 refl)) (no-more !))) (λ u₀.
         use1 W (later (some (λ (c : Cursor). ((‵ (flft κ q) ⊛ ‵ ftrue) ⊛ ‵ (CursorT κ .own c (u₀ ∷ []))) ⊛ raw (ensured 𝓤 H A make.ended (make.clauses 𝓤 H A mem run) (κ, tt) (x, (n, tt)) tt c)))) (id⊢ 𝓤 _) $ await ! tt $ pick ! (λ r₀.
         split ! $ move ! (1 ∷ []) $ use1 W (raw (fact 𝓤 (Made r₀))) (said-make r₀) $ heard ! (Made r₀) (λ e₀.
         split ! $ rewrite ! 1 (λ (c : Cursor). ‵ (CursorT κ .own c (u₀ ∷ []))) (λ i. record { text = e₀ .0 i; at = e₀ .1 i }) refl $ move ! (1 ∷ []) $
         peeks ! (CursorT κ) (Is (CursorT κ)) (shows 𝓤 H A (CursorT κ)) c₀ (u₀ ∷ []) (λ is₀. land ! (from ! (stop !)) (init ! 9 refl (typed 𝓤 H A W κ erased c₀ u₀ is₀)) $
-        -- [what the cursor owns; the lifetime; what text owns; _7; …]: `past_spaces`, into _3, of which _5 and _7 are copies
+        -- [what the cursor owns; the lifetime; what text owns; _7; …]: `past_spaces`, into _3, of which _5 and _7 are
+        -- copies
         move ! (1 ∷ 0 ∷ []) $ use2 W (raw (Past 𝓤 H A mem run .pre (to-past u₀))) (goes-past u₀) $
         calls-at ! fm (Past 𝓤 H A mem run) known-past (to-past u₀) (and-then ! (load ! (from ! (stop !)) (look ! 8 refl)) (no-more !)) (λ u.
         use1 W (later (some (λ (c : Cursor). ((‵ (flft κ q) ⊛ ‵ ftrue) ⊛ ‵ (CursorT κ .own c (u ∷ []))) ⊛ raw (ensured 𝓤 H A past.ended (past.clauses 𝓤 H A mem run) (κ, tt) (c₀, tt) tt c)))) (id⊢ 𝓤 _) $ await ! tt $ pick ! (λ r₁.

@@ -1,4 +1,5 @@
--- `piece_here` meets its contract: a walk of its MIR, by hand. The cursor is taken apart for `declaration_scan::piece_from`, of which the proof knows its contract alone.
+-- `piece_here` meets its contract: a walk of its MIR, by hand. The cursor is taken apart for
+-- `declaration_scan::piece_from`, of which the proof knows its contract alone.
 -- Assumes nothing.
 use mathlib.Core.Path.{_≡_, refl}
 use Prim.Native.Nat.{ℕ, _<_, _≤_, _^_}
@@ -112,7 +113,8 @@ module _ {M : Type 1} (𝓤 : URA M) (H : Heap 𝓤) (A : Atoms 𝓤) (W : Given
         pass1 ! (init ! 8 refl wt) $ pass1 ! (init ! 6 refl (tt, record { fits = start-fits })) $ pass1 ! (init ! 4 refl (tt, record { fits = first-fits })) $ pass0 ! $
         assigns ! (of-opd ! (load ! (from ! (fld ! refl (stop !))) (look-in ! 8 (sub ! 0 refl (all !))))) (from ! (stop !)) (init ! 2 refl (tt, wt .1 .0)) $
         assigns ! (of-opd ! (load ! (from ! (fld ! refl (stop !))) (look-in ! 8 (sub ! 1 refl (all !))))) (from ! (stop !)) (init ! 0 refl (tt, wt .1 .1 .0)) $
-        -- [the cursor's place; …; its text; …; first; …; start; …; the cursor; …; room for the piece; …; what stands on entry]
+        -- [the cursor's place; …; its text; …; first; …; start; …; the cursor; …; room for the piece; …; what stands on
+        -- entry]
         move ! (12 ∷ []) $ use1 W (raw (PieceFrom 𝓤 H A mem run .pre to) ⊛ ‵ Own) (apart begins (wt .1 .1 .0 .fits)) $ split ! $
         calls-at ! fm (PieceFrom 𝓤 H A mem run) known to (and-then ! (load ! (from ! (stop !)) (look ! 4 refl)) (and-then ! (load ! (from ! (stop !)) (look ! 8 refl)) (and-then ! (load ! (from ! (stop !)) (look ! 2 refl)) (and-then ! (load ! (from ! (stop !)) (look ! 6 refl)) (no-more !))))) (λ v.
         use1 W (later (some (λ (p : Piece). ((‵ (flft κ q) ⊛ ‵ ftrue) ⊛ ‵ (S.the-row .own p (v ∷ []))) ⊛ raw (ensured 𝓤 H A piece.ended (piece.clauses 𝓤 H A mem run) (κ, tt) passed tt p)))) (id⊢ 𝓤 _) $ await ! tt $ pick ! (λ p.

@@ -1,4 +1,5 @@
--- `read_factors` meets its contract: the words passed are known, and from the rows so far the tokens from i on give the answer.
+-- `read_factors` meets its contract: the words passed are known, and from the rows so far the tokens from i on give the
+-- answer.
 -- Assumes nothing.
 use Prim.Native.Nat.{ℕ, _-_, _≤_, _<_}
 use mathlib.Core.Path.{_≡_, refl, _∙_}
