@@ -1,276 +1,369 @@
--- The three demands, whole, over the contracts of the five calls open to the outside. The statements to read; their proofs are cited.
--- The hypothesis `call` is what stands under `ensures` of a call, and nothing else is asked of it.
--- Short for: `Read bytes b`, the bytes are the book b; `IsBook bytes`, they are some book; `Reads r p m`, the call was not refused and answered the parent p and the record m;
--- `Writes a w before after`, for the text or refusal a that is due: the call answered `written a`, and the buffer, which held `before`, then holds `bufferAfter before a`.
+-- The three demands, over the five calls open to the outside, the same calls for C, and the program. Each statement
+-- begins with `pub`; what follows, from `unfolding` or the repeated name on, is its proof: skip it. Quotes are from the
+-- demands, which call paper 01 "document 01", and from paper 01.
+-- Each theorem assumes one thing, `call`: the answer is as the call's contract (`ensures`) promises. The prover has shown
+-- that of every answer.
+-- The definitions in crates/demands/specs are to be believed, with those that they cite; docs/TRUST.md has the list.
+-- k = 0 means not refused; `outcomeNumber (r .outcome)` is the number k of an answer r.
 -- Assumes nothing.
-use Prim.Native.Nat.{ℕ, _+_, _≤_, _<_}
-use mathlib.Core.Path.{_≡_, refl, sym, _∙_, ap}
+use Prim.Native.Nat.{ℕ, _≤_, _<_}
+use mathlib.Core.Path.{_≡_, sym, _∙_, ap, subst}
 use mathlib.Core.Bool.{true, false}
-use mathlib.Core.List.{List, []}
-use mathlib.Core.Logic.{_↔_, _⊎_}
-use lib.ListN.{length, take, drop}
-use Rattle.refusal.specs.declared.Refusal.{Refusal}
-use Rattle.refusal.specs.declared.Refusal.the-variants.{BookTooLong, BytesMissing, BadNameCount, BadName, NameNotAbove, NumberNotBelow, BytesLeftOver, BadParent, NoBlock, NotAChain, BadWord, BufferTooShort, NotADeclaration, UnknownName, NameTwice}
-use Rattle.refusal.specs.declared.Outcome.the-variants.{Done, Refused}
-use Rattle.refusal.specs.Table.{numberOf, ofBook}
-use Rattle.refusal.specs.Answer.{given, refused, valueOr}
+use mathlib.Core.List.{List, [], _∷_, _++_, List·Memᴰ, map}
+use mathlib.Core.Logic.{_↔_}
+use lib.ListN.{length, take}
+use Rattle.refusal.specs.Answer.{valueOr, outcomeNumber}
+use Rattle.refusal.proofs.Answers.{outcome-refused}
 use Rattle.nameset.specs.Places.{places}
-use Rattle.book.specs.Book.{Book, longestBook, bookOf, namesIn}
-use Rattle.book.specs.Stops.{countAt, AtName, AtBlock, AtEnd, NameBad, NameLow, BlockBad, Missing, BadCount, Stops}
-use Rattle.book.proofs.Stops.{book-refused}
+use Rattle.book.specs.Book.{Book, IsBook}
+use Rattle.book.specs.Stops.{Whole}
+use Rattle.book.proofs.Stops.{book-whole}
 use Rattle.model.specs.declared.Model.{Model}
-use Rattle.model.specs.Record.{IsChain, emptyModel, dueModel}
+use Rattle.model.specs.Record.{factorOf, modeOf, IsChain, emptyModel, dueModel}
 use Rattle.model.specs.Accept.{Accepts, Names}
-use Rattle.model_language.specs.Word.{AcceptsAll}
-use Rattle.follow.specs.Follow.{followOf}
+use Rattle.model_language.specs.Word.{Point, name, end, Fact}
+use Rattle.model_language.specs.Reach.{Reach}
+use Rattle.follow.specs.Follow.{Follow, followOf, steps}
 use Rattle.follow.specs.Sample.{SameWords}
-use Rattle.chain_levels.specs.Chain.{chainOf}
+use Rattle.chain_levels.specs.Level.{OneGroup, IsLevel, Skipped}
+use Rattle.chain_levels.specs.Reach.{reaches, sameGroup, occurs}
+use Rattle.chain_levels.specs.Rank.{levelOf, lastLevel, skipped}
+use Rattle.chain_levels.proofs.Theorem as Levels
+use Rattle.chain_minimal.specs.Placed.{Placed}
+use Rattle.chain_minimal.proofs.Order.{equal-records}
 use Rattle.chain_sample.specs.Sample.{chainOfWords}
 use Rattle.declaration_spelling.specs.House.{declaration}
 use Rattle.declaration_spelling.specs.Length.{longestDeclaration}
 use Rattle.declaration_spelling.specs.Spelled.{Spelled}
-use Rattle.declaration_spelling.specs.Form.{Form, allForm}
-use Rattle.declaration_spelling.specs.Stops.{HasForm}
-use Rattle.declaration_spelling.specs.Read.{known, numbered, total}
+use Rattle.declaration_spelling.proofs.House.{house-spelled}
+use Rattle.declaration_spelling.proofs.Books.{good-names}
+use Rattle.declaration_spelling.proofs.Theorem as Spelling
 use Rattle.declaration_writing.specs.declared.Written.{Written}
-use Rattle.declaration_writing.specs.Write.{writeAnswer, Writes, written}
+use Rattle.declaration_writing.specs.Write.{written, WritesDeclaration}
 use Rattle.declaration_reading.specs.declared.Declaration.{Declaration}
-use Rattle.declaration_reading.specs.Read.{ReadsDeclaration}
+use Rattle.declaration_reading.specs.Read.{Reads, ReadsDeclaration}
 use Rattle.declaration_reading.proofs.Theorem as Reading
-use Rattle.declaration_reading.proofs.Theorem.{IsBook, Reads}
 use Rattle.intake.specs.declared.Acceptance.{Acceptance}
-use Rattle.intake.specs.declared.Acceptance.the-variants.{Yes, Refused as Stopped}
 use Rattle.intake.specs.declared.Inferred.{Inferred}
-use Rattle.intake.specs.Acceptance.{longest, acceptanceNumber, acceptanceYes, AcceptsWord}
-use Rattle.intake.specs.Inference.{sampleOf, chainIn, modelAnswer, inferred}
-use Rattle.intake.specs.Writing.{sampleText}
-use Rattle.intake.proofs.Theorem.{Passes, yes-exactly}
+use Rattle.intake.specs.Acceptance.{acceptanceNumber, acceptanceYes, Passes, AcceptsWord}
+use Rattle.intake.specs.Inference.{sampleOf, chainIn, modelAnswer, inferred, InfersModel}
+use Rattle.intake.specs.Writing.{WritesSample}
+use Rattle.intake.proofs.Theorem.{yes-exactly}
+use Rattle.intake.proofs.Samples.{no-word, some-word, sample-names}
 use Rattle.intake.proofs.NoBetterModel as Model3
-use Rattle.demands.proofs.Checks.{outcome-refused}
+use Rattle.dtd_output.specs.Output.{lineOf}
+use Rattle.demands_samples.specs.Samples.{lines, lineDeclaration, printedDeclaration}
+use Rattle.demands_samples.proofs.Samples.{marked}
+use Rattle.curlewsong.specs.declared.ModelReply.{ModelReply}
+use Rattle.curlewsong.specs.declared.Verdict.{Verdict}
+use Rattle.curlewsong.specs.declared.LengthReply.{LengthReply}
+use Rattle.curlewsong.specs.declared.TextReply.{TextReply}
+use Rattle.curlewsong.specs.Reply.{modelReply, verdict, lengthReply, textReply, RepliesModel, RepliesWord, RepliesWritten, RepliesSample, RepliesText}
+use Rattle.demands.specs.Conditions.{WordConditions, ModelConditions, WriteConditions, SampleConditions, ReadConditions}
+use Rattle.demands.specs.Results.{Wrote, Asked, Minimal}
 use Rattle.demands.proofs.Refusals as Law
-use Rattle.demands.proofs.Refusals.{Read}
 use Rattle.demands.proofs.Texts as Text
 
--- ---- demand 1, the refusals
+-- ==== demand 1
 
--- That no input whatever makes a call leave its memory, cut a number short or go on for ever is what it means for a function to be proved, and no call has a requirement.
--- That a refusal comes exactly with its condition: one record for each call, number by number. `Refuses f` says that the call was refused for f.
+-- "No book, word, model record or declaration can make a call reach outside its memory, lose part of a number or run
+-- without end": this is what it means that a function is proved, and no call has a requirement. How deep the stack may
+-- be, and what a caller in C does with its own pointers, are outside it (docs/TRUST.md).
 
--- 1 to 7, of every call that takes a book. What stands before the place and what is wrong there is said of the bytes alone, in crates/book/specs/Stops.antt.
-pub record BookRefusals (bytes : List ℕ) (Refuses : Refusal → Type 0) : Type 0 where
-  -- "above 60,000 bytes"
-  pub one : Refuses BookTooLong ↔ (longestBook < length bytes)
-  -- "bytes missing for it, before its value": for the count N, a name, the count M or a block, where all before it was read
-  pub two : Refuses BytesMissing ↔ Missing bytes
-  -- the count N is there, and is "0 or above 64"
-  pub three : Refuses BadNameCount ↔ BadCount bytes
-  -- the names before it were read, and the next one has a "bad length or byte"
-  pub four : Refuses BadName ↔ ((last rest : List ℕ) × AtName bytes last rest × NameBad rest)
-  -- the next one keeps the rule, and is "not above the one before"
-  pub five : Refuses NameNotAbove ↔ ((last rest : List ℕ) × AtName bytes last rest × NameLow last rest)
-  -- the blocks before it were read, and the next one has a parent or a child "not below N"
-  pub six : Refuses NumberNotBelow ↔ ((rest : List ℕ) × AtBlock bytes rest × BlockBad (countAt bytes 0) rest)
-  -- "after the last block: bytes left over"
-  pub seven : Refuses BytesLeftOver ↔ ((rest : List ℕ) × AtEnd bytes rest × (0 < length rest))
+-- "Each refusal in document 01's table is given for its condition and for no other": the records are in
+-- specs/Conditions.
 
--- Acceptance of a word: 3, the count N "when given alone"; 10, "no chain over N names"; 11, "above 255 names, or a number not below N"; each where none before it applies.
-pub record AcceptanceRefusals (n : ℕ) (m : Model) (w : List ℕ) (Refuses : Refusal → Type 0) : Type 0 where
-  pub three : Refuses BadNameCount ↔ (¬ ((0 < n) × (n ≤ places)))
-  pub ten : Refuses NotAChain ↔ ((0 < n) × (n ≤ places) × (¬ IsChain places n m))
-  pub eleven : Refuses BadWord ↔ ((0 < n) × (n ≤ places) × IsChain places n m × (¬ ((length w ≤ longest) × Names n w)))
-  pub no-other : (f : Refusal) → Refuses f → (BadNameCount ≡ f) ⊎ ((NotAChain ≡ f) ⊎ (BadWord ≡ f))
+pub word-refusals : (n : ℕ) (m : Model) (w : List ℕ) (r : Acceptance) (call : AcceptsWord n m w r) →
+    WordConditions n m w (acceptanceNumber r)
+word-refusals n m w r call = subst (WordConditions n m w) (sym (call .number)) (Law.word-conditions n m w)
 
--- The model of a parent, where the bytes are a book: 8, "not below N"; 9, "no block has it".
-pub record ModelRefusals (bytes : List ℕ) (parent : ℕ) (Refuses : Refusal → Type 0) : Type 0 where
-  pub book : BookRefusals bytes Refuses
-  pub eight : Refuses BadParent ↔ ((b : Book) × Read bytes b × (length (b .names) ≤ parent))
-  pub nine : Refuses NoBlock ↔ ((b : Book) × Read bytes b × (parent < length (b .names)) × (sampleOf b parent ≡ []))
-  pub no-other : (f : Refusal) → Refuses f → (ofBook f ≡ true) ⊎ ((BadParent ≡ f) ⊎ (NoBlock ≡ f))
-
--- A declaration written for a record, into a buffer of so many bytes: 8; 10; 12, "shorter than the declaration".
-pub record WriteRefusals (bytes : List ℕ) (parent : ℕ) (m : Model) (room : ℕ) (Refuses : Refusal → Type 0) : Type 0 where
-  pub book : BookRefusals bytes Refuses
-  pub eight : Refuses BadParent ↔ ((b : Book) × Read bytes b × (length (b .names) ≤ parent))
-  pub ten : Refuses NotAChain ↔ ((b : Book) × Read bytes b × (parent < length (b .names)) × (¬ IsChain places (length (b .names)) m))
-  pub twelve : Refuses BufferTooShort ↔
-      ((b : Book) × Read bytes b × (parent < length (b .names)) × IsChain places (length (b .names)) m × (room < length (declaration (b .names) parent m)))
-  pub no-other : (f : Refusal) → Refuses f → (ofBook f ≡ true) ⊎ ((BadParent ≡ f) ⊎ ((NotAChain ≡ f) ⊎ (BufferTooShort ≡ f)))
-
--- A declaration written from the sample: 8; 9; 12, shorter than the declaration of the sample's chain.
-pub record SampleRefusals (bytes : List ℕ) (parent room : ℕ) (Refuses : Refusal → Type 0) : Type 0 where
-  pub book : BookRefusals bytes Refuses
-  pub eight : Refuses BadParent ↔ ((b : Book) × Read bytes b × (length (b .names) ≤ parent))
-  pub nine : Refuses NoBlock ↔ ((b : Book) × Read bytes b × (parent < length (b .names)) × (sampleOf b parent ≡ []))
-  pub twelve : Refuses BufferTooShort ↔
-      ((b : Book) × Read bytes b × (parent < length (b .names)) × (¬ (sampleOf b parent ≡ [])) ×
-      (room < length (declaration (b .names) parent (chainOfWords (length (b .names)) (sampleOf b parent)))))
-  pub no-other : (f : Refusal) → Refuses f → (ofBook f ≡ true) ⊎ ((BadParent ≡ f) ⊎ ((NoBlock ≡ f) ⊎ (BufferTooShort ≡ f)))
-
--- A declaration read: 13, "not the form above"; 14, "a name not in the book"; 15, "a name twice in the model". d is the parent and the factors by which a text has the form.
-pub record ReadRefusals (bytes text : List ℕ) (Refuses : Refusal → Type 0) : Type 0 where
-  pub book : BookRefusals bytes Refuses
-  pub thirteen : Refuses NotADeclaration ↔ (IsBook bytes × ((d : Form) → HasForm text d → ⊥))
-  pub fourteen : Refuses UnknownName ↔ (IsBook bytes × ((d : Form) × HasForm text d × (allForm (known (namesIn bytes)) d ≡ false)))
-  pub fifteen : Refuses NameTwice ↔ (IsBook bytes × ((d : Form) × HasForm text d × (allForm (known (namesIn bytes)) d ≡ true) ×
-      ((x : ℕ) × (x < length (namesIn bytes)) × (1 < total x (numbered (namesIn bytes) (d .factors))))))
-  pub no-other : (f : Refusal) → Refuses f → (ofBook f ≡ true) ⊎ ((NotADeclaration ≡ f) ⊎ ((UnknownName ≡ f) ⊎ (NameTwice ≡ f)))
-
--- The five calls keep to them.
-
-pub acceptance-refusals : (n : ℕ) (m : Model) (w : List ℕ) (r : Acceptance) (call : AcceptsWord n m w r) → AcceptanceRefusals n m w (λ f. r ≡ Stopped f)
-acceptance-refusals n m w r call = record { three = Law.word-3 n m w r call; ten = Law.word-10 n m w r call; eleven = Law.word-11 n m w r call; no-other = Law.word-only n m w r call }
-
-book-rows : (bytes : List ℕ) (Refuses : Refusal → Type 0) → ((f : Refusal) → ofBook f ≡ true → Refuses f ↔ (bookOf bytes ≡ refused f)) → BookRefusals bytes Refuses
-book-rows bytes Refuses law =
-    record {
-      one = row BookTooLong refl;
-      two = row BytesMissing refl;
-      three = row BadNameCount refl;
-      four = row BadName refl;
-      five = row NameNotAbove refl;
-      six = row NumberNotBelow refl;
-      seven = row BytesLeftOver refl;
-    }
-  where
-    row : (f : Refusal) → ofBook f ≡ true → Refuses f ↔ Stops bytes f
-    row f l = (λ h. book-refused bytes f .0 (law f l .0 h), λ h. law f l .1 (book-refused bytes f .1 h))
-
-pub model-refusals : (bytes : List ℕ) (parent : ℕ) (r : Inferred) (call : r ≡ inferred (modelAnswer bytes parent)) → ModelRefusals bytes parent (λ f. r .outcome ≡ Refused f)
-model-refusals bytes parent r call =
-    record {
-      book = book-rows bytes _ (Law.model-1-7 bytes parent r call);
-      eight = Law.model-8 bytes parent r call;
-      nine = Law.model-9 bytes parent r call;
-      no-other = Law.model-only bytes parent r call;
-    }
-
-pub write-refusals : (bytes : List ℕ) (parent : ℕ) (m : Model) (room : ℕ) (w : Written) (call : w ≡ written (writeAnswer bytes parent m room)) →
-    WriteRefusals bytes parent m room (λ f. w .outcome ≡ Refused f)
-write-refusals bytes parent m room w call =
-    record {
-      book = book-rows bytes _ (Law.write-1-7 bytes parent m room w call);
-      eight = Law.write-8 bytes parent m room w call;
-      ten = Law.write-10 bytes parent m room w call;
-      twelve = Law.write-12 bytes parent m room w call;
-      no-other = Law.write-only bytes parent m room w call;
-    }
-
-pub sample-refusals : (bytes : List ℕ) (parent room : ℕ) (w : Written) (call : w ≡ written (sampleText bytes parent room)) →
-    SampleRefusals bytes parent room (λ f. w .outcome ≡ Refused f)
-unfolding chainIn
-sample-refusals bytes parent room w call =
-    record {
-      book = book-rows bytes _ (Law.sample-1-7 bytes parent room w call);
-      eight = Law.sample-8 bytes parent room w call;
-      nine = Law.sample-9 bytes parent room w call;
-      twelve = Law.sample-12 bytes parent room w call;
-      no-other = Law.sample-only bytes parent room w call;
-    }
-
-pub read-refusals : (bytes text : List ℕ) (r : Declaration) (call : ReadsDeclaration bytes text r) → ReadRefusals bytes text (λ f. r .outcome ≡ Refused f)
-read-refusals bytes text r call =
-    record {
-      book = book-rows bytes _ (Reading.read-1-7 bytes text r call);
-      thirteen = Reading.read-13 bytes text r call;
-      fourteen = Reading.read-14 bytes text r call;
-      fifteen = Reading.read-15 bytes text r call;
-      no-other = Reading.read-only bytes text r call;
-    }
-
--- ---- demand 1, what a refused call answers and leaves
-
--- What was lent to a refused call stays as it was: a buffer keeps every byte; all else is lent for reading alone, and the language lets no function change it.
--- It answers no, the empty model, length 0 or parent 0, by what the call was to give.
-
-pub acceptance-due : (r : Acceptance) (f : Refusal) → r ≡ Stopped f → (acceptanceNumber r ≡ numberOf f) × (acceptanceYes r ≡ false)
-unfolding acceptanceNumber acceptanceYes
-acceptance-due r f e = (ap acceptanceNumber e, ap acceptanceYes e)
-
-pub model-due : (bytes : List ℕ) (parent : ℕ) (r : Inferred) (call : r ≡ inferred (modelAnswer bytes parent)) → (f : Refusal) → r .outcome ≡ Refused f → r .model ≡ emptyModel places
+pub model-refusals : (bytes : List ℕ) (parent : ℕ) (r : Inferred) (call : InfersModel bytes parent r) →
+    ModelConditions bytes parent (outcomeNumber (r .outcome))
 unfolding inferred
-model-due bytes parent r call f o =
+model-refusals bytes parent r call = subst (ModelConditions bytes parent)
+    (sym (ap (λ (x : Inferred). outcomeNumber (x .outcome)) call)) (Law.model-conditions bytes parent)
+
+pub write-refusals : (bytes : List ℕ) (parent : ℕ) (m : Model) (w : Written) (before after : List ℕ)
+    (call : WritesDeclaration bytes parent m w before after) →
+    WriteConditions bytes parent m (length before) (outcomeNumber (w .outcome))
+unfolding written
+write-refusals bytes parent m w before after call =
+    subst (WriteConditions bytes parent m (length before))
+    (sym (ap (λ (x : Written). outcomeNumber (x .outcome)) (call .0)))
+    (Law.write-conditions bytes parent m (length before))
+
+pub sample-refusals : (bytes : List ℕ) (parent : ℕ) (w : Written) (before after : List ℕ)
+    (call : WritesSample bytes parent w before after) →
+    SampleConditions bytes parent (length before) (outcomeNumber (w .outcome))
+unfolding written
+sample-refusals bytes parent w before after call =
+    subst (SampleConditions bytes parent (length before))
+    (sym (ap (λ (x : Written). outcomeNumber (x .outcome)) (call .0)))
+    (Law.sample-conditions bytes parent (length before))
+
+pub read-refusals : (bytes text : List ℕ) (r : Declaration) (call : ReadsDeclaration bytes text r) →
+    ReadConditions bytes text (outcomeNumber (r .outcome))
+read-refusals bytes text r call = subst (ReadConditions bytes text) (sym (ap outcomeNumber (call .outcome)))
+    (Law.read-conditions bytes text)
+
+-- Which bytes are a book, and which one, is stated of the bytes too.
+pub book-exactly : (bytes : List ℕ) (b : Book) → IsBook bytes b ↔ Whole bytes b
+book-exactly = book-whole
+
+-- "A refused call changes nothing that it was lent", and answers no, the empty model, length 0 or parent 0 ("a model
+-- due is the empty model; a yes or no due is no, a length or parent number due is 0"). What a call borrows for reading
+-- alone cannot change, by the language.
+
+-- (This one holds by the definition of the number and the yes or no of an answer, so it asks for no call.)
+pub word-kept : (r : Acceptance) → 0 < acceptanceNumber r → acceptanceYes r ≡ false
+word-kept = Text.refused-no
+
+pub model-kept : (bytes : List ℕ) (parent : ℕ) (r : Inferred) (call : InfersModel bytes parent r) →
+    0 < outcomeNumber (r .outcome) → r .model ≡ emptyModel places
+unfolding inferred
+model-kept bytes parent r call l =
+    let (f, o) = Text.refused-by (r .outcome) l in
     let e = outcome-refused (modelAnswer bytes parent) f .0 (sym (ap (λ (x : Inferred). x .outcome) call) ∙ o) in
     ap (λ (x : Inferred). x .model) call ∙ ap (valueOr dueModel) e
 
-pub write-due : (bytes : List ℕ) (parent : ℕ) (m : Model) (w : Written) (before after : List ℕ) (call : Writes (writeAnswer bytes parent m (length before)) w before after) →
-    (f : Refusal) → w .outcome ≡ Refused f → (w .length ≡ 0) × (after ≡ before)
-write-due bytes parent m w before after call = Text.writes-due _ w before after call
+pub write-kept : (bytes : List ℕ) (parent : ℕ) (m : Model) (w : Written) (before after : List ℕ)
+    (call : WritesDeclaration bytes parent m w before after) →
+    0 < outcomeNumber (w .outcome) → (w .length ≡ 0) × (after ≡ before)
+write-kept bytes parent m w before after call = Text.writes-kept _ w before after call
 
-pub sample-due : (bytes : List ℕ) (parent : ℕ) (w : Written) (before after : List ℕ) (call : Writes (sampleText bytes parent (length before)) w before after) →
-    (f : Refusal) → w .outcome ≡ Refused f → (w .length ≡ 0) × (after ≡ before)
-sample-due bytes parent w before after call = Text.writes-due _ w before after call
+pub sample-kept : (bytes : List ℕ) (parent : ℕ) (w : Written) (before after : List ℕ)
+    (call : WritesSample bytes parent w before after) →
+    0 < outcomeNumber (w .outcome) → (w .length ≡ 0) × (after ≡ before)
+sample-kept bytes parent w before after call = Text.writes-kept _ w before after call
 
-pub read-due : (bytes text : List ℕ) (r : Declaration) (call : ReadsDeclaration bytes text r) → (f : Refusal) → r .outcome ≡ Refused f →
+pub read-kept : (bytes text : List ℕ) (r : Declaration) (call : ReadsDeclaration bytes text r) →
+    0 < outcomeNumber (r .outcome) →
     (r .parent ≡ 0) × (r .model ≡ emptyModel places)
-read-due = Reading.refused-due
+read-kept bytes text r call l = let (f, o) = Text.refused-by (r .outcome) l in Reading.refused-due bytes text r call f o
 
--- A call that has written answers the length, and the buffer's bytes behind it are as they were.
+-- ==== demand 2
 
-pub write-past : (bytes : List ℕ) (parent : ℕ) (m : Model) (w : Written) (before after : List ℕ) (call : Writes (writeAnswer bytes parent m (length before)) w before after) →
-    w .outcome ≡ Done → drop (w .length) after ≡ drop (w .length) before
-write-past = Text.written-past
+-- "A word is accepted exactly when XML 1.0, section 3.2, lets the model match it": the call says yes exactly when
+-- nothing stops it and the word is a joining of one part for each factor of the model, in order.
+pub accepted-exactly : (n : ℕ) (m : Model) (w : List ℕ) (r : Acceptance) (call : AcceptsWord n m w r) →
+    (acceptanceYes r ≡ true) ↔ (Passes n m w × Accepts m w)
+accepted-exactly n m w r call = let h = yes-exactly n m w r call in (λ e. h .0 (Text.yes-by r e), λ p. Text.by-yes r (h .1 p))
 
-pub sample-past : (bytes : List ℕ) (parent : ℕ) (w : Written) (before after : List ℕ) (call : Writes (sampleText bytes parent (length before)) w before after) →
-    w .outcome ≡ Done → drop (w .length) after ≡ drop (w .length) before
-sample-past = Text.sample-past
+-- What a call that writes has done where it was not refused: the front of the buffer is the canonical form. From the
+-- sample it is that of the model x which the call for the model answers.
+pub write-done : (bytes : List ℕ) (parent : ℕ) (m : Model) (w : Written) (before after : List ℕ)
+    (call : WritesDeclaration bytes parent m w before after) →
+    outcomeNumber (w .outcome) ≡ 0 → (b : Book) × IsBook bytes b × Wrote (b .names) parent m (w .length) before after
+write-done = Text.write-done
 
--- ---- demand 2
+pub sample-done : (bytes : List ℕ) (parent : ℕ) (w : Written) (before after : List ℕ)
+    (call : WritesSample bytes parent w before after) → outcomeNumber (w .outcome) ≡ 0 →
+    (x : Inferred) → InfersModel bytes parent x → (b : Book) × IsBook bytes b × Wrote (b .names) parent (x .model)
+    (w .length) before after
+sample-done bytes parent w before after call z x asked = Text.write-done bytes parent (x .model) w before after (Text.as-written bytes parent w before after call z x asked) z
 
--- Acceptance is matching as XML 1.0 has it in section 3.2: the call says yes exactly when no check stops it and the word is a joining of one part for each factor of the model
--- in order.
-pub accepted-exactly : (n : ℕ) (m : Model) (w : List ℕ) (r : Acceptance) (call : AcceptsWord n m w r) → (r ≡ Yes) ↔ (Passes n m w × Accepts m w)
-accepted-exactly = yes-exactly
-
--- What is written reads back: what the call that writes left in the buffer, up to the length that it answered, is read as the same parent and record.
-pub written-reads-back : (bytes : List ℕ) (parent : ℕ) (m : Model) (w : Written) (before after : List ℕ) (call : Writes (writeAnswer bytes parent m (length before)) w before after) →
-    w .outcome ≡ Done → (r : Declaration) → ReadsDeclaration bytes (take (w .length) after) r → Reads r parent m
+-- "A model written as a declaration reads back as the same model."
+pub written-reads-back : (bytes : List ℕ) (parent : ℕ) (m : Model) (w : Written) (before after : List ℕ)
+    (call : WritesDeclaration bytes parent m w before after) →
+    outcomeNumber (w .outcome) ≡ 0 → (r : Declaration) → ReadsDeclaration bytes (take (w .length) after) r →
+    Reads r parent m
 written-reads-back = Text.written-reads-back
 
--- What the call that writes from the sample left there reads back as the parent and the model that the call for it answers.
-pub sample-reads-back : (bytes : List ℕ) (parent : ℕ) (w : Written) (before after : List ℕ) (call : Writes (sampleText bytes parent (length before)) w before after) → w .outcome ≡ Done →
-    (x : Inferred) → x ≡ inferred (modelAnswer bytes parent) → (r : Declaration) → ReadsDeclaration bytes (take (w .length) after) r → Reads r parent (x .model)
-sample-reads-back = Text.sample-reads-back
+pub sample-reads-back : (bytes : List ℕ) (parent : ℕ) (w : Written) (before after : List ℕ)
+    (call : WritesSample bytes parent w before after) → outcomeNumber (w .outcome) ≡ 0 →
+    (x : Inferred) → InfersModel bytes parent x → (r : Declaration) →
+    ReadsDeclaration bytes (take (w .length) after) r → Reads r parent (x .model)
+sample-reads-back bytes parent w before after call z x asked =
+    Text.written-reads-back bytes parent (x .model) w before after (Text.as-written bytes parent w before after call z x asked) z
 
--- What is read is a spelling: a text is read as this parent and this record exactly when it is a spelling of them that paper 01 allows and the record is a chain; and what was read
--- is then written, wherever there is room for the longest declaration.
-pub read-exactly : (bytes text : List ℕ) (r : Declaration) (call : ReadsDeclaration bytes text r) (parent : ℕ) (m : Model) →
-    Reads r parent m ↔ (IsBook bytes × Spelled (namesIn bytes) text parent m × IsChain places (length (namesIn bytes)) m)
+-- "A text is read exactly when it is a spelling, allowed by document 01, of the declaration then written": it is read
+-- as the parent p and the record m exactly when it is a spelling of them, and what was read is then written.
+pub read-exactly : (bytes text : List ℕ) (r : Declaration) (call : ReadsDeclaration bytes text r) (p : ℕ) (m : Model) →
+    Reads r p m ↔ ((b : Book) × IsBook bytes b × Spelled places (b .names) text p m)
 read-exactly = Reading.read-exactly
 
-pub read-writes : (bytes text : List ℕ) (r : Declaration) (call : ReadsDeclaration bytes text r) (room : ℕ) → longestDeclaration ≤ room → r .outcome ≡ Done →
-    writeAnswer bytes (r .parent) (r .model) room ≡ given (declaration (namesIn bytes) (r .parent) (r .model))
-read-writes = Reading.read-writes
+pub read-writes : (bytes text : List ℕ) (r : Declaration) (call : ReadsDeclaration bytes text r) →
+    outcomeNumber (r .outcome) ≡ 0 →
+    (w : Written) (before after : List ℕ) → WritesDeclaration bytes (r .parent) (r .model) w before after →
+    longestDeclaration ≤ length before →
+    (b : Book) × IsBook bytes b ×
+    ((outcomeNumber (w .outcome) ≡ 0) × Wrote (b .names) (r .parent) (r .model) (w .length) before after)
+read-writes = Text.read-writes
 
--- ---- demand 3
+-- The canonical form is one of the spellings, and no text is a spelling of two declarations.
+pub canonical-spelled : (bytes : List ℕ) (b : Book) → IsBook bytes b → (p : ℕ) (m : Model) → p < length (b .names) →
+    IsChain places (length (b .names)) m →
+    Spelled places (b .names) (declaration (b .names) p m) p m
+canonical-spelled bytes b read p m = house-spelled places (b .names) p m (good-names bytes b read .small)
 
--- The call for a parent's model was made with bytes that are the book b, which has a block of the parent: its sample is not empty.
-pub record Asked (bytes : List ℕ) (parent : ℕ) (r : Inferred) (b : Book) : Type 0 where
-  pub call : r ≡ inferred (modelAnswer bytes parent)
-  pub read : bookOf bytes ≡ given b
-  pub block : ¬ (sampleOf b parent ≡ [])
+pub spelled-once : (bytes : List ℕ) (b : Book) → IsBook bytes b → (text : List ℕ) (p q : ℕ) (m k : Model) →
+    Spelled places (b .names) text p m → Spelled places (b .names) text q k → (p ≡ q) × (m ≡ k)
+spelled-once bytes b read = Spelling.spelled-once places (b .names) (good-names bytes b read)
 
--- The model is a chain over the book's names that accepts every word of the sample, and any other such chain accepts a word that the model does not: the word is handed over.
--- Two chains are the same exactly when their records are equal.
+-- ==== demand 3
+
+-- "Whatever words a parent's non-empty sample holds, in whatever order and however often", for every book that is not
+-- refused and every parent with a block in it: the call is not refused, and its model is minimal (specs/Results).
 pub no-better-model : (bytes : List ℕ) (parent : ℕ) (r : Inferred) (b : Book) → Asked bytes parent r b →
-    (r .outcome ≡ Done) × IsChain places (length (b .names)) (r .model) × AcceptsAll (r .model) (sampleOf b parent) ×
-    ((other : Model) → IsChain places (length (b .names)) other → AcceptsAll other (sampleOf b parent) → ¬ (other ≡ r .model) →
-    (w : List ℕ) × Accepts other w × (¬ Accepts (r .model) w) × (length w ≤ other .count + 1) × Names (length (b .names)) w)
+    (outcomeNumber (r .outcome) ≡ 0) × Minimal (length (b .names)) (r .model) (sampleOf b parent)
 no-better-model bytes parent r b a = (
-  Model3.not-refused bytes parent r (a .call) b (a .read) (a .block),
-  Model3.is-chain bytes parent r (a .call) b (a .read) (a .block),
-  Model3.accepts-sample bytes parent r (a .call) b (a .read) (a .block),
-  Model3.no-better bytes parent r (a .call) b (a .read) (a .block),
+  ap outcomeNumber (Model3.not-refused bytes parent r (a .call) b (a .read) (a .block)),
+  record {
+    chain = Model3.is-chain bytes parent r (a .call) b (a .read) (a .block);
+    accepts = Model3.accepts-sample bytes parent r (a .call) b (a .read) (a .block);
+    no-better = Model3.no-better bytes parent r (a .call) b (a .read) (a .block);
+  },
 )
 
--- The record is the chain that paper 01's levels give.
+-- "Two chain expressions are the same exactly when they have the same factors in the same order with the same marks",
+-- and, in paper 01, "exactly when the records are equal".
+pub same-exactly : (n : ℕ) (one other : Model) → IsChain places n one → IsChain places n other →
+    (one ≡ other) ↔
+    ((one .count ≡ other .count) × ((x : ℕ) → factorOf one x ≡ factorOf other x) × ((i : ℕ) → modeOf one i ≡ modeOf other i))
+same-exactly n one other c d = (
+  λ e. (ap (λ (m : Model). m .count) e, λ x. ap (λ (m : Model). factorOf m x) e, λ i. ap (λ (m : Model). modeOf m i) e),
+  λ (counts, factors, modes). equal-records places n one other c d counts factors modes,
+)
+
+-- "That record is the chain which the levels above give": its factors, their order and their modes are those of the
+-- levels, over the steps that the words of the sample show; and it is the only chain of which that holds.
+pub model-is-placed : (bytes : List ℕ) (parent : ℕ) (r : Inferred) (b : Book) → Asked bytes parent r b →
+    Placed (Fact (sampleOf b parent)) (r .model)
+model-is-placed bytes parent r b a = Model3.is-placed bytes parent r (a .call) b (a .read) (a .block)
+
+pub only-placed : (bytes : List ℕ) (parent : ℕ) (r : Inferred) (b : Book) → Asked bytes parent r b →
+    (m : Model) → IsChain places (length (b .names)) m → Placed (Fact (sampleOf b parent)) m → m ≡ r .model
+only-placed bytes parent r b a = Model3.only-placed bytes parent r (a .call) b (a .read) (a .block)
+
+-- The executable definition of the same chain, which the code is proved to compute. (`chainOfWords` is `chainOf` of the
+-- words' follow facts.)
 pub model-is-chain : (bytes : List ℕ) (parent : ℕ) (r : Inferred) (b : Book) → Asked bytes parent r b →
-    r .model ≡ chainOf places (followOf (length (b .names)) (sampleOf b parent))
-unfolding chainOfWords
+    r .model ≡ chainOfWords (length (b .names)) (sampleOf b parent)
 model-is-chain bytes parent r b a = sym (Model3.model-is bytes parent r (a .call) b (a .read) (a .block))
 
--- Neither the order of the words nor how often one comes matters: samples of the same words, over as many names, have the same model.
+-- A reader may skip the laws from here to `skipped-law`: they join executable definitions to the specified ones.
+-- What is computed on the way is what paper 01 says: the follow facts, who occurs, who reaches whom, the loop groups,
+-- the levels of names and of the end, the skipped levels.
+module _ (bytes : List ℕ) (parent : ℕ) (r : Inferred) (b : Book) (a : Asked bytes parent r b) where
+  abbrev words : List (List ℕ)
+  words = sampleOf b parent
+
+  abbrev facts : Follow
+  facts = followOf (length (b .names)) words
+
+  names : (w : List ℕ) → List·Memᴰ w words → Names (length (b .names)) w
+  names = sample-names bytes b (a .read) parent
+
+  pub follow-law : (u v : Point) → steps facts u v ↔ Fact words u v
+  follow-law = Levels.follow-law (length (b .names)) words names
+
+  pub occurs-law : (x : ℕ) → (occurs facts x ≡ true) ↔ ((w : List ℕ) × List·Memᴰ w words × List·Memᴰ x w)
+  occurs-law = Levels.occurs-law (length (b .names)) words names
+
+  pub reach-law : (x y : ℕ) → (reaches facts x y ≡ true) ↔ Reach (Fact words) x y
+  reach-law = Levels.reach-law (length (b .names)) words names
+
+  pub group-law : (x y : ℕ) → (sameGroup facts x y ≡ true) ↔ OneGroup (Fact words) (name x) (name y)
+  group-law = Levels.group-law (length (b .names)) words names
+
+  pub level-law : (x : ℕ) → occurs facts x ≡ true → IsLevel (Fact words) (name x) (levelOf facts x)
+  level-law = Levels.level-law (length (b .names)) words names (a .block)
+
+  pub last-law : IsLevel (Fact words) end (lastLevel facts)
+  last-law = Levels.last-law (length (b .names)) words names (a .block)
+
+  -- "Every level from 1 to L - 1 has a point."
+  pub filled-law : (l last : ℕ) → IsLevel (Fact words) end last → 0 < l → l < last → (x : ℕ) × IsLevel (Fact words) (name x) l
+  filled-law = Levels.filled-law (length (b .names)) words names (a .block)
+
+  pub skipped-law : (l : ℕ) → (skipped facts l ≡ true) ↔ Skipped (Fact words) l
+  skipped-law = Levels.skipped-law (length (b .names)) words names (a .block)
+
+-- "In whatever order and however often": samples of the same words, over as many names, have the same model.
 pub same-model : (s t : List ℕ) (p q : ℕ) (x y : Inferred) (b c : Book) → Asked s p x b → Asked t q y c →
     length (b .names) ≡ length (c .names) → SameWords (sampleOf b p) (sampleOf c q) → x .model ≡ y .model
 same-model s t p q x y b c one other names same =
     sym (Model3.model-is s p x (one .call) b (one .read) (one .block)) ∙ ap (λ (n : ℕ). chainOfWords n (sampleOf b p)) names
-    ∙ Model3.same-sample (length (c .names)) (sampleOf b p) (sampleOf c q) same ∙ Model3.model-is t q y (other .call) c (other .read) (other .block)
+    ∙ Model3.same-sample (length (c .names)) (sampleOf b p)
+    (sampleOf c q) same ∙ Model3.model-is t q y (other .call) c (other .read) (other .block)
+
+-- "Marked * means proved": the twelve lines of paper 01's table, as printed.
+pub marked-samples : map lineDeclaration lines ≡ map printedDeclaration lines
+marked-samples = marked
+
+-- ==== the program
+
+-- "It prints, for each parent with a block, in rising number, its declaration and a line feed" (`outputOf` in
+-- crates/dtd_output/specs/Output.antt): the declaration has the model that the call for it answers.
+pub program-line : (bytes : List ℕ) (parent : ℕ) (r : Inferred) (b : Book) → Asked bytes parent r b →
+    lineOf b parent ≡ declaration (b .names) parent (r .model) ++ (10 ∷ [])
+unfolding lineOf chainIn
+program-line bytes parent r b a =
+    rw (some-word (sampleOf b parent) .1 (a .block))
+    (ap (λ (m : Model). declaration (b .names) parent m ++ (10 ∷ [])) (Model3.model-is bytes parent r (a .call) b (a .read) (a .block)))
+
+pub program-no-line : (b : Book) (parent : ℕ) → sampleOf b parent ≡ [] → lineOf b parent ≡ []
+unfolding lineOf
+program-no-line b parent e = rw (no-word (sampleOf b parent) .1 e)
+
+-- ==== the calls for C and Rust
+
+-- Each of these makes the call in Rattle and passes on its answer as a struct r of C. Stated of r, one after another: its
+-- number and when it is given; the rest of r where the call was refused; the rest of r where it was not.
+
+pub c-word : (n : ℕ) (m : Model) (w : List ℕ) (r : Verdict) (call : RepliesWord n m w r) →
+    WordConditions n m w (r .refusal) × (0 < r .refusal → r .yes ≡ false) ×
+    ((r .yes ≡ true) ↔ (Passes n m w × Accepts m w))
+unfolding verdict
+c-word n m w r (x, call, e) =
+    subst (λ (v : Verdict). WordConditions n m w (v .refusal) × (0 < v .refusal → v .yes ≡ false) × ((v .yes ≡ true) ↔ (Passes n m w × Accepts m w))) (sym e)
+    (word-refusals n m w x call, word-kept x, accepted-exactly n m w x call)
+
+pub c-model : (bytes : List ℕ) (parent : ℕ) (r : ModelReply) (call : RepliesModel bytes parent r) →
+    ModelConditions bytes parent (r .refusal) × (0 < r .refusal → r .model ≡ emptyModel places) ×
+    ((b : Book) → IsBook bytes b → ¬ (sampleOf b parent ≡ []) →
+    (r .refusal ≡ 0) × Minimal (length (b .names)) (r .model) (sampleOf b parent) × Placed (Fact (sampleOf b parent)) (r .model))
+unfolding modelReply
+c-model bytes parent r (x, call, e) =
+    subst (λ (v : ModelReply). ModelConditions bytes parent (v .refusal) × (0 < v .refusal → v .model ≡ emptyModel places) ×
+    ((b : Book) → IsBook bytes b → ¬ (sampleOf b parent ≡ []) →
+    (v .refusal ≡ 0) × Minimal (length (b .names)) (v .model) (sampleOf b parent) × Placed (Fact (sampleOf b parent)) (v .model))) (sym e) (
+      model-refusals bytes parent x call,
+      model-kept bytes parent x call,
+      λ b q d.
+          let a : Asked bytes parent x b = record { call = call; read = q; block = d } in
+          let n = no-better-model bytes parent x b a in (n .0, n .1, model-is-placed bytes parent x b a),
+    )
+
+pub c-write : (bytes : List ℕ) (parent : ℕ) (m : Model) (r : LengthReply) (before after : List ℕ)
+    (call : RepliesWritten bytes parent m r before after) →
+    WriteConditions bytes parent m (length before) (r .refusal) ×
+    (0 < r .refusal → (r .length ≡ 0) × (after ≡ before)) ×
+    (r .refusal ≡ 0 → (b : Book) × IsBook bytes b × Wrote (b .names) parent m (r .length) before after)
+unfolding lengthReply
+c-write bytes parent m r before after (x, call, e) =
+    subst (λ (v : LengthReply). WriteConditions bytes parent m (length before) (v .refusal) × (0 < v .refusal → (v .length ≡ 0) × (after ≡ before)) ×
+    (v .refusal ≡ 0 → (b : Book) × IsBook bytes b × Wrote (b .names) parent m (v .length) before after)) (sym e)
+    (write-refusals bytes parent m x before after call, write-kept bytes parent m x before after call, write-done bytes parent m x before after call)
+
+pub c-sample : (bytes : List ℕ) (parent : ℕ) (r : LengthReply) (before after : List ℕ)
+    (call : RepliesSample bytes parent r before after) →
+    SampleConditions bytes parent (length before) (r .refusal) × (0 < r .refusal → (r .length ≡ 0) × (after ≡ before)) ×
+    (r .refusal ≡ 0 → (y : Inferred) → InfersModel bytes parent y → (b : Book) × IsBook bytes b × Wrote (b .names) parent (y .model) (r .length) before after)
+unfolding lengthReply
+c-sample bytes parent r before after (x, call, e) =
+    subst (λ (v : LengthReply). SampleConditions bytes parent (length before) (v .refusal) × (0 < v .refusal → (v .length ≡ 0) × (after ≡ before)) ×
+    (v .refusal ≡ 0 → (y : Inferred) → InfersModel bytes parent y → (b : Book) × IsBook bytes b × Wrote (b .names) parent (y .model) (v .length) before after)) (sym e)
+    (sample-refusals bytes parent x before after call, sample-kept bytes parent x before after call, sample-done bytes parent x before after call)
+
+pub c-read : (bytes text : List ℕ) (r : TextReply) (call : RepliesText bytes text r) →
+    ReadConditions bytes text (r .refusal) × (0 < r .refusal → (r .parent ≡ 0) × (r .model ≡ emptyModel places)) ×
+    ((p : ℕ) (m : Model) → ((r .refusal ≡ 0) × (r .parent ≡ p) × (r .model ≡ m)) ↔
+    ((b : Book) × IsBook bytes b × Spelled places (b .names) text p m))
+unfolding textReply
+c-read bytes text r (x, call, e) =
+    subst (λ (v : TextReply). ReadConditions bytes text (v .refusal) ×
+    (0 < v .refusal → (v .parent ≡ 0) × (v .model ≡ emptyModel places)) ×
+    ((p : ℕ) (m : Model) → ((v .refusal ≡ 0) × (v .parent ≡ p) × (v .model ≡ m)) ↔
+    ((b : Book) × IsBook bytes b × Spelled places (b .names) text p m))) (sym e)
+    (read-refusals bytes text x call, read-kept bytes text x call, λ p m. Text.read-number bytes text x call p m)

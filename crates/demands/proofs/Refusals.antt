@@ -1,23 +1,24 @@
--- Demand 1: each refusal is given for its condition and for no other. One law for each number of each call, one for 1 to 7, which are those of `bookOf`, and one that says that
--- no other number is given; the laws of reading a declaration stand in crates/declaration_reading/proofs/Theorem.antt. Demands.antt has their statements together.
+-- Demand 1: each refusal is given for its condition and for no other, by the definition of each call's answer.
+-- Demands.antt says it of the calls.
 -- Assumes nothing.
 use Prim.Native.Nat.{ℕ, _≤_, _<_}
-use mathlib.Core.Path.{_≡_, refl, sym, _∙_, ap}
-use mathlib.Core.Bool.{Bool, true, false, not, false≢true}
+use mathlib.Core.Path.{_≡_, refl, sym, _∙_, ap, subst}
+use mathlib.Core.Bool.{Bool, true, false, not}
 use mathlib.Core.List.{List, []}
-use mathlib.Core.Logic.{_↔_, _⊎_, ⊎-map}
-use native.Mathlib.Omega.{arith}
+use mathlib.Core.Logic.{_↔_, _⊎_, inl, inr, ⊎-elim}
 use lib.Dec.{ltb}
 use lib.ListN.{length}
 use borrow.Author.Tests.{lt-ltb, le-ltb, ltb-true, ltb-false, not-true, not-false}
 use Rattle.refusal.specs.declared.Refusal.{Refusal}
-use Rattle.refusal.specs.declared.Refusal.the-variants.{BadNameCount, BadParent, NoBlock, NotAChain, BadWord, BufferTooShort}
-use Rattle.refusal.specs.declared.Outcome.the-variants.{Refused}
-use Rattle.refusal.specs.Table.{ofBook}
-use Rattle.refusal.specs.Answer.{Answer, given, refused, onward, refuseIf, outcomeOf}
+use Rattle.refusal.specs.declared.Refusal.the-variants.{BookTooLong, BytesMissing, BadNameCount, BadName, NameNotAbove, NumberNotBelow, BytesLeftOver, BadParent, NoBlock, NotAChain, BadWord, BufferTooShort, NotADeclaration, UnknownName, NameTwice}
+use Rattle.refusal.specs.Table.{numberOf, ofBook}
+use Rattle.refusal.specs.Answer.{Answer, given, refused, onward, refuseIf, answerNumber}
 use Rattle.nameset.specs.Places.{places, goodCount}
-use Rattle.nameset.proofs.Count.{count-bounds, bounds-count}
-use Rattle.book.specs.Book.{Book, bookOf}
+use Rattle.nameset.proofs.Count.{count-bounds, bounds-count, count-bad}
+use Rattle.book.specs.Book.{Book, bookOf, IsBook}
+use Rattle.book.specs.Stops.{Stops}
+use Rattle.book.proofs.Stops.{book-refused}
+use Rattle.book.proofs.Onward.{book-given, book-first, book-or-later}
 use Rattle.model.specs.declared.Model.{Model}
 use Rattle.model.specs.Record.{IsChain}
 use Rattle.model.specs.Check.{isChain}
@@ -25,184 +26,228 @@ use Rattle.model.specs.Accept.{Names}
 use Rattle.model.specs.Run.{accepts}
 use Rattle.model.proofs.Chain.{chain-law}
 use Rattle.declaration_spelling.specs.House.{declaration}
-use Rattle.declaration_writing.specs.declared.Written.{Written}
-use Rattle.declaration_writing.specs.Write.{fitted, writeAnswer, written}
-use Rattle.intake.specs.declared.Acceptance.{Acceptance}
-use Rattle.intake.specs.declared.Acceptance.the-variants.{Refused as Stopped}
-use Rattle.intake.specs.declared.Inferred.{Inferred}
-use Rattle.intake.specs.Acceptance.{badModel, longest, badWord, answerOf, acceptance, AcceptsWord}
-use Rattle.intake.specs.Inference.{sampleOf, noWord, badParent, chainIn, modelIn, modelAnswer, inferred}
+use Rattle.declaration_spelling.specs.Spelled.{Spelled}
+use Rattle.declaration_spelling.specs.Read.{Declared, declared, readText}
+use Rattle.declaration_spelling.proofs.Books.{good-names}
+use Rattle.declaration_spelling.proofs.Theorem as Spelling
+use Rattle.declaration_writing.specs.Write.{fitted, writeAnswer}
+use Rattle.declaration_reading.specs.Read.{readAnswer}
+use Rattle.declaration_reading.proofs.Theorem as Reading
+use Rattle.intake.specs.Acceptance.{badModel, longestWord, badWord, answerOf, Passes}
+use Rattle.intake.specs.Inference.{sampleOf, noWord, badParent, chainIn, modelIn, modelAnswer}
 use Rattle.intake.specs.Writing.{sampleText}
-use Rattle.intake.proofs.Theorem.{good-word, word-good}
+use Rattle.intake.proofs.Theorem.{good-word, word-good, bad-word}
 use Rattle.intake.proofs.Samples.{no-word, some-word}
-use Rattle.demands.proofs.Checks.{outcome-refused, late, early, own, own-or-next, book-or-next, fails, first-stops, second-stops, third-stops, one-of}
+use Rattle.demands.specs.Conditions.{OfBook, InRange, BookConditions, WordConditions, ModelConditions, WriteConditions, sampleDeclaration, SampleConditions, ReadConditions}
+use Rattle.demands.proofs.Checks.{other, own-check, next-check, pass-check, last-check, avoids, own, own-or-next, no-refusal, in-book, in-given, row, row-0, number-only, fails}
 
 -- ---- what the tests mean
 
 below-law : (p n : ℕ) → (ltb p n ≡ true) ↔ (p < n)
 below-law p n = (ltb-true p n, lt-ltb p n)
 
-above-law : (p n : ℕ) → (not (ltb p n) ≡ true) ↔ (n ≤ p)
-above-law p n = (λ e. ltb-false p n (not-true (ltb p n) e), λ h. rw (le-ltb p n h))
+at-most-law : (p n : ℕ) → (ltb p n ≡ false) ↔ (n ≤ p)
+at-most-law p n = (ltb-false p n, le-ltb p n)
 
-not-above : (p n : ℕ) → (not (ltb p n) ≡ false) ↔ (p < n)
-not-above p n = (λ e. ltb-true p n (not-false (ltb p n) e), λ h. rw (lt-ltb p n h))
+-- a test turned round
+turned : {P : Type 0} (t : Bool) → (t ≡ false) ↔ P → (not t ≡ true) ↔ P
+turned t h = (λ e. h .0 (not-true t e), λ p. ap not (h .1 p))
+
+turned-back : {P : Type 0} (t : Bool) → (t ≡ true) ↔ P → (not t ≡ false) ↔ P
+turned-back t h = (λ e. h .0 (not-false t e), λ p. ap not (h .1 p))
+
+no-parent : (p n : ℕ) → (not (ltb p n) ≡ true) ↔ (n ≤ p)
+no-parent p n = turned (ltb p n) (at-most-law p n)
+
+has-parent : (p n : ℕ) → (not (ltb p n) ≡ false) ↔ (p < n)
+has-parent p n = turned-back (ltb p n) (below-law p n)
 
 not-chain : (n : ℕ) (m : Model) → (not (isChain places n m) ≡ true) ↔ (¬ IsChain places n m)
-not-chain n m = let h = fails (isChain places n m) (chain-law places n m) in (λ e. h .0 (not-true (isChain places n m) e), λ d. ap not (h .1 d))
+not-chain n m = turned (isChain places n m) (fails (isChain places n m) (chain-law places n m))
 
 is-chain : (n : ℕ) (m : Model) → (not (isChain places n m) ≡ false) ↔ IsChain places n m
-is-chain n m = (λ e. chain-law places n m .0 (not-false (isChain places n m) e), λ c. ap not (chain-law places n m .1 c))
+is-chain n m = turned-back (isChain places n m) (chain-law places n m)
+
+count-law : (n : ℕ) → (goodCount n ≡ true) ↔ InRange n
+count-law n = (count-bounds n, λ h. bounds-count n (h .0) (h .1))
+
+-- ---- 1 to 7
+
+book-rows : {A : Type 0} (bytes : List ℕ) (a : Answer A) → ((f : Refusal) → ofBook f ≡ true → (a ≡ refused f) ↔ (bookOf bytes ≡ refused f)) → BookConditions bytes (answerNumber a)
+book-rows bytes a law =
+    record {
+      one = at BookTooLong refl;
+      two = at BytesMissing refl;
+      three = at BadNameCount refl;
+      four = at BadName refl;
+      five = at NameNotAbove refl;
+      six = at NumberNotBelow refl;
+      seven = at BytesLeftOver refl;
+    }
+  where
+    at : (f : Refusal) → ofBook f ≡ true → (answerNumber a ≡ numberOf f) ↔ Stops bytes f
+    at f l = row a f (λ e. book-refused bytes f .0 (law f l .0 e), λ h. law f l .1 (book-refused bytes f .1 h))
+
+-- ---- acceptance of a word
+
+module _ (n : ℕ) (m : Model) (w : List ℕ) where
+  some-names : (not (goodCount n) ≡ false) ↔ InRange n
+  some-names = turned-back (goodCount n) (count-law n)
+
+  passes : {K : Type 0} → K ↔ (InRange n × (IsChain places n m × ((length w ≤ longestWord) × Names n w))) → K ↔ Passes n m w
+  passes h = (
+    λ k. let ((a, b), (c, (d, e))) = h .0 k in record { some = a; few = b; chain = c; short = d; names = e },
+    λ p. h .1 ((p .some, p .few), (p .chain, (p .short, p .names))),
+  )
+
+  word-only : (f : Refusal) → answerOf n m w ≡ refused f → (numberOf f ≡ 3) ⊎ ((numberOf f ≡ 10) ⊎ (numberOf f ≡ 11))
+  unfolding answerOf
+  word-only f e =
+      ⊎-elim (λ z. inl (ap numberOf (sym z)))
+      (λ h. inr (⊎-elim (λ z. inl (ap numberOf (sym z))) (λ k. inr (ap numberOf (sym (own (badWord n w) BadWord _ f k)))) (own-or-next (badModel n m) NotAChain _ f h)))
+      (own-or-next (not (goodCount n)) BadNameCount _ f e)
+
+  pub word-conditions : WordConditions n m w (answerNumber (answerOf n m w))
+  unfolding answerOf badModel
+  word-conditions =
+      let t₁ = not (goodCount n) in
+      let t₂ = not (isChain places n m) in
+      let t₃ = badWord n w in
+      let a₃ = given (accepts m w) in
+      let a₂ = refuseIf t₃ BadWord a₃ in
+      let a₁ = refuseIf t₂ NotAChain a₂ in
+      let a = refuseIf t₁ BadNameCount a₁ in
+      record {
+        three =
+            row a BadNameCount
+            (own-check t₁ BadNameCount a₁ (turned (goodCount n) (count-bad n))
+            (avoids t₂ NotAChain a₂ BadNameCount (other NotAChain BadNameCount refl) (avoids t₃ BadWord a₃ BadNameCount (other BadWord BadNameCount refl) (no-refusal _ _))));
+        ten =
+            row a NotAChain
+            (next-check t₁ BadNameCount a₁ NotAChain (other BadNameCount NotAChain refl) some-names
+            (own-check t₂ NotAChain a₂ (not-chain n m) (avoids t₃ BadWord a₃ NotAChain (other BadWord NotAChain refl) (no-refusal _ _))));
+        eleven =
+            row a BadWord
+            (next-check t₁ BadNameCount a₁ BadWord (other BadNameCount BadWord refl) some-names
+            (next-check t₂ NotAChain a₂ BadWord (other NotAChain BadWord refl) (is-chain n m) (own-check t₃ BadWord a₃ (bad-word n w) (no-refusal _ _))));
+        none =
+            passes (row-0 a
+            (pass-check t₁ BadNameCount a₁ some-names (pass-check t₂ NotAChain a₂ (is-chain n m) (last-check t₃ BadWord _ (good-word n w, word-good n w)))));
+        no-other = number-only (λ k. (k ≡ 0) ⊎ ((k ≡ 3) ⊎ ((k ≡ 10) ⊎ (k ≡ 11)))) a (inl refl) (λ f e. inr (word-only f e));
+      }
 
 -- ---- the model of a parent
 
--- The bytes are this book.
-abbrev pub Read : List ℕ → Book → Type 0
-Read bytes b = bookOf bytes ≡ given b
+-- a refusal of a book, or one of what is done with it
+no-other : {A : Type 0} (P : ℕ → Type 0) (bytes : List ℕ) (next : Book → Answer A) → ((b : Book) (f : Refusal) → next b ≡ refused f → P (numberOf f)) →
+    (answerNumber (onward (bookOf bytes) next) ≡ 0) ⊎ (OfBook (answerNumber (onward (bookOf bytes) next)) ⊎ P (answerNumber (onward (bookOf bytes) next)))
+no-other P bytes next each =
+    number-only (λ k. (k ≡ 0) ⊎ (OfBook k ⊎ P k)) (onward (bookOf bytes) next) (inl refl)
+    (λ f e. inr (⊎-elim (λ l. inl (f, l, refl)) (λ (b, q). inr (each b f q)) (book-or-later bytes next f e)))
 
-module _ (bytes : List ℕ) (parent : ℕ) (r : Inferred) (call : r ≡ inferred (modelAnswer bytes parent)) where
-  stops : (f : Refusal) → (r .outcome ≡ Refused f) ↔ (modelAnswer bytes parent ≡ refused f)
-  unfolding inferred
-  stops f =
-      let o : r .outcome ≡ outcomeOf (modelAnswer bytes parent) = ap (λ (x : Inferred). x .outcome) call in
-      let h = outcome-refused (modelAnswer bytes parent) f in
-      (λ e. h .0 (sym o ∙ e), λ e. o ∙ h .1 e)
+module _ (bytes : List ℕ) (parent : ℕ) where
+  -- its two tests, and what is behind the first
+  abbrev t₁ : Book → Bool
+  t₁ b = not (ltb parent (length (b .names)))
 
-  -- 1 to 7: the bytes are no book, for this reason.
-  pub model-1-7 : (f : Refusal) → ofBook f ≡ true → (r .outcome ≡ Refused f) ↔ (bookOf bytes ≡ refused f)
-  unfolding modelAnswer modelIn
-  model-1-7 f l = (λ e. h .0 (stops f .0 e), λ q. stops f .1 (h .1 q))
-    where
-      above : (b : Book) → modelIn b parent ≡ refused f → ofBook f ≡ false
-      above b e =
-          one-of BadParent NoBlock NotAChain (omega arith) (omega arith) (chainIn b parent) (λ r. ofBook r ≡ false) refl refl refl (badParent b parent) (noWord (sampleOf b parent)) false f e
+  abbrev t₂ : Book → Bool
+  t₂ b = noWord (sampleOf b parent)
 
-      h : (modelAnswer bytes parent ≡ refused f) ↔ (bookOf bytes ≡ refused f)
-      h = early bytes (λ b. modelIn b parent) f l above
+  abbrev a₁ : Book → Answer Model
+  a₁ b = refuseIf (t₂ b) NoBlock (given (chainIn b parent))
 
-  -- 8: the bytes are a book, and the parent is not below N.
-  pub model-8 : (r .outcome ≡ Refused BadParent) ↔ ((b : Book) × Read bytes b × (length (b .names) ≤ parent))
+  model-only : (b : Book) (f : Refusal) → modelIn b parent ≡ refused f → (numberOf f ≡ 8) ⊎ (numberOf f ≡ 9)
+  unfolding modelIn
+  model-only b f e =
+      ⊎-elim (λ z. inl (ap numberOf (sym z))) (λ h. inr (ap numberOf (sym (own (noWord (sampleOf b parent)) NoBlock _ f h)))) (own-or-next (badParent b parent) BadParent _ f e)
+
+  model-late : (b : Book) (f : Refusal) → modelIn b parent ≡ refused f → ofBook f ≡ false
+  unfolding modelIn
+  model-late b f e =
+      ⊎-elim (λ z. ap ofBook (sym z)) (λ h. ap ofBook (sym (own (noWord (sampleOf b parent)) NoBlock _ f h))) (own-or-next (badParent b parent) BadParent _ f e)
+
+  pub model-conditions : ModelConditions bytes parent (answerNumber (modelAnswer bytes parent))
   unfolding modelAnswer modelIn badParent
-  model-8 = (λ e. to (stops BadParent .0 e), λ h. stops BadParent .1 (from h))
-    where
-      to : modelAnswer bytes parent ≡ refused BadParent → (b : Book) × Read bytes b × (length (b .names) ≤ parent)
-      to e =
-          let k = late bytes (λ b. modelIn b parent) BadParent refl e in (
-            k .0,
-            k .1,
-            above-law parent (length (k .0 .names)) .0
-                (first-stops BadParent NoBlock NotAChain (omega arith) (omega arith) (chainIn (k .0) parent) (not (ltb parent (length (k .0 .names)))) (noWord (sampleOf (k .0) parent)) false .0 (k .2)),
-          )
-
-      from : (b : Book) × Read bytes b × (length (b .names) ≤ parent) → modelAnswer bytes parent ≡ refused BadParent
-      from (b, q, h) = rw (q, le-ltb parent (length (b .names)) h)
-
-  -- 9: the bytes are a book, the parent is below N, and no block has it.
-  pub model-9 : (r .outcome ≡ Refused NoBlock) ↔ ((b : Book) × Read bytes b × (parent < length (b .names)) × (sampleOf b parent ≡ []))
-  unfolding modelAnswer modelIn badParent
-  model-9 = (λ e. to (stops NoBlock .0 e), λ h. stops NoBlock .1 (from h))
-    where
-      to : modelAnswer bytes parent ≡ refused NoBlock → (b : Book) × Read bytes b × (parent < length (b .names)) × (sampleOf b parent ≡ [])
-      to e =
-          let k = late bytes (λ b. modelIn b parent) NoBlock refl e in
-          let h = second-stops BadParent NoBlock NotAChain (omega arith) (omega arith) (chainIn (k .0) parent) (not (ltb parent (length (k .0 .names)))) (noWord (sampleOf (k .0) parent)) false .0 (k .2) in
-          (k .0, k .1, not-above parent (length (k .0 .names)) .0 (h .0), no-word (sampleOf (k .0) parent) .0 (h .1))
-
-      from : (b : Book) × Read bytes b × (parent < length (b .names)) × (sampleOf b parent ≡ []) → modelAnswer bytes parent ≡ refused NoBlock
-      from (b, q, h, z) = rw (q, lt-ltb parent (length (b .names)) h, no-word (sampleOf b parent) .1 z)
-
-  -- no number but 1 to 7, 8 and 9
-  pub model-only : (f : Refusal) → r .outcome ≡ Refused f → (ofBook f ≡ true) ⊎ ((BadParent ≡ f) ⊎ (NoBlock ≡ f))
-  unfolding modelAnswer modelIn
-  model-only f e =
-      ⊎-map (λ l. l) (λ k. ⊎-map (λ q. q) (own (noWord (sampleOf (k .0) parent)) NoBlock (chainIn (k .0) parent) f) (own-or-next (badParent (k .0) parent) BadParent _ f (k .1)))
-      (book-or-next bytes (λ b. modelIn b parent) f (stops f .0 e))
+  model-conditions =
+      let a = modelAnswer bytes parent in
+      record {
+        book = book-rows bytes a (λ f l. book-first bytes (λ b. modelIn b parent) f l (λ b. model-late b f));
+        eight =
+            row a BadParent (in-book bytes (λ b. modelIn b parent) (λ b. length (b .names) ≤ parent) BadParent refl
+            (λ b. own-check (t₁ b) BadParent (a₁ b) (no-parent parent (length (b .names))) (avoids (t₂ b) NoBlock _ BadParent (other NoBlock BadParent refl) (no-refusal _ _))));
+        nine =
+            row a NoBlock (in-book bytes (λ b. modelIn b parent) (λ b. (parent < length (b .names)) × (sampleOf b parent ≡ [])) NoBlock refl
+            (λ b. next-check (t₁ b) BadParent (a₁ b) NoBlock (other BadParent NoBlock refl) (has-parent parent (length (b .names))) (own-check (t₂ b) NoBlock _ (no-word (sampleOf b parent)) (no-refusal _ _))));
+        none =
+            row-0 a (in-given bytes (λ b. modelIn b parent) (λ b. (parent < length (b .names)) × (¬ (sampleOf b parent ≡ [])))
+            (λ b. pass-check (t₁ b) BadParent (a₁ b) (has-parent parent (length (b .names))) (last-check (t₂ b) NoBlock _ (some-word (sampleOf b parent)))));
+        no-other = no-other (λ k. (k ≡ 8) ⊎ (k ≡ 9)) bytes (λ b. modelIn b parent) model-only;
+      }
 
 -- ---- a declaration written
 
-module _ (bytes : List ℕ) (parent : ℕ) (m : Model) (room : ℕ) (r : Written) (call : r ≡ written (writeAnswer bytes parent m room)) where
-  halts : (f : Refusal) → (r .outcome ≡ Refused f) ↔ (writeAnswer bytes parent m room ≡ refused f)
-  unfolding written
-  halts f =
-      let o : r .outcome ≡ outcomeOf (writeAnswer bytes parent m room) = ap (λ (x : Written). x .outcome) call in
-      let h = outcome-refused (writeAnswer bytes parent m room) f in
-      (λ e. h .0 (sym o ∙ e), λ e. o ∙ h .1 e)
+-- the last check of both ways to write, and what is behind it
+short-law : (room : ℕ) (text : List ℕ) → (fitted room text ≡ refused BufferTooShort) ↔ (room < length text)
+unfolding fitted
+short-law room text = own-check (ltb room (length text)) BufferTooShort _ (below-law room (length text)) (no-refusal _ _)
 
-  -- the text that is due of this book
-  abbrev due : Book → List ℕ
-  due b = declaration (b .names) parent m
+fits-law : (room : ℕ) (text : List ℕ) → ((x : List ℕ) × (fitted room text ≡ given x)) ↔ (length text ≤ room)
+unfolding fitted
+fits-law room text = last-check (ltb room (length text)) BufferTooShort text (at-most-law room (length text))
 
-  next : Book → Answer (List ℕ)
-  unfolding fitted
-  next b = refuseIf (not (ltb parent (length (b .names)))) BadParent (refuseIf (not (isChain places (length (b .names)) m)) NotAChain (fitted room (declaration (b .names) parent m)))
+fitted-only : (room : ℕ) (text : List ℕ) (f : Refusal) → fitted room text ≡ refused f → BufferTooShort ≡ f
+unfolding fitted
+fitted-only room text f e = own (ltb room (length text)) BufferTooShort text f e
 
-  -- 1 to 7: the bytes are no book, for this reason.
-  pub write-1-7 : (f : Refusal) → ofBook f ≡ true → (r .outcome ≡ Refused f) ↔ (bookOf bytes ≡ refused f)
-  unfolding writeAnswer next fitted
-  write-1-7 f l = (λ e. h .0 (halts f .0 e), λ q. halts f .1 (h .1 q))
-    where
-      above : (b : Book) → next b ≡ refused f → ofBook f ≡ false
-      above b e =
-          one-of BadParent NotAChain BufferTooShort (omega arith) (omega arith) (due b) (λ r. ofBook r ≡ false) refl refl refl (not (ltb parent (length (b .names)))) (not (isChain places (length (b .names)) m)) (ltb room (length (due b))) f e
+module _ (bytes : List ℕ) (parent : ℕ) (m : Model) (room : ℕ) where
+  -- the text of a book, its tests and what is behind them
+  abbrev text : Book → List ℕ
+  text b = declaration (b .names) parent m
 
-      h : (writeAnswer bytes parent m room ≡ refused f) ↔ (bookOf bytes ≡ refused f)
-      h = early bytes next f l above
+  abbrev s₁ : Book → Bool
+  s₁ b = not (ltb parent (length (b .names)))
 
-  -- 8: the bytes are a book, and the parent is not below N.
-  pub write-8 : (r .outcome ≡ Refused BadParent) ↔ ((b : Book) × Read bytes b × (length (b .names) ≤ parent))
-  unfolding writeAnswer next fitted
-  write-8 = (λ e. to (halts BadParent .0 e), λ h. halts BadParent .1 (from h))
-    where
-      to : writeAnswer bytes parent m room ≡ refused BadParent → (b : Book) × Read bytes b × (length (b .names) ≤ parent)
-      to e =
-          let k = late bytes next BadParent refl e in (
-            k .0,
-            k .1,
-            above-law parent (length (k .0 .names)) .0
-                (first-stops BadParent NotAChain BufferTooShort (omega arith) (omega arith) (due (k .0)) (not (ltb parent (length (k .0 .names)))) (not (isChain places (length (k .0 .names)) m)) (ltb room (length (due (k .0)))) .0 (k .2)),
-          )
+  abbrev s₂ : Book → Bool
+  s₂ b = not (isChain places (length (b .names)) m)
 
-      from : (b : Book) × Read bytes b × (length (b .names) ≤ parent) → writeAnswer bytes parent m room ≡ refused BadParent
-      from (b, q, h) = rw (q, le-ltb parent (length (b .names)) h)
+  abbrev c₁ : Book → Answer (List ℕ)
+  c₁ b = refuseIf (s₂ b) NotAChain (fitted room (text b))
 
-  -- 10: the parent is below N, and the record is no chain over N names.
-  pub write-10 : (r .outcome ≡ Refused NotAChain) ↔ ((b : Book) × Read bytes b × (parent < length (b .names)) × (¬ IsChain places (length (b .names)) m))
-  unfolding writeAnswer next fitted
-  write-10 = (λ e. to (halts NotAChain .0 e), λ h. halts NotAChain .1 (from h))
-    where
-      to : writeAnswer bytes parent m room ≡ refused NotAChain → (b : Book) × Read bytes b × (parent < length (b .names)) × (¬ IsChain places (length (b .names)) m)
-      to e =
-          let k = late bytes next NotAChain refl e in
-          let h = second-stops BadParent NotAChain BufferTooShort (omega arith) (omega arith) (due (k .0)) (not (ltb parent (length (k .0 .names)))) (not (isChain places (length (k .0 .names)) m)) (ltb room (length (due (k .0)))) .0 (k .2) in
-          (k .0, k .1, not-above parent (length (k .0 .names)) .0 (h .0), not-chain (length (k .0 .names)) m .0 (h .1))
+  abbrev writeIn : Book → Answer (List ℕ)
+  writeIn b = refuseIf (s₁ b) BadParent (c₁ b)
 
-      from : (b : Book) × Read bytes b × (parent < length (b .names)) × (¬ IsChain places (length (b .names)) m) → writeAnswer bytes parent m room ≡ refused NotAChain
-      from (b, q, h, c) = rw (q, lt-ltb parent (length (b .names)) h, not-chain (length (b .names)) m .1 c)
+  -- its three refusals, each with the number that P has
+  write-each : (P : Refusal → Type 0) → P BadParent → P NotAChain → P BufferTooShort → (b : Book) (f : Refusal) → writeIn b ≡ refused f → P f
+  write-each P p₁ p₂ p₃ b f e =
+      ⊎-elim (λ z. subst P z p₁)
+      (λ h. ⊎-elim (λ z. subst P z p₂) (λ k. subst P (fitted-only room (text b) f k) p₃) (own-or-next (s₂ b) NotAChain _ f h))
+      (own-or-next (s₁ b) BadParent _ f e)
 
-  -- 12: the record is a chain, and the buffer is shorter than the declaration.
-  pub write-12 : (r .outcome ≡ Refused BufferTooShort) ↔
-      ((b : Book) × Read bytes b × (parent < length (b .names)) × IsChain places (length (b .names)) m × (room < length (due b)))
-  unfolding writeAnswer next fitted
-  write-12 = (λ e. to (halts BufferTooShort .0 e), λ h. halts BufferTooShort .1 (from h))
-    where
-      to : writeAnswer bytes parent m room ≡ refused BufferTooShort → (b : Book) × Read bytes b × (parent < length (b .names)) × IsChain places (length (b .names)) m × (room < length (due b))
-      to e =
-          let k = late bytes next BufferTooShort refl e in
-          let h = third-stops BadParent NotAChain BufferTooShort (omega arith) (omega arith) (due (k .0)) (not (ltb parent (length (k .0 .names)))) (not (isChain places (length (k .0 .names)) m)) (ltb room (length (due (k .0)))) .0 (k .2) in
-          (k .0, k .1, not-above parent (length (k .0 .names)) .0 (h .0), is-chain (length (k .0 .names)) m .0 (h .1), below-law room (length (due (k .0))) .0 (h .2))
-
-      from : (b : Book) × Read bytes b × (parent < length (b .names)) × IsChain places (length (b .names)) m × (room < length (due b)) → writeAnswer bytes parent m room ≡ refused BufferTooShort
-      from (b, q, h, c, l) = rw (q, lt-ltb parent (length (b .names)) h, is-chain (length (b .names)) m .1 c, lt-ltb room (length (due b)) l)
-
-  -- no number but 1 to 7, 8, 10 and 12
-  pub write-only : (f : Refusal) → r .outcome ≡ Refused f → (ofBook f ≡ true) ⊎ ((BadParent ≡ f) ⊎ ((NotAChain ≡ f) ⊎ (BufferTooShort ≡ f)))
-  unfolding writeAnswer next fitted
-  write-only f e = ⊎-map (λ l. l) (λ k. behind (k .0) (k .1)) (book-or-next bytes next f (halts f .0 e))
-    where
-      behind : (b : Book) → next b ≡ refused f → (BadParent ≡ f) ⊎ ((NotAChain ≡ f) ⊎ (BufferTooShort ≡ f))
-      behind b q =
-          ⊎-map (λ z. z) (λ k. ⊎-map (λ z. z) (own (ltb room (length (due b))) BufferTooShort (due b) f) (own-or-next (not (isChain places (length (b .names)) m)) NotAChain _ f k))
-          (own-or-next (not (ltb parent (length (b .names)))) BadParent _ f q)
+  pub write-conditions : WriteConditions bytes parent m room (answerNumber (writeAnswer bytes parent m room))
+  unfolding writeAnswer
+  write-conditions =
+      let a = writeAnswer bytes parent m room in
+      record {
+        book = book-rows bytes a (λ f l. book-first bytes writeIn f l (λ b. write-each (λ r. ofBook r ≡ false) refl refl refl b f));
+        eight =
+            row a BadParent (in-book bytes writeIn (λ b. length (b .names) ≤ parent) BadParent refl
+            (λ b. own-check (s₁ b) BadParent (c₁ b) (no-parent parent (length (b .names)))
+            (avoids (s₂ b) NotAChain _ BadParent (other NotAChain BadParent refl) (λ e. other BufferTooShort BadParent refl (fitted-only room (text b) BadParent e)))));
+        ten =
+            row a NotAChain (in-book bytes writeIn (λ b. (parent < length (b .names)) × (¬ IsChain places (length (b .names)) m)) NotAChain refl
+            (λ b. next-check (s₁ b) BadParent (c₁ b) NotAChain (other BadParent NotAChain refl) (has-parent parent (length (b .names)))
+            (own-check (s₂ b) NotAChain _ (not-chain (length (b .names)) m) (λ e. other BufferTooShort NotAChain refl (fitted-only room (text b) NotAChain e)))));
+        twelve =
+            row a BufferTooShort (in-book bytes writeIn (λ b. (parent < length (b .names)) × (IsChain places (length (b .names)) m × (room < length (text b)))) BufferTooShort refl
+            (λ b. next-check (s₁ b) BadParent (c₁ b) BufferTooShort (other BadParent BufferTooShort refl) (has-parent parent (length (b .names)))
+            (next-check (s₂ b) NotAChain _ BufferTooShort (other NotAChain BufferTooShort refl) (is-chain (length (b .names)) m) (short-law room (text b)))));
+        none =
+            row-0 a (in-given bytes writeIn (λ b. (parent < length (b .names)) × (IsChain places (length (b .names)) m × (length (text b) ≤ room)))
+            (λ b. pass-check (s₁ b) BadParent (c₁ b) (has-parent parent (length (b .names))) (pass-check (s₂ b) NotAChain _ (is-chain (length (b .names)) m) (fits-law room (text b)))));
+        no-other =
+            no-other (λ k. (k ≡ 8) ⊎ ((k ≡ 10) ⊎ (k ≡ 12))) bytes writeIn
+            (write-each (λ f. (numberOf f ≡ 8) ⊎ ((numberOf f ≡ 10) ⊎ (numberOf f ≡ 12))) (inl refl) (inr (inl refl)) (inr (inr refl)));
+      }
 
 -- ---- a declaration written from the sample
 
@@ -212,159 +257,93 @@ in-row r₁ r₂ a f true t₂ = refl
 in-row r₁ r₂ a f false true = refl
 in-row r₁ r₂ a f false false = refl
 
-module _ (bytes : List ℕ) (parent room : ℕ) (r : Written) (call : r ≡ written (sampleText bytes parent room)) where
-  ends : (f : Refusal) → (r .outcome ≡ Refused f) ↔ (sampleText bytes parent room ≡ refused f)
-  unfolding written
-  ends f =
-      let o : r .outcome ≡ outcomeOf (sampleText bytes parent room) = ap (λ (x : Written). x .outcome) call in
-      let h = outcome-refused (sampleText bytes parent room) f in
-      (λ e. h .0 (sym o ∙ e), λ e. o ∙ h .1 e)
+module _ (bytes : List ℕ) (parent room : ℕ) where
+  abbrev u₁ : Book → Bool
+  u₁ b = not (ltb parent (length (b .names)))
 
-  -- the text that is due of this book
-  abbrev sampled : Book → List ℕ
-  sampled b = declaration (b .names) parent (chainIn b parent)
+  abbrev u₂ : Book → Bool
+  u₂ b = noWord (sampleOf b parent)
 
-  row : Book → Answer (List ℕ)
-  row b = onward (modelIn b parent) (λ m. fitted room (declaration (b .names) parent m))
+  abbrev d₁ : Book → Answer (List ℕ)
+  d₁ b = refuseIf (u₂ b) NoBlock (fitted room (sampleDeclaration b parent))
 
-  row-is : (b : Book) → row b ≡ refuseIf (not (ltb parent (length (b .names)))) BadParent (refuseIf (noWord (sampleOf b parent)) NoBlock (refuseIf (ltb room (length (sampled b))) BufferTooShort (given (sampled b))))
-  unfolding row modelIn badParent fitted
-  row-is b = in-row BadParent NoBlock (chainIn b parent) (λ m. fitted room (declaration (b .names) parent m)) (not (ltb parent (length (b .names)))) (noWord (sampleOf b parent))
+  abbrev rowIn : Book → Answer (List ℕ)
+  rowIn b = refuseIf (u₁ b) BadParent (d₁ b)
 
-  -- 1 to 7: the bytes are no book, for this reason.
-  pub sample-1-7 : (f : Refusal) → ofBook f ≡ true → (r .outcome ≡ Refused f) ↔ (bookOf bytes ≡ refused f)
-  unfolding sampleText row
-  sample-1-7 f l = (λ e. h .0 (ends f .0 e), λ q. ends f .1 (h .1 q))
-    where
-      above : (b : Book) → row b ≡ refused f → ofBook f ≡ false
-      above b e =
-          one-of BadParent NoBlock BufferTooShort (omega arith) (omega arith) (sampled b) (λ r. ofBook r ≡ false) refl refl refl (not (ltb parent (length (b .names)))) (noWord (sampleOf b parent)) (ltb room (length (sampled b))) f (sym (row-is b) ∙ e)
+  abbrev sampleIn : Book → Answer (List ℕ)
+  sampleIn b = onward (modelIn b parent) (λ m. fitted room (declaration (b .names) parent m))
 
-      h : (sampleText bytes parent room ≡ refused f) ↔ (bookOf bytes ≡ refused f)
-      h = early bytes row f l above
+  row-is : (b : Book) → sampleIn b ≡ rowIn b
+  unfolding modelIn badParent chainIn
+  row-is b = in-row BadParent NoBlock (chainIn b parent) (λ m. fitted room (declaration (b .names) parent m)) (u₁ b) (u₂ b)
 
-  -- 8: the bytes are a book, and the parent is not below N.
-  pub sample-8 : (r .outcome ≡ Refused BadParent) ↔ ((b : Book) × Read bytes b × (length (b .names) ≤ parent))
-  unfolding sampleText row
-  sample-8 = (λ e. to (ends BadParent .0 e), λ h. ends BadParent .1 (from h))
-    where
-      stop : (b : Book) → (row b ≡ refused BadParent) ↔ (not (ltb parent (length (b .names))) ≡ true)
-      stop b = let h = first-stops BadParent NoBlock BufferTooShort (omega arith) (omega arith) (sampled b) (not (ltb parent (length (b .names)))) (noWord (sampleOf b parent)) (ltb room (length (sampled b))) in (λ e. h .0 (sym (row-is b) ∙ e), λ e. row-is b ∙ h .1 e)
+  -- a law of the row is one of the answer
+  by-row : {C : Type 0} (b : Book) (x : Answer (List ℕ)) → (rowIn b ≡ x) ↔ C → (sampleIn b ≡ x) ↔ C
+  by-row b x law = (λ e. law .0 (sym (row-is b) ∙ e), λ c. row-is b ∙ law .1 c)
 
-      to : sampleText bytes parent room ≡ refused BadParent → (b : Book) × Read bytes b × (length (b .names) ≤ parent)
-      to e = let k = late bytes row BadParent refl e in (k .0, k .1, above-law parent (length (k .0 .names)) .0 (stop (k .0) .0 (k .2)))
+  by-given : {C : Type 0} (b : Book) → ((x : List ℕ) × (rowIn b ≡ given x)) ↔ C → ((x : List ℕ) × (sampleIn b ≡ given x)) ↔ C
+  by-given b law = (λ (x, e). law .0 (x, sym (row-is b) ∙ e), λ c. let (x, e) = law .1 c in (x, row-is b ∙ e))
 
-      from : (b : Book) × Read bytes b × (length (b .names) ≤ parent) → sampleText bytes parent room ≡ refused BadParent
-      from (b, q, h) = rw q (stop b .1 (above-law parent (length (b .names)) .1 h))
+  sample-each : (P : Refusal → Type 0) → P BadParent → P NoBlock → P BufferTooShort → (b : Book) (f : Refusal) → sampleIn b ≡ refused f → P f
+  sample-each P p₁ p₂ p₃ b f e =
+      ⊎-elim (λ z. subst P z p₁)
+      (λ h. ⊎-elim (λ z. subst P z p₂) (λ k. subst P (fitted-only room (sampleDeclaration b parent) f k) p₃) (own-or-next (u₂ b) NoBlock _ f h))
+      (own-or-next (u₁ b) BadParent _ f (sym (row-is b) ∙ e))
 
-  -- 9: the parent is below N, and no block has it.
-  pub sample-9 : (r .outcome ≡ Refused NoBlock) ↔ ((b : Book) × Read bytes b × (parent < length (b .names)) × (sampleOf b parent ≡ []))
-  unfolding sampleText row
-  sample-9 = (λ e. to (ends NoBlock .0 e), λ h. ends NoBlock .1 (from h))
-    where
-      stop : (b : Book) → (row b ≡ refused NoBlock) ↔ ((not (ltb parent (length (b .names))) ≡ false) × (noWord (sampleOf b parent) ≡ true))
-      stop b = let h = second-stops BadParent NoBlock BufferTooShort (omega arith) (omega arith) (sampled b) (not (ltb parent (length (b .names)))) (noWord (sampleOf b parent)) (ltb room (length (sampled b))) in (λ e. h .0 (sym (row-is b) ∙ e), λ e. row-is b ∙ h .1 e)
+  pub sample-conditions : SampleConditions bytes parent room (answerNumber (sampleText bytes parent room))
+  unfolding sampleText
+  sample-conditions =
+      let a = sampleText bytes parent room in
+      record {
+        book = book-rows bytes a (λ f l. book-first bytes sampleIn f l (λ b. sample-each (λ r. ofBook r ≡ false) refl refl refl b f));
+        eight =
+            row a BadParent (in-book bytes sampleIn (λ b. length (b .names) ≤ parent) BadParent refl
+            (λ b. by-row b (refused BadParent) (own-check (u₁ b) BadParent (d₁ b) (no-parent parent (length (b .names)))
+            (avoids (u₂ b) NoBlock _ BadParent (other NoBlock BadParent refl) (λ e. other BufferTooShort BadParent refl (fitted-only room _ BadParent e))))));
+        nine =
+            row a NoBlock (in-book bytes sampleIn (λ b. (parent < length (b .names)) × (sampleOf b parent ≡ [])) NoBlock refl
+            (λ b. by-row b (refused NoBlock) (next-check (u₁ b) BadParent (d₁ b) NoBlock (other BadParent NoBlock refl) (has-parent parent (length (b .names)))
+            (own-check (u₂ b) NoBlock _ (no-word (sampleOf b parent)) (λ e. other BufferTooShort NoBlock refl (fitted-only room _ NoBlock e))))));
+        twelve =
+            row a BufferTooShort (in-book bytes sampleIn (λ b. (parent < length (b .names)) × ((¬ (sampleOf b parent ≡ [])) × (room < length (sampleDeclaration b parent)))) BufferTooShort refl
+            (λ b. by-row b (refused BufferTooShort) (next-check (u₁ b) BadParent (d₁ b) BufferTooShort (other BadParent BufferTooShort refl) (has-parent parent (length (b .names)))
+            (next-check (u₂ b) NoBlock _ BufferTooShort (other NoBlock BufferTooShort refl) (some-word (sampleOf b parent)) (short-law room (sampleDeclaration b parent))))));
+        none =
+            row-0 a (in-given bytes sampleIn (λ b. (parent < length (b .names)) × ((¬ (sampleOf b parent ≡ [])) × (length (sampleDeclaration b parent) ≤ room)))
+            (λ b. by-given b (pass-check (u₁ b) BadParent (d₁ b) (has-parent parent (length (b .names)))
+            (pass-check (u₂ b) NoBlock _ (some-word (sampleOf b parent)) (fits-law room (sampleDeclaration b parent))))));
+        no-other =
+            no-other (λ k. (k ≡ 8) ⊎ ((k ≡ 9) ⊎ (k ≡ 12))) bytes sampleIn
+            (sample-each (λ f. (numberOf f ≡ 8) ⊎ ((numberOf f ≡ 9) ⊎ (numberOf f ≡ 12))) (inl refl) (inr (inl refl)) (inr (inr refl)));
+      }
 
-      to : sampleText bytes parent room ≡ refused NoBlock → (b : Book) × Read bytes b × (parent < length (b .names)) × (sampleOf b parent ≡ [])
-      to e =
-          let k = late bytes row NoBlock refl e in
-          let h = stop (k .0) .0 (k .2) in
-          (k .0, k .1, not-above parent (length (k .0 .names)) .0 (h .0), no-word (sampleOf (k .0) parent) .0 (h .1))
+-- ---- a declaration read
 
-      from : (b : Book) × Read bytes b × (parent < length (b .names)) × (sampleOf b parent ≡ []) → sampleText bytes parent room ≡ refused NoBlock
-      from (b, q, h, z) = rw q (stop b .1 (not-above parent (length (b .names)) .1 h, no-word (sampleOf b parent) .1 z))
-
-  -- 12: a block has the parent, and the buffer is shorter than the declaration.
-  pub sample-12 : (r .outcome ≡ Refused BufferTooShort) ↔
-      ((b : Book) × Read bytes b × (parent < length (b .names)) × (¬ (sampleOf b parent ≡ [])) × (room < length (sampled b)))
-  unfolding sampleText row
-  sample-12 = (λ e. to (ends BufferTooShort .0 e), λ h. ends BufferTooShort .1 (from h))
-    where
-      stop : (b : Book) → (row b ≡ refused BufferTooShort) ↔ ((not (ltb parent (length (b .names))) ≡ false) × (noWord (sampleOf b parent) ≡ false) × (ltb room (length (sampled b)) ≡ true))
-      stop b = let h = third-stops BadParent NoBlock BufferTooShort (omega arith) (omega arith) (sampled b) (not (ltb parent (length (b .names)))) (noWord (sampleOf b parent)) (ltb room (length (sampled b))) in (λ e. h .0 (sym (row-is b) ∙ e), λ e. row-is b ∙ h .1 e)
-
-      to : sampleText bytes parent room ≡ refused BufferTooShort → (b : Book) × Read bytes b × (parent < length (b .names)) × (¬ (sampleOf b parent ≡ [])) × (room < length (sampled b))
-      to e =
-          let k = late bytes row BufferTooShort refl e in
-          let h = stop (k .0) .0 (k .2) in
-          (k .0, k .1, not-above parent (length (k .0 .names)) .0 (h .0), some-word (sampleOf (k .0) parent) .0 (h .1), below-law room (length (sampled (k .0))) .0 (h .2))
-
-      from : (b : Book) × Read bytes b × (parent < length (b .names)) × (¬ (sampleOf b parent ≡ [])) × (room < length (sampled b)) → sampleText bytes parent room ≡ refused BufferTooShort
-      from (b, q, h, d, l) = rw q (stop b .1 (not-above parent (length (b .names)) .1 h, some-word (sampleOf b parent) .1 d, below-law room (length (sampled b)) .1 l))
-
-  -- no number but 1 to 7, 8, 9 and 12
-  pub sample-only : (f : Refusal) → r .outcome ≡ Refused f → (ofBook f ≡ true) ⊎ ((BadParent ≡ f) ⊎ ((NoBlock ≡ f) ⊎ (BufferTooShort ≡ f)))
-  unfolding sampleText row
-  sample-only f e = ⊎-map (λ l. l) (λ k. behind (k .0) (sym (row-is (k .0)) ∙ k .1)) (book-or-next bytes row f (ends f .0 e))
-    where
-      behind : (b : Book) → refuseIf (not (ltb parent (length (b .names)))) BadParent (refuseIf (noWord (sampleOf b parent)) NoBlock (refuseIf (ltb room (length (sampled b))) BufferTooShort (given (sampled b)))) ≡ refused f →
-          (BadParent ≡ f) ⊎ ((NoBlock ≡ f) ⊎ (BufferTooShort ≡ f))
-      behind b q =
-          ⊎-map (λ z. z) (λ k. ⊎-map (λ z. z) (own (ltb room (length (sampled b))) BufferTooShort (sampled b) f) (own-or-next (noWord (sampleOf b parent)) NoBlock _ f k))
-          (own-or-next (not (ltb parent (length (b .names)))) BadParent _ f q)
-
--- ---- acceptance of a word
-
-count-law : (n : ℕ) → (goodCount n ≡ true) ↔ ((0 < n) × (n ≤ places))
-count-law n = (count-bounds n, λ h. bounds-count n (h .0) (h .1))
-
-word-law : (n : ℕ) (w : List ℕ) → (badWord n w ≡ false) ↔ ((length w ≤ longest) × Names n w)
-word-law n w = (good-word n w, word-good n w)
-
-module _ (n : ℕ) (m : Model) (w : List ℕ) (r : Acceptance) (call : AcceptsWord n m w r) where
-  tells : (f : Refusal) → (r ≡ Stopped f) ↔ (answerOf n m w ≡ refused f)
-  unfolding acceptance
-  tells f = (λ e. said (answerOf n m w) (sym (call .same) ∙ e), λ e. call .same ∙ told e)
-    where
-      said : (a : Answer Bool) → acceptance a ≡ Stopped f → a ≡ refused f
-      said (given true) e = absurd (let z : _≡_ {A = ℕ} 0 1 = cc in omega arith)
-      said (given false) e = absurd (let z : _≡_ {A = ℕ} 0 1 = cc in omega arith)
-      said (refused g) e = cc
-
-      told : answerOf n m w ≡ refused f → acceptance (answerOf n m w) ≡ Stopped f
-      told e = rw e
-
-  -- 3: the count of names is 0 or above 64.
-  pub word-3 : (r ≡ Stopped BadNameCount) ↔ (¬ ((0 < n) × (n ≤ places)))
-  unfolding answerOf
-  word-3 = (
-    λ e. fails (goodCount n) (count-law n) .0 (not-true (goodCount n) (first-stops BadNameCount NotAChain BadWord (omega arith) (omega arith) (accepts m w) (not (goodCount n)) (badModel n m) (badWord n w) .0 (tells BadNameCount .0 e))),
-    λ h. tells BadNameCount .1 (first-stops BadNameCount NotAChain BadWord (omega arith) (omega arith) (accepts m w) (not (goodCount n)) (badModel n m) (badWord n w) .1 (ap not (fails (goodCount n) (count-law n) .1 h))),
+module _ (bytes text : List ℕ) where
+  read-given : ((x : Declared) × (readAnswer bytes text ≡ given x)) ↔ ((b : Book) × IsBook bytes b × ((p : ℕ) × (m : Model) × Spelled places (b .names) text p m))
+  unfolding readAnswer
+  read-given = (
+    λ (x, e).
+        let (b, q, g) = book-given bytes (λ b. readText places (b .names) text) x .0 e in
+        (b, q, (x .parent, x .model, Spelling.read-sound places (b .names) (good-names bytes b q) text (x .parent) (x .model) g)),
+    λ (b, q, (p, m, S)).
+        (declared p m, book-given bytes (λ b. readText places (b .names) text) (declared p m) .1 (b, q, Spelling.read-complete places (b .names) (good-names bytes b q) text p m S)),
   )
 
-  -- 10: the count is good, and the record is no chain over so many names.
-  pub word-10 : (r ≡ Stopped NotAChain) ↔ ((0 < n) × (n ≤ places) × (¬ IsChain places n m))
-  unfolding answerOf badModel
-  word-10 = (λ e. to (second-stops BadNameCount NotAChain BadWord (omega arith) (omega arith) (accepts m w) (not (goodCount n)) (badModel n m) (badWord n w) .0 (tells NotAChain .0 e)), λ h. tells NotAChain .1 (from h))
-    where
-      to : (not (goodCount n) ≡ false) × (badModel n m ≡ true) → (0 < n) × (n ≤ places) × (¬ IsChain places n m)
-      to (a, b) = let k = count-bounds n (not-false (goodCount n) a) in (k .0, k .1, not-chain n m .0 b)
+  read-only : (f : Refusal) → readAnswer bytes text ≡ refused f → OfBook (numberOf f) ⊎ ((numberOf f ≡ 13) ⊎ ((numberOf f ≡ 14) ⊎ (numberOf f ≡ 15)))
+  read-only f e =
+      ⊎-elim (λ l. inl (f, l, refl))
+      (λ h. inr (⊎-elim (λ z. inl (ap numberOf (sym z))) (λ k. inr (⊎-elim (λ z. inl (ap numberOf (sym z))) (λ z. inr (ap numberOf (sym z))) k)) h))
+      (Reading.refused-only bytes text f e)
 
-      from : (0 < n) × (n ≤ places) × (¬ IsChain places n m) → answerOf n m w ≡ refused NotAChain
-      from (a, b, c) =
-          second-stops BadNameCount NotAChain BadWord (omega arith) (omega arith) (accepts m w) (not (goodCount n)) (badModel n m) (badWord n w) .1
-          (ap not (bounds-count n a b), not-chain n m .1 c)
-
-  -- 11: the record is a chain, and the word has more than 255 names or a number not below N.
-  pub word-11 : (r ≡ Stopped BadWord) ↔ ((0 < n) × (n ≤ places) × IsChain places n m × (¬ ((length w ≤ longest) × Names n w)))
-  unfolding answerOf badModel
-  word-11 = (λ e. to (third-stops BadNameCount NotAChain BadWord (omega arith) (omega arith) (accepts m w) (not (goodCount n)) (badModel n m) (badWord n w) .0 (tells BadWord .0 e)), λ h. tells BadWord .1 (from h))
-    where
-      bad : (t : Bool) → ¬ (t ≡ false) → t ≡ true
-      bad true h = refl
-      bad false h = absurd (h refl)
-
-      to : (not (goodCount n) ≡ false) × (badModel n m ≡ false) × (badWord n w ≡ true) → (0 < n) × (n ≤ places) × IsChain places n m × (¬ ((length w ≤ longest) × Names n w))
-      to (a, b, c) = let k = count-bounds n (not-false (goodCount n) a) in (k .0, k .1, is-chain n m .0 b, λ h. absurd (false≢true (sym (word-law n w .1 h) ∙ c)))
-
-      from : (0 < n) × (n ≤ places) × IsChain places n m × (¬ ((length w ≤ longest) × Names n w)) → answerOf n m w ≡ refused BadWord
-      from (a, b, c, d) =
-          third-stops BadNameCount NotAChain BadWord (omega arith) (omega arith) (accepts m w) (not (goodCount n)) (badModel n m) (badWord n w) .1
-          (ap not (bounds-count n a b), is-chain n m .1 c, bad (badWord n w) (λ e. d (word-law n w .0 e)))
-
-  -- no number but 3, 10 and 11
-  pub word-only : (f : Refusal) → r ≡ Stopped f → (BadNameCount ≡ f) ⊎ ((NotAChain ≡ f) ⊎ (BadWord ≡ f))
-  unfolding answerOf
-  word-only f e =
-      ⊎-map (λ z. z) (λ k. ⊎-map (λ z. z) (own (badWord n w) BadWord (accepts m w) f) (own-or-next (badModel n m) NotAChain _ f k))
-      (own-or-next (not (goodCount n)) BadNameCount _ f (tells f .0 e))
+  pub read-conditions : ReadConditions bytes text (answerNumber (readAnswer bytes text))
+  read-conditions =
+      let a = readAnswer bytes text in
+      record {
+        book = book-rows bytes a (Reading.book-refused bytes text);
+        thirteen = row a NotADeclaration (Reading.refused-13 bytes text);
+        fourteen = row a UnknownName (Reading.refused-14 bytes text);
+        fifteen = row a NameTwice (Reading.refused-15 bytes text);
+        none = row-0 a read-given;
+        no-other = number-only (λ k. (k ≡ 0) ⊎ (OfBook k ⊎ ((k ≡ 13) ⊎ ((k ≡ 14) ⊎ (k ≡ 15))))) a (inl refl) (λ f e. inr (read-only f e));
+      }

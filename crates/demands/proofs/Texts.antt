@@ -1,86 +1,130 @@
--- The two calls that write: what a refused call leaves, that bytes past a text keep their values, and that what stands in the buffer reads back.
+-- The two calls that write: what a refused call leaves, what is in the buffer after one that was not, and that it reads
+-- back.
 -- Assumes nothing.
-use Prim.Native.Nat.{ℕ, _≤_}
+use Prim.Native.Nat.{ℕ, _≤_, _<_}
 use mathlib.Core.Path.{_≡_, refl, sym, _∙_, ap, subst}
-use mathlib.Core.List.{List, [], _++_}
+use mathlib.Core.Bool.{true, false, false≢true}
+use mathlib.Core.List.{List, _++_}
+use mathlib.Core.Logic.{_↔_}
 use native.Mathlib.Omega.{arith}
 use lib.ListN.{length, take, drop}
 use lib.Seq.{drop-append-seam}
 use borrow.Author.Tests.{lt-ltb}
 use Rattle.refusal.specs.declared.Refusal.{Refusal}
+use Rattle.refusal.specs.declared.Outcome.{Outcome}
 use Rattle.refusal.specs.declared.Outcome.the-variants.{Done, Refused}
-use Rattle.refusal.specs.Answer.{Answer, given, refused, onward, valueOr, outcomeOf}
-use Rattle.refusal.proofs.Answers.{onward-given}
+use Rattle.refusal.specs.Table.{numberOf}
+use Rattle.refusal.specs.Answer.{Answer, given, onward, valueOr, outcomeNumber}
+use Rattle.refusal.proofs.Answers.{onward-given, outcome-refused, outcome-given}
+use Rattle.refusal.proofs.Laws.{number-positive}
 use Rattle.nameset.specs.Places.{places}
-use Rattle.book.specs.Book.{Book, bookOf}
+use Rattle.book.specs.Book.{Book, bookOf, IsBook}
 use Rattle.model.specs.declared.Model.{Model}
 use Rattle.model.specs.Record.{IsChain, dueModel}
 use Rattle.model.proofs.Chain.{chain-law}
+use Rattle.declaration_spelling.specs.Length.{longestDeclaration}
+use Rattle.declaration_spelling.specs.Spelled.{Spelled}
 use Rattle.declaration_writing.specs.declared.Written.{Written}
-use Rattle.declaration_writing.specs.Write.{writeAnswer, lengthDue, written, bufferAfter, Writes}
+use Rattle.declaration_writing.specs.Write.{writeAnswer, lengthDue, written, bufferAfter, Writes, WritesDeclaration}
 use Rattle.byte_buffer.proofs.Puts.{wrote-back}
-use Rattle.declaration_writing.proofs.Back.{text-due, buffer-due, buffer-kept}
+use Rattle.declaration_writing.proofs.Back.{Given, text-given, buffer-given, buffer-kept}
 use Rattle.declaration_reading.specs.declared.Declaration.{Declaration}
-use Rattle.declaration_reading.specs.Read.{ReadsDeclaration}
-use Rattle.declaration_reading.proofs.Theorem.{Reads, read-written}
+use Rattle.declaration_reading.specs.Read.{Reads, ReadsDeclaration}
+use Rattle.declaration_reading.proofs.Theorem as Reading
+use Rattle.intake.specs.declared.Acceptance.{Acceptance}
+use Rattle.intake.specs.declared.Acceptance.the-variants.{Yes, No, Refused as Stopped}
 use Rattle.intake.specs.declared.Inferred.{Inferred}
-use Rattle.intake.specs.Inference.{modelIn, modelAnswer, inferred}
-use Rattle.intake.specs.Writing.{sampleText}
+use Rattle.intake.specs.Acceptance.{acceptanceNumber, acceptanceYes}
+use Rattle.intake.specs.Inference.{modelIn, modelAnswer, inferred, InfersModel}
+use Rattle.intake.specs.Writing.{sampleText, WritesSample}
 use Rattle.intake.proofs.Writing.{model-given}
 use Rattle.intake.proofs.NoBetterModel as Model3
-use Rattle.demands.proofs.Checks.{outcome-refused}
+use Rattle.demands.specs.Results.{Wrote}
 
--- a refused call
-pub writes-due : (a : Answer (List ℕ)) (w : Written) (before after : List ℕ) → Writes a w before after → (f : Refusal) → w .outcome ≡ Refused f → (w .length ≡ 0) × (after ≡ before)
-unfolding written
-writes-due a w before after call f o =
-    let e : a ≡ refused f = outcome-refused a f .0 (sym (ap (λ (x : Written). x .outcome) (call .0)) ∙ o) in
-    (ap (λ (x : Written). x .length) (call .0) ∙ ap lengthDue e, call .1 ∙ ap (bufferAfter before) e ∙ buffer-kept before f)
+-- ---- what an outcome's number tells
 
--- a call that was not refused
-done-text : (a : Answer (List ℕ)) → outcomeOf a ≡ Done → a ≡ given (valueOr [] a)
-done-text (given t) e = refl
-done-text (refused r) e = absurd (let z : _≡_ {A = ℕ} 0 1 = cc in omega arith)
+pub refused-by : (o : Outcome) → 0 < outcomeNumber o → (f : Refusal) × (o ≡ Refused f)
+refused-by Done l = absurd (omega arith)
+refused-by (Refused f) l = (f, refl)
 
-done-writes : (a : Answer (List ℕ)) (w : Written) (before after : List ℕ) → Writes a w before after → w .outcome ≡ Done → a ≡ given (valueOr [] a)
-unfolding written
-done-writes a w before after call done = done-text a (sym (ap (λ (x : Written). x .outcome) (call .0)) ∙ done)
+pub done-by : (o : Outcome) → outcomeNumber o ≡ 0 → o ≡ Done
+done-by Done e = refl
+done-by (Refused f) e = absurd (let p : 0 < numberOf f = number-positive f in omega arith)
 
-writes-length : (a : Answer (List ℕ)) (w : Written) (before after t : List ℕ) → Writes a w before after → a ≡ given t → w .length ≡ length t
-unfolding written
-writes-length a w before after t call e = ap (λ (x : Written). x .length) (call .0) ∙ ap lengthDue e
+-- ---- a yes or no
 
-writes-past : (a : Answer (List ℕ)) (w : Written) (before after t : List ℕ) → Writes a w before after → a ≡ given t → length t ≤ length before → drop (w .length) after ≡ drop (w .length) before
-writes-past a w before after t call e fits =
-    let b : after ≡ t ++ drop (length t) before = call .1 ∙ ap (bufferAfter before) e ∙ buffer-due before t fits in
-    rw (writes-length a w before after t call e, b) (drop-append-seam t (drop (length t) before))
+pub refused-no : (r : Acceptance) → 0 < acceptanceNumber r → acceptanceYes r ≡ false
+unfolding acceptanceNumber acceptanceYes
+refused-no Yes l = absurd (omega arith)
+refused-no No l = refl
+refused-no (Stopped f) l = refl
 
--- ---- a declaration written for a record
+pub yes-by : (r : Acceptance) → acceptanceYes r ≡ true → r ≡ Yes
+unfolding acceptanceYes
+yes-by Yes e = refl
+yes-by No e = absurd (false≢true e)
+yes-by (Stopped f) e = absurd (false≢true e)
 
-fits : (bytes : List ℕ) (parent : ℕ) (m : Model) (room : ℕ) → writeAnswer bytes parent m room ≡ given (valueOr [] (writeAnswer bytes parent m room)) →
-    length (valueOr [] (writeAnswer bytes parent m room)) ≤ room
-fits bytes parent m room e = text-due bytes parent m room _ e .fits
+pub by-yes : (r : Acceptance) → r ≡ Yes → acceptanceYes r ≡ true
+unfolding acceptanceYes
+by-yes r e = ap acceptanceYes e
 
-pub written-past : (bytes : List ℕ) (parent : ℕ) (m : Model) (w : Written) (before after : List ℕ) → Writes (writeAnswer bytes parent m (length before)) w before after →
-    w .outcome ≡ Done → drop (w .length) after ≡ drop (w .length) before
-written-past bytes parent m w before after call done =
-    let e = done-writes _ w before after call done in
-    writes-past _ w before after _ call e (fits bytes parent m (length before) e)
+-- ---- both ways to write
 
-pub written-reads-back : (bytes : List ℕ) (parent : ℕ) (m : Model) (w : Written) (before after : List ℕ) (call : Writes (writeAnswer bytes parent m (length before)) w before after) →
-    w .outcome ≡ Done → (r : Declaration) → ReadsDeclaration bytes (take (w .length) after) r → Reads r parent m
-unfolding bufferAfter
-written-reads-back bytes parent m w before after call done r reads =
-    let a = writeAnswer bytes parent m (length before) in
-    let e : a ≡ given (valueOr [] a) = done-writes a w before after call done in
-    let text : take (w .length) after ≡ valueOr [] a =
-    ap (λ (n : ℕ). take n after) (writes-length a w before after (valueOr [] a) call e) ∙ ap (take (length (valueOr [] a))) (call .1) ∙ wrote-back before (valueOr [] a) (fits bytes parent m (length before) e) in
-    read-written bytes parent m (length before) (valueOr [] a) e r (subst (λ (t : List ℕ). ReadsDeclaration bytes t r) text reads)
+module _ (a : Answer (List ℕ)) (w : Written) (before after : List ℕ) (call : Writes a w before after) where
+  -- a refused call
+  pub writes-kept : 0 < outcomeNumber (w .outcome) → (w .length ≡ 0) × (after ≡ before)
+  unfolding written
+  writes-kept l =
+      let (f, o) = refused-by (w .outcome) l in
+      let e = outcome-refused a f .0 (sym (ap (λ (x : Written). x .outcome) (call .0)) ∙ o) in
+      (ap (λ (x : Written). x .length) (call .0) ∙ ap lengthDue e, call .1 ∙ ap (bufferAfter before) e ∙ buffer-kept before f)
+
+  -- a call that was not refused
+  pub writes-given : w .outcome ≡ Done → (t : List ℕ) × (a ≡ given t)
+  unfolding written
+  writes-given o = outcome-given a .0 (sym (ap (λ (x : Written). x .outcome) (call .0)) ∙ o)
+
+  pub writes-size : (t : List ℕ) → a ≡ given t → w .length ≡ length t
+  unfolding written
+  writes-size t e = ap (λ (x : Written). x .length) (call .0) ∙ ap lengthDue e
+
+  pub writes-front : (t : List ℕ) → a ≡ given t → length t ≤ length before → take (w .length) after ≡ t
+  unfolding bufferAfter
+  writes-front t e fits =
+      ap (λ (n : ℕ). take n after) (writes-size t e) ∙ ap (take (length t)) (call .1 ∙ ap (bufferAfter before) e) ∙ wrote-back before t fits
+
+  pub writes-past : (t : List ℕ) → a ≡ given t → length t ≤ length before → drop (w .length) after ≡ drop (w .length) before
+  writes-past t e fits =
+      let b : after ≡ t ++ drop (length t) before = call .1 ∙ ap (bufferAfter before) e ∙ buffer-given before t fits in
+      rw (writes-size t e, b) (drop-append-seam t (drop (length t) before))
+
+-- ---- a declaration written with a record
+
+module _ (bytes : List ℕ) (parent : ℕ) (m : Model) (w : Written) (before after : List ℕ) (call : WritesDeclaration bytes parent m w before after) where
+  pub write-done : outcomeNumber (w .outcome) ≡ 0 → (b : Book) × IsBook bytes b × Wrote (b .names) parent m (w .length) before after
+  write-done z =
+      let (t, e) = writes-given _ w before after call (done-by (w .outcome) z) in
+      let g : Given bytes parent m (length before) t = text-given bytes parent m (length before) t e in (
+        g .book,
+        g .read,
+        record {
+          size = writes-size _ w before after call t e ∙ ap length (g .same);
+          front = writes-front _ w before after call t e (g .fits) ∙ g .same;
+          past = writes-past _ w before after call t e (g .fits);
+        },
+      )
+
+  pub written-reads-back : outcomeNumber (w .outcome) ≡ 0 → (r : Declaration) → ReadsDeclaration bytes (take (w .length) after) r → Reads r parent m
+  written-reads-back z r reads =
+      let (t, e) = writes-given _ w before after call (done-by (w .outcome) z) in
+      let text : take (w .length) after ≡ t = writes-front _ w before after call t e (text-given bytes parent m (length before) t e .fits) in
+      Reading.read-written bytes parent m (length before) t e r (subst (λ (s : List ℕ). ReadsDeclaration bytes s r) text reads)
 
 -- ---- a declaration written from the sample
 
--- The call that writes from the sample writes what the other writes for the model that the call for it gives.
-pub sample-as-written : (bytes : List ℕ) (parent room : ℕ) (m : Model) → modelAnswer bytes parent ≡ given m → sampleText bytes parent room ≡ writeAnswer bytes parent m room
+-- The call that writes from the sample writes what the other writes with the model that the call for it gives.
+sample-as-written : (bytes : List ℕ) (parent room : ℕ) (m : Model) → modelAnswer bytes parent ≡ given m → sampleText bytes parent room ≡ writeAnswer bytes parent m room
 unfolding sampleText writeAnswer inferred
 sample-as-written bytes parent room m e =
     let g = model-given bytes parent m e in
@@ -96,25 +140,33 @@ sample-model bytes parent room t e =
     let m = onward-given (modelIn (b .0) parent) _ t (b .2) in
     (m .0, ap (λ (a : Answer Book). onward a (λ b. modelIn b parent)) (b .1) ∙ m .1)
 
--- the model that was written, and the same call with it
-as-written : (bytes : List ℕ) (parent : ℕ) (w : Written) (before after : List ℕ) → Writes (sampleText bytes parent (length before)) w before after → w .outcome ≡ Done →
-    (m : Model) × (modelAnswer bytes parent ≡ given m) × Writes (writeAnswer bytes parent m (length before)) w before after
-as-written bytes parent w before after call done =
-    let a = sampleText bytes parent (length before) in
-    let k = sample-model bytes parent (length before) (valueOr [] a) (done-writes a w before after call done) in
-    let q : a ≡ writeAnswer bytes parent (k .0) (length before) = sample-as-written bytes parent (length before) (k .0) (k .1) in
-    (k .0, k .1, (call .0 ∙ ap written q, call .1 ∙ ap (bufferAfter before) q))
-
-pub sample-past : (bytes : List ℕ) (parent : ℕ) (w : Written) (before after : List ℕ) → Writes (sampleText bytes parent (length before)) w before after →
-    w .outcome ≡ Done → drop (w .length) after ≡ drop (w .length) before
-sample-past bytes parent w before after call done =
-    let k = as-written bytes parent w before after call done in
-    written-past bytes parent (k .0) w before after (k .2) done
-
-pub sample-reads-back : (bytes : List ℕ) (parent : ℕ) (w : Written) (before after : List ℕ) (call : Writes (sampleText bytes parent (length before)) w before after) → w .outcome ≡ Done →
-    (x : Inferred) → x ≡ inferred (modelAnswer bytes parent) → (r : Declaration) → ReadsDeclaration bytes (take (w .length) after) r → Reads r parent (x .model)
+-- A call that was not refused is one that writes with the model that the call for it answers.
+pub as-written : (bytes : List ℕ) (parent : ℕ) (w : Written) (before after : List ℕ) → WritesSample bytes parent w before after → outcomeNumber (w .outcome) ≡ 0 →
+    (x : Inferred) → InfersModel bytes parent x → WritesDeclaration bytes parent (x .model) w before after
 unfolding inferred
-sample-reads-back bytes parent w before after call done x asked r reads =
-    let k = as-written bytes parent w before after call done in
-    let same : x .model ≡ k .0 = ap (λ (y : Inferred). y .model) asked ∙ ap (valueOr dueModel) (k .1) in
-    subst (Reads r parent) (sym same) (written-reads-back bytes parent (k .0) w before after (k .2) done r reads)
+as-written bytes parent w before after call z x asked =
+    let a = sampleText bytes parent (length before) in
+    let (t, e) = writes-given a w before after call (done-by (w .outcome) z) in
+    let (m, k) = sample-model bytes parent (length before) t e in
+    let same : x .model ≡ m = ap (λ (y : Inferred). y .model) asked ∙ ap (valueOr dueModel) k in
+    let q : a ≡ writeAnswer bytes parent (x .model) (length before) = sample-as-written bytes parent (length before) m k ∙ ap (λ (n : Model). writeAnswer bytes parent n (length before)) (sym same) in
+    (call .0 ∙ ap written q, call .1 ∙ ap (bufferAfter before) q)
+
+-- ---- read, then written
+
+pub read-writes : (bytes text : List ℕ) (r : Declaration) → ReadsDeclaration bytes text r → outcomeNumber (r .outcome) ≡ 0 →
+    (w : Written) (before after : List ℕ) → WritesDeclaration bytes (r .parent) (r .model) w before after → longestDeclaration ≤ length before →
+    (b : Book) × IsBook bytes b × ((outcomeNumber (w .outcome) ≡ 0) × Wrote (b .names) (r .parent) (r .model) (w .length) before after)
+unfolding written
+read-writes bytes text r reads z w before after call room =
+    let e = Reading.read-writes bytes text r reads (length before) room (done-by (r .outcome) z) .2 in
+    let o : w .outcome ≡ Done = ap (λ (x : Written). x .outcome) (call .0 ∙ ap written e) in
+    let (b, q, done) = write-done bytes (r .parent) (r .model) w before after call (ap outcomeNumber o) in
+    (b, q, (ap outcomeNumber o, done))
+
+-- read as the parent p and the record m, by the number
+pub read-number : (bytes text : List ℕ) (r : Declaration) → ReadsDeclaration bytes text r → (p : ℕ) (m : Model) →
+    ((outcomeNumber (r .outcome) ≡ 0) × (r .parent ≡ p) × (r .model ≡ m)) ↔ ((b : Book) × IsBook bytes b × Spelled places (b .names) text p m)
+read-number bytes text r call p m =
+    let h = Reading.read-exactly bytes text r call p m in
+    (λ (z, a, b). h .0 (done-by (r .outcome) z, a, b), λ s. let (o, a, b) = h .1 s in (ap outcomeNumber o, a, b))

@@ -1,1 +1,2 @@
--- No definition of its own.
+pub mod Conditions
+pub mod Results

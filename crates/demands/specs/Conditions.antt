@@ -1,0 +1,112 @@
+-- To be believed: when exactly a call is refused, and for which number (demand 1; paper 01, "Where a call stops").
+-- k is the number that the call answered, 0 where it was not refused. One record for each call. Each condition includes
+-- that no earlier one applies.
+-- Assumes nothing.
+use Prim.Native.Nat.{ℕ, _≤_, _<_}
+use mathlib.Core.Path.{_≡_}
+use mathlib.Core.Bool.{true}
+use mathlib.Core.List.{List, [], List·Memᴰ}
+use mathlib.Core.Logic.{_↔_, _⊎_}
+use lib.ListN.{length}
+use Rattle.refusal.specs.declared.Refusal.{Refusal}
+use Rattle.refusal.specs.declared.Refusal.the-variants.{BookTooLong, BytesMissing, BadNameCount, BadName, NameNotAbove, NumberNotBelow, BytesLeftOver}
+use Rattle.refusal.specs.Table.{numberOf, ofBook}
+use Rattle.nameset.specs.Places.{places, OutOfRange}
+use Rattle.book.specs.Book.{Book, IsBook}
+use Rattle.book.specs.Stops.{Stops}
+use Rattle.model.specs.declared.Model.{Model}
+use Rattle.model.specs.Record.{IsChain}
+use Rattle.chain_sample.specs.Sample.{chainOfWords}
+use Rattle.declaration_spelling.specs.House.{declaration}
+use Rattle.declaration_spelling.specs.Spelled.{Spelled}
+use Rattle.declaration_spelling.specs.Stops.{Form, modelNames, formNames, Twice, HasForm}
+use Rattle.intake.specs.Acceptance.{longestWord, Passes}
+use Rattle.intake.specs.Inference.{sampleOf}
+
+-- k is the number of a refusal that concerns the book, 1 to 7.
+abbrev pub OfBook : ℕ → Type 0
+OfBook k = (f : Refusal) × (ofBook f ≡ true) × (k ≡ numberOf f)
+
+-- Of every call that takes a book. `Stops bytes f` states of the bytes alone that they are refused by f:
+-- crates/book/specs/Stops.antt.
+pub record BookConditions (bytes : List ℕ) (k : ℕ) : Type 0 where
+  -- "above 60,000 bytes"
+  pub one : (k ≡ 1) ↔ Stops bytes BookTooLong
+  -- "bytes missing for it, before its value"
+  pub two : (k ≡ 2) ↔ Stops bytes BytesMissing
+  -- the count N is "0 or above 64"
+  pub three : (k ≡ 3) ↔ Stops bytes BadNameCount
+  -- a name's "bad length or byte"
+  pub four : (k ≡ 4) ↔ Stops bytes BadName
+  -- a name "not above the one before"
+  pub five : (k ≡ 5) ↔ Stops bytes NameNotAbove
+  -- a block's "number not below N"
+  pub six : (k ≡ 6) ↔ Stops bytes NumberNotBelow
+  -- "after the last block: bytes left over"
+  pub seven : (k ≡ 7) ↔ Stops bytes BytesLeftOver
+
+-- 1 to 64.
+abbrev pub InRange : ℕ → Type 0
+InRange n = (0 < n) × (n ≤ places)
+
+-- Acceptance of the word w by the record m over n names.
+pub record WordConditions (n : ℕ) (m : Model) (w : List ℕ) (k : ℕ) : Type 0 where
+  -- "count N, also when given alone: 0 or above 64"
+  pub three : (k ≡ 3) ↔ OutOfRange n
+  -- "no chain over N names"
+  pub ten : (k ≡ 10) ↔ (InRange n × (¬ IsChain places n m))
+  -- "above 255 names, or a number not below N"
+  pub eleven : (k ≡ 11) ↔ (InRange n × (IsChain places n m × ((longestWord < length w) ⊎ ((x : ℕ) × List·Memᴰ x w × (n ≤ x)))))
+  pub none : (k ≡ 0) ↔ Passes n m w
+  pub no-other : (k ≡ 0) ⊎ ((k ≡ 3) ⊎ ((k ≡ 10) ⊎ (k ≡ 11)))
+
+-- The model of a parent.
+pub record ModelConditions (bytes : List ℕ) (parent : ℕ) (k : ℕ) : Type 0 where
+  pub book : BookConditions bytes k
+  -- "not below N"
+  pub eight : (k ≡ 8) ↔ ((b : Book) × IsBook bytes b × (length (b .names) ≤ parent))
+  -- "no block has it"
+  pub nine : (k ≡ 9) ↔ ((b : Book) × IsBook bytes b × ((parent < length (b .names)) × (sampleOf b parent ≡ [])))
+  pub none : (k ≡ 0) ↔ ((b : Book) × IsBook bytes b × ((parent < length (b .names)) × (¬ (sampleOf b parent ≡ []))))
+  pub no-other : (k ≡ 0) ⊎ (OfBook k ⊎ ((k ≡ 8) ⊎ (k ≡ 9)))
+
+-- A declaration written with the record m, into a buffer of `room` bytes.
+pub record WriteConditions (bytes : List ℕ) (parent : ℕ) (m : Model) (room : ℕ) (k : ℕ) : Type 0 where
+  pub book : BookConditions bytes k
+  pub eight : (k ≡ 8) ↔ ((b : Book) × IsBook bytes b × (length (b .names) ≤ parent))
+  pub ten : (k ≡ 10) ↔ ((b : Book) × IsBook bytes b × ((parent < length (b .names)) × (¬ IsChain places (length (b .names)) m)))
+  -- "shorter than the declaration"
+  pub twelve : (k ≡ 12) ↔ ((b : Book) × IsBook bytes b ×
+      ((parent < length (b .names)) × (IsChain places (length (b .names)) m × (room < length (declaration (b .names) parent m)))))
+  pub none : (k ≡ 0) ↔ ((b : Book) × IsBook bytes b ×
+      ((parent < length (b .names)) × (IsChain places (length (b .names)) m × (length (declaration (b .names) parent m) ≤ room))))
+  pub no-other : (k ≡ 0) ⊎ (OfBook k ⊎ ((k ≡ 8) ⊎ ((k ≡ 10) ⊎ (k ≡ 12))))
+
+-- The declaration of the model that the parent's sample gives.
+abbrev pub sampleDeclaration : Book → ℕ → List ℕ
+sampleDeclaration b parent = declaration (b .names) parent (chainOfWords (length (b .names)) (sampleOf b parent))
+
+-- A declaration written from the sample, into a buffer of `room` bytes.
+pub record SampleConditions (bytes : List ℕ) (parent room : ℕ) (k : ℕ) : Type 0 where
+  pub book : BookConditions bytes k
+  pub eight : (k ≡ 8) ↔ ((b : Book) × IsBook bytes b × (length (b .names) ≤ parent))
+  pub nine : (k ≡ 9) ↔ ((b : Book) × IsBook bytes b × ((parent < length (b .names)) × (sampleOf b parent ≡ [])))
+  pub twelve : (k ≡ 12) ↔ ((b : Book) × IsBook bytes b ×
+      ((parent < length (b .names)) × ((¬ (sampleOf b parent ≡ [])) × (room < length (sampleDeclaration b parent)))))
+  pub none : (k ≡ 0) ↔ ((b : Book) × IsBook bytes b ×
+      ((parent < length (b .names)) × ((¬ (sampleOf b parent ≡ [])) × (length (sampleDeclaration b parent) ≤ room))))
+  pub no-other : (k ≡ 0) ⊎ (OfBook k ⊎ ((k ≡ 8) ⊎ ((k ≡ 9) ⊎ (k ≡ 12))))
+
+-- A declaration read. d lists what the text spells: the parent's name, and each factor's names and mark.
+pub record ReadConditions (bytes text : List ℕ) (k : ℕ) : Type 0 where
+  pub book : BookConditions bytes k
+  -- "not the form above"
+  pub thirteen : (k ≡ 13) ↔ ((b : Book) × IsBook bytes b × ((d : Form) → ¬ HasForm text d))
+  -- "a name not in the book", "the parent's included"
+  pub fourteen : (k ≡ 14) ↔ ((b : Book) × IsBook bytes b ×
+      ((d : Form) × HasForm text d × ((x : List ℕ) × List·Memᴰ x (formNames d) × (¬ List·Memᴰ x (b .names)))))
+  -- "a name twice in the model"
+  pub fifteen : (k ≡ 15) ↔ ((b : Book) × IsBook bytes b ×
+      ((d : Form) × HasForm text d × ((x : List ℕ) → List·Memᴰ x (formNames d) → List·Memᴰ x (b .names)) × Twice (modelNames (d .factors))))
+  pub none : (k ≡ 0) ↔ ((b : Book) × IsBook bytes b × ((p : ℕ) × (m : Model) × Spelled places (b .names) text p m))
+  pub no-other : (k ≡ 0) ⊎ (OfBook k ⊎ ((k ≡ 13) ⊎ ((k ≡ 14) ⊎ (k ≡ 15))))

@@ -1,0 +1,40 @@
+-- To be believed: what a call that writes has done (demand 2), the case that demand 3 speaks of, and demand 3.
+-- Assumes nothing.
+use Prim.Native.Nat.{ℕ, _+_, _≤_}
+use mathlib.Core.Path.{_≡_}
+use mathlib.Core.List.{List, []}
+use lib.ListN.{length, take, drop}
+use Rattle.nameset.specs.Places.{places}
+use Rattle.book.specs.Book.{Book, IsBook}
+use Rattle.model.specs.declared.Model.{Model}
+use Rattle.model.specs.Record.{IsChain}
+use Rattle.model.specs.Accept.{Accepts, Names}
+use Rattle.model_language.specs.Word.{AcceptsAll}
+use Rattle.declaration_spelling.specs.House.{declaration}
+use Rattle.intake.specs.declared.Inferred.{Inferred}
+use Rattle.intake.specs.Inference.{sampleOf, InfersModel}
+
+-- The declaration of m for the parent is at the front of the buffer, in canonical form (paper 01's house spelling).
+-- Its length was answered, and the bytes behind it are those that the buffer held before.
+pub record Wrote (names : List (List ℕ)) (parent : ℕ) (m : Model) (answered : ℕ) (before after : List ℕ) : Type 0 where
+  pub size : answered ≡ length (declaration names parent m)
+  pub front : take answered after ≡ declaration names parent m
+  pub past : drop answered after ≡ drop answered before
+
+-- The call for a parent's model was made with bytes that are the book b, which has a block of the parent: its sample is
+-- not empty.
+pub record Asked (bytes : List ℕ) (parent : ℕ) (r : Inferred) (b : Book) : Type 0 where
+  pub call : InfersModel bytes parent r
+  pub read : IsBook bytes b
+  pub block : ¬ (sampleOf b parent ≡ [])
+
+-- Demand 3, of a record and the words of a sample over n names.
+pub record Minimal (n : ℕ) (ours : Model) (words : List (List ℕ)) : Type 0 where
+  -- "our model for that parent is a chain expression"
+  pub chain : IsChain places n ours
+  -- "that accepts every one of them."
+  pub accepts : AcceptsAll ours words
+  -- "Every other chain expression that accepts every word of that sample also accepts some word that ours does not
+  -- accept." The proof gives such a word, and it is short: at most one name more than that chain has factors.
+  pub no-better : (other : Model) → IsChain places n other → AcceptsAll other words → ¬ (other ≡ ours) →
+      (w : List ℕ) × Accepts other w × (¬ Accepts ours w) × (length w ≤ other .count + 1) × Names n w
