@@ -1,6 +1,6 @@
-// Reads cases from standard input and prints a line for each. A case is a label, a book and a text, each behind its length in three
-// bytes, the low one first. The line has the label, the refusal's number (0 for none), N, M, the number of the name that is the text
-// (or -), and each block as its parent, a colon and the number of its children.
+// Reads cases from standard input and prints a line for each. A case is a label, a book and a text, each behind its
+// length in three bytes, the low one first. The line has the label, the refusal's number (0 for none), N, M, the number
+// of the name that is the text (or -), and each block as its parent, a colon and the number of its children.
 use book::Found;
 use book::Layout;
 use refusal::Outcome;

@@ -1,6 +1,7 @@
-// Declarations read by a book of five names: one line with a book that is cut short, then each line of standard input with the whole book. Each line of
-// output has the refusal's number, the parent's number, the count of factors, the factor of each of the five names, the mode of each of the first five
-// factors, and the text between `[` and `]`. `tests/reading_cases.py` has the texts and what is due of each.
+// Declarations read by a book of five names: one line with a book that is cut short, then each line of standard input
+// with the whole book. Each line of output has the refusal's number, the parent's number, the count of factors, the
+// factor of each of the five names, the mode of each of the first five factors, and the text between `[` and `]`.
+// `tests/reading_cases.py` has the texts and what is due of each.
 ghost use Prim.Native.Nat.{_≤_};
 ghost use lib.ListN.{length};
 use declaration_reading::Declaration;

@@ -1,4 +1,5 @@
-// Declarations written into buffers of many lengths. Each line has the number of the outcome, the length, and the buffer: a dot where nothing was written.
+// Declarations written into buffers of many lengths. Each line has the number of the outcome, the length, and the
+// buffer: a dot where nothing was written.
 use declaration_writing::Written;
 use model::Model;
 
