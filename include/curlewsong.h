@@ -1,8 +1,10 @@
-/* Curlewsong: content models of feeds, for C and C++. The static library is for x86-64 Linux.
+/* Curlewsong: DTD content models inferred from sample blocks of XML feeds, for C and C++. The static library is for
+ * x86-64 Linux.
  *
- * Every call returns, for every input, and none keeps anything between calls; any number of threads may call at once.
+ * Every call returns, for every input. No call keeps anything for the next one, and any number of threads may call at
+ * once.
  *
- * refusal: 0 where the call was not refused, else the number of the first condition of this table that applies.
+ * refusal: 0 where the call was not refused, else one of these numbers.
  *
  *    1  the book has more than 60,000 bytes
  *    2  the book: bytes are missing for a field
@@ -12,22 +14,40 @@
  *    6  the book: a parent or child number is not below the count of names
  *    7  the book: bytes are left over after the last block
  *    8  the parent asked for is not below the count of names
- *    9  no block of the book has the parent whose model is wanted
+ *    9  no block of the book has the parent whose model is wanted from its blocks
  *   10  the model is no chain over the names
  *   11  the word has more than 255 names, or a number not below the count of names
  *   12  the buffer is shorter than the declaration
  *   13  the text does not have the form of a declaration
- *   14  a name in the text is not in the book
+ *   14  a name in the text, the parent's included, is not in the book
  *   15  the model in the text has a name twice
  *
- * A refused call changes nothing that it was lent, and the rest of its answer is: the model with count 0, every factor 255 and
- * every mode 0; no; length 0; parent 0. Each of these is also a good answer, so look at the refusal first.
+ * Several conditions may hold at once. A call makes its checks in the order that is given with it below, and answers
+ * the number of the first one that fails. A book is not checked number by number. First its length is checked (1), then
+ * its fields from left to right, and the first field at which a condition holds decides:
  *
- * What a caller owes, since nothing can check it: a pointer is not NULL, also where its length is 0, and that many bytes behind it
- * can be read (of a buffer: written); while the call runs nobody else writes to them, and a buffer overlaps nothing else that is
- * lent to the same call.
+ *    the count of names                   2, 3
+ *    a name's length                      2, 4
+ *    a name's bytes, taken whole          2, 4, 5
+ *    the count of blocks                  2
+ *    a block's parent                     2, 6
+ *    a block's child count                2
+ *    a block's children, taken whole      2, 6
+ *    the end, after the last block        7
  *
- * The bytes of a book, the order of the checks and the spelling of a declaration are those of paper 01.
+ * At one field the conditions are in this order: first 2, then those on its value. So the two bytes 00 00 are refused
+ * with 3, although bytes are missing further on.
+ *
+ * A refused call changes nothing that it borrows. The rest of its answer is then: the model with count 0, every factor
+ * 255 and every mode 0; no; length 0; parent 0. All of these but length 0 are also answers of calls that were not
+ * refused, so look at the refusal first.
+ *
+ * What a caller has to see to, since no call can check it: a pointer is not NULL, also where its length is 0. It points
+ * to that many bytes that can be read (those of a buffer also written). While the call runs nobody else writes to them,
+ * nor reads those of a buffer. A buffer overlaps nothing else that is passed to the same call.
+ *
+ * docs/FORMAT.md has the bytes of a book, the order of the checks and the text of a declaration. They are those of
+ * paper 01, which decides.
  */
 #ifndef CURLEWSONG_H
 #define CURLEWSONG_H
@@ -40,15 +60,18 @@
 extern "C" {
 #endif
 
-/* The places of a model, which is also the most names that a book may have. */
+/* The number of places of a model, which is also the most names that a book may have. */
 #define CURLEWSONG_PLACES 64
 /* In `factor`: no factor holds this name. */
 #define CURLEWSONG_NONE 255
 /* No book's declaration has more bytes: a buffer of this length is never too short. */
 #define CURLEWSONG_LONGEST_DECLARATION 2253
 
-/* A content model: `count` factors in order. factor[x] is the factor, from 0, that holds the name with number x. mode[i] is the
- * mark of factor i: 0 none, 1 '?', 2 '+', 3 '*'. A call takes any values and refuses with 10 those that are no chain. */
+/* A content model: `count` factors in order. factor[x] is the factor, from 0, that holds the name with number x, or
+ * CURLEWSONG_NONE. mode[i] is the mark of factor i: 0 none, 1 '?', 2 '+', 3 '*'. A call takes any values and refuses
+ * with 10 those that are no chain over the N names: `count` is at most 64; factor[x] is below `count` or
+ * CURLEWSONG_NONE, and CURLEWSONG_NONE for x from N on; each factor holds a name; mode[i] is 0 to 3, and 0 for i from
+ * `count` on. */
 typedef struct {
     size_t count;
     uint8_t factor[CURLEWSONG_PLACES];
@@ -76,25 +99,30 @@ typedef struct {
     curlewsong_model model;
 } curlewsong_read;
 
-/* The model of a parent from its blocks in the book: a chain that accepts every one of their words, and every other chain that
- * does accepts some word that this one does not. Refusals, in this order: 1 to 7, 8, 9. */
+/* The model of a parent from its blocks in the book: a chain that accepts every one of their words. Every other chain
+ * over the book's names that accepts them all also accepts some word that this one does not. Refusals, in this order:
+ * the book's (1 to 7), 8, 9. */
 curlewsong_model_answer curlewsong_model_of_parent(const uint8_t *book, size_t book_length, size_t parent);
 
-/* Whether the model over `names` names accepts the word: whether it is a joining of one part for each factor in order.
- * Refusals, in this order: 3, 10, 11. */
+/* Whether the model over `names` names accepts the word: whether the word is a joining of one part for each factor in
+ * order. Each byte of the word is the number of a name. Refusals, in this order: 3, 10, 11. */
 curlewsong_verdict curlewsong_accepts_word(size_t names, curlewsong_model model, const uint8_t *word, size_t word_length);
 
-/* Writes the declaration of the parent with this model, in house spelling, to the front of the buffer; the bytes behind it keep
- * their values. The parent needs no block. Refusals, in this order: 1 to 7, 8, 10, 12. */
+/* Writes the declaration of the parent with this model to the front of the buffer, in canonical form (paper 01 calls it
+ * the house spelling), and answers its length. The bytes behind it keep their values: no line feed and no NUL is
+ * written. The parent needs no block. Refusals, in this order: the book's (1 to 7), 8, 10, 12. */
 curlewsong_written curlewsong_write_declaration(const uint8_t *book, size_t book_length, size_t parent, curlewsong_model model,
                                                 uint8_t *buffer, size_t buffer_length);
 
-/* The same with the model of the parent from its blocks. Refusals, in this order: 1 to 7, 8, 9, 12. */
+/* The same with the model of the parent from its blocks; here the parent needs a block. Refusals, in this order: the
+ * book's (1 to 7), 8, 9, 12. */
 curlewsong_written curlewsong_write_from_sample(const uint8_t *book, size_t book_length, size_t parent,
                                                 uint8_t *buffer, size_t buffer_length);
 
-/* The parent and the model of a declaration over the names of the book. A text that curlewsong_write_declaration wrote reads back
- * as the same parent and model. Refusals, in this order: 1 to 7, 13, 14, 15. */
+/* The parent and the model of a declaration over the names of the book. The parent needs no block. A text that
+ * curlewsong_write_declaration wrote for this book reads back as the same parent and model, and one that
+ * curlewsong_write_from_sample wrote as the parent and the model from its blocks. Refusals, in this order: the book's
+ * (1 to 7), 13, 14, 15. */
 curlewsong_read curlewsong_read_declaration(const uint8_t *book, size_t book_length, const uint8_t *text, size_t text_length);
 
 #ifdef __cplusplus
