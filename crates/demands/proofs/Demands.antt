@@ -1,6 +1,8 @@
 -- The three demands, over the five calls open to the outside, the same calls for C, and the program. Each statement
 -- begins with `pub`; what follows, from `unfolding` or the repeated name on, is its proof: skip it. Quotes are from the
 -- demands, which call paper 01 "document 01", and from paper 01.
+-- In a quarter of an hour: `no-better-model` with specs/Results, the names that end in `-refusals` with
+-- specs/Conditions, those that end in `-kept`, then demand 2. The part for C repeats them for replies in C.
 -- Each theorem assumes one thing, `call`: the answer is as the call's contract (`ensures`) promises. The prover has shown
 -- that of every answer.
 -- The definitions in crates/demands/specs are to be believed, with those that they cite; docs/TRUST.md has the list.
