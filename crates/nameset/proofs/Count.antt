@@ -1,4 +1,4 @@
--- The bounds of a good count of names.
+-- The bounds of a good count of names, and that a set has room for every name.
 -- Assumes nothing.
 use Prim.Native.Nat.{ℕ, _≤_, _<_}
 use mathlib.Core.Path.{_≡_, refl, sym, _∙_}
@@ -9,6 +9,11 @@ use native.Mathlib.Decide.{decLt}
 use lib.Dec.{leb}
 use borrow.Author.Tests.{leb-true, le-leb}
 use Rattle.nameset.specs.Places.{places, goodCount, OutOfRange}
+use Rattle.nameset.specs.Set.{capacity}
+
+-- A set has room for a name of every place.
+pub names-fit : places ≤ capacity
+names-fit = omega arith
 
 pub count-bounds : (n : ℕ) → goodCount n ≡ true → (1 ≤ n) × (n ≤ places)
 unfolding goodCount

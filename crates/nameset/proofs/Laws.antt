@@ -18,9 +18,8 @@ use denote.Shadow.{shadow}
 use denote.Array.{each}
 use denote.Struct.Declared.{row}
 use borrow.Author.Tests.{eqb-true, eqb-false, eq-eqb}
-use Rattle.nameset.specs.Places.{places}
 use Rattle.nameset.specs.declared.NameSet.{NameSet}
-use Rattle.nameset.specs.Set.{member, Sized, empty, full, with, union, both, minus, isEmpty, first, rest, size, ofWord, wordOf}
+use Rattle.nameset.specs.Set.{capacity, member, Sized, empty, full, with, union, both, minus, isEmpty, first, rest, size, ofWord, wordOf}
 use Rattle.nameset.proofs.NameSet.{the-type, the-field}
 use Rattle.nameset.proofs.Digits.{bit, bit-or, bit-and, bit-diff, bit-zero, bit-pow, bit-past, bit-all, same-bits, zeros-below, lowest-one, cleared, bit-cleared, ones-cleared}
 
@@ -30,9 +29,9 @@ pub member-empty : (j : ℕ) → member empty j ≡ false
 unfolding member bit
 member-empty = bit-zero
 
-pub member-full : (j : ℕ) → member full j ≡ ltb j places
+pub member-full : (j : ℕ) → member full j ≡ ltb j capacity
 unfolding member bit
-member-full = bit-all places
+member-full = bit-all capacity
 
 pub member-with : (s : NameSet) (i j : ℕ) → member (with s i) j ≡ (member s j || eqb i j)
 unfolding member with bit
@@ -64,15 +63,15 @@ member-rest s j =
 -- of a struct.
 
 pub sized-empty : Sized empty
-sized-empty = pow-pos places
+sized-empty = pow-pos capacity
 
-pub sized-with : (s : NameSet) (i : ℕ) → Sized s → i < places → Sized (with s i)
+pub sized-with : (s : NameSet) (i : ℕ) → Sized s → i < capacity → Sized (with s i)
 unfolding with
-sized-with s i h l = or-lt places (s .bits) (2 ^ i) h (pow-lt l)
+sized-with s i h l = or-lt capacity (s .bits) (2 ^ i) h (pow-lt l)
 
 pub sized-union : (a b : NameSet) → Sized a → Sized b → Sized (union a b)
 unfolding union
-sized-union a b = or-lt places (a .bits) (b .bits)
+sized-union a b = or-lt capacity (a .bits) (b .bits)
 
 pub sized-both : (a b : NameSet) → Sized a → Sized (both a b)
 unfolding both
@@ -80,7 +79,7 @@ sized-both a b h = lt-of-le-of-lt (and-le-l (a .bits) (b .bits)) h
 
 pub sized-minus : (a b : NameSet) → Sized a → Sized (minus a b)
 unfolding minus both
-sized-minus a b h = xor-lt places (a .bits) (both a b .bits) h (sized-both a b h)
+sized-minus a b h = xor-lt capacity (a .bits) (both a b .bits) h (sized-both a b h)
 
 pub sized-rest : (s : NameSet) → Sized s → Sized (rest s)
 unfolding rest
@@ -106,13 +105,13 @@ sized-field = each-element (the-field .row .own) (the-field .into) Sized (λ x u
 same : (a b : NameSet) → a .bits ≡ b .bits → a ≡ b
 same a b e = ap (λ (n : ℕ). record { bits = n }) e
 
-pub member-past : (s : NameSet) (j : ℕ) → Sized s → places ≤ j → member s j ≡ false
+pub member-past : (s : NameSet) (j : ℕ) → Sized s → capacity ≤ j → member s j ≡ false
 unfolding member bit
-member-past s j = bit-past places (s .bits) j
+member-past s j = bit-past capacity (s .bits) j
 
-pub ext : (a b : NameSet) → Sized a → Sized b → ((j : ℕ) → j < places → member a j ≡ member b j) → a ≡ b
+pub ext : (a b : NameSet) → Sized a → Sized b → ((j : ℕ) → j < capacity → member a j ≡ member b j) → a ≡ b
 unfolding member bit
-ext a b ha hb h = same a b (same-bits places (a .bits) (b .bits) ha hb h)
+ext a b ha hb h = same a b (same-bits capacity (a .bits) (b .bits) ha hb h)
 
 -- ---- empty or not
 
@@ -123,7 +122,7 @@ isEmpty-is s e = same s empty (eqb-true (s .bits) 0 e)
 pub isEmpty-none : (s : NameSet) → isEmpty s ≡ true → (j : ℕ) → member s j ≡ false
 isEmpty-none s e j = rw (isEmpty-is s e) (member-empty j)
 
-pub none-isEmpty : (s : NameSet) → Sized s → ((j : ℕ) → j < places → member s j ≡ false) → isEmpty s ≡ true
+pub none-isEmpty : (s : NameSet) → Sized s → ((j : ℕ) → j < capacity → member s j ≡ false) → isEmpty s ≡ true
 unfolding isEmpty
 none-isEmpty s hs h = eq-eqb (s .bits) 0 (ap (λ (t : NameSet). t .bits) (ext s empty hs sized-empty (λ j l. h j l ∙ sym (member-empty j))))
 
@@ -136,15 +135,15 @@ member-some s j m = go (isEmpty s) refl
 
 -- ---- the smallest member
 
-pub first-bound : (s : NameSet) → first s ≤ places
+pub first-bound : (s : NameSet) → first s ≤ capacity
 unfolding first
-first-bound s = trailing-le places (s .bits)
+first-bound s = trailing-le capacity (s .bits)
 
 pub first-least : (s : NameSet) (j : ℕ) → j < first s → member s j ≡ false
 unfolding first member bit
-first-least s = zeros-below places (s .bits)
+first-least s = zeros-below capacity (s .bits)
 
-pub first-none : (s : NameSet) → isEmpty s ≡ true → first s ≡ places
+pub first-none : (s : NameSet) → isEmpty s ≡ true → first s ≡ capacity
 unfolding first trailingZeros
 first-none s e = ap first (isEmpty-is s e)
 
@@ -152,11 +151,11 @@ positive : (s : NameSet) → isEmpty s ≡ false → 0 < s .bits
 unfolding isEmpty
 positive s e = let f = eqb-false (s .bits) 0 e in omega arith
 
-pub first-in : (s : NameSet) → Sized s → isEmpty s ≡ false → (first s < places) × (member s (first s) ≡ true)
+pub first-in : (s : NameSet) → Sized s → isEmpty s ≡ false → (first s < capacity) × (member s (first s) ≡ true)
 unfolding first member bit
-first-in s h e = lowest-one places (s .bits) (positive s e) h
+first-in s h e = lowest-one capacity (s .bits) (positive s e) h
 
-pub some-member : (s : NameSet) → Sized s → isEmpty s ≡ false → (j : ℕ) × (j < places) × (member s j ≡ true)
+pub some-member : (s : NameSet) → Sized s → isEmpty s ≡ false → (j : ℕ) × (j < capacity) × (member s j ≡ true)
 some-member s h e = let r = first-in s h e in (first s, r .0, r .1)
 
 -- ---- the set without it
@@ -165,12 +164,12 @@ some-member s h e = let r = first-in s h e in (first s, r .0, r .1)
 pub rest-bits : (s : NameSet) → Sized s → rest s .bits ≡ cleared (s .bits)
 unfolding member bit first
 rest-bits s h =
-    same-bits places (rest s .bits) (cleared (s .bits)) (sized-rest s h) (lt-of-le-of-lt (and-le-l (s .bits) (s .bits - 1)) h)
-    (λ j l. member-rest s j ∙ sym (bit-cleared places (s .bits) j h))
+    same-bits capacity (rest s .bits) (cleared (s .bits)) (sized-rest s h) (lt-of-le-of-lt (and-le-l (s .bits) (s .bits - 1)) h)
+    (λ j l. member-rest s j ∙ sym (bit-cleared capacity (s .bits) j h))
 
 pub rest-smaller : (s : NameSet) → Sized s → isEmpty s ≡ false → size (rest s) < size s
 unfolding size
-rest-smaller s h e = rw (rest-bits s h) (ones-cleared places (s .bits) (positive s e) h)
+rest-smaller s h e = rw (rest-bits s h) (ones-cleared capacity (s .bits) (positive s e) h)
 
 -- ---- sets kept as words
 
@@ -182,7 +181,7 @@ pub word-of-word : (w : ℕ) → wordOf (ofWord w) ≡ w
 unfolding ofWord wordOf
 word-of-word w = refl
 
-pub sized-word : (w : ℕ) → w < 2 ^ places → Sized (ofWord w)
+pub sized-word : (w : ℕ) → w < 2 ^ capacity → Sized (ofWord w)
 unfolding ofWord
 sized-word w h = h
 

@@ -1,3 +1,4 @@
 mod Digits
 pub mod Laws
 pub mod Count
+pub mod Rows

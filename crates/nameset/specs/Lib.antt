@@ -1,3 +1,4 @@
 pub mod Places
 pub mod Set
 pub mod Promise
+pub mod Rows

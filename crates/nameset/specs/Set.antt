@@ -6,24 +6,28 @@ use mathlib.Core.Bool.{Bool}
 use lib.Dec.{eqb}
 use lib.Bits.{bitOr, bitAnd, bitXor}
 use lib.Count.{trailingZeros, ones}
-use Rattle.nameset.specs.Places.{places}
 use Rattle.nameset.specs.declared.NameSet.{NameSet}
 
--- Name i is in s where the binary digit i is 1.
+-- How many numbers a set has room for: those below it. The code has it as `CAPACITY`. Each name has a number below
+-- `places`, and so below it: `names-fit` in proofs/Count.antt.
+abbrev pub capacity : ℕ
+capacity = 64
+
+-- The number i is in s where the binary digit i is 1.
 unfoldable pub member : NameSet → ℕ → Bool
 member s i = eqb (s .bits / 2 ^ i % 2) 1
 
--- No digit stands at or past the number of places, as in every set that code holds.
+-- No digit stands at or past the capacity, as in every set that code holds.
 abbrev pub Sized : NameSet → Type 0
-Sized s = s .bits < 2 ^ places
+Sized s = s .bits < 2 ^ capacity
 
 -- The set with no member.
 abbrev pub empty : NameSet
 empty = record { bits = 0 }
 
--- The set with every name.
+-- The set with every number below the capacity.
 abbrev pub full : NameSet
-full = record { bits = 2 ^ places - 1 }
+full = record { bits = 2 ^ capacity - 1 }
 
 -- The set s with the name i put in.
 unfoldable pub with : NameSet → ℕ → NameSet
@@ -45,9 +49,9 @@ minus a b = record { bits = bitXor (a .bits) (bitAnd (a .bits) (b .bits)) }
 unfoldable pub isEmpty : NameSet → Bool
 isEmpty s = eqb (s .bits) 0
 
--- The smallest member, or the number of places where there is none.
+-- The smallest member, or the capacity where there is none.
 unfoldable pub first : NameSet → ℕ
-first s = trailingZeros places (s .bits)
+first s = trailingZeros capacity (s .bits)
 
 -- The set without its smallest member.
 unfoldable pub rest : NameSet → NameSet

@@ -1,14 +1,25 @@
-// Sets of name numbers by value, one bit for each place.
+// Sets of name numbers by value, one bit for each number, and rows of machine words that keep such sets.
 ghost use mathlib.Core.Path.{_≡_};
 ghost use mathlib.Core.Bool.{false, _&&_, _||_, not};
 ghost use Prim.Native.Nat.{_<_};
 ghost use lib.Dec.{eqb, ltb};
-ghost use Rattle.nameset.specs.Places.{places, goodCount};
-ghost use Rattle.nameset.specs.Set.{member, empty, full, with, union, both, minus, ofWord, wordOf};
+ghost use Rattle.nameset.specs.Places.{goodCount};
+ghost use Rattle.nameset.specs.Set.{capacity, member, empty, full, with, union, both, minus, ofWord, wordOf};
 ghost use Rattle.nameset.specs.Promise.{Made, Emptiness, Smallest, Shrunk};
+
+mod row; // row.rt: sets kept as rows of machine words
+
+pub use row::put_row;
+pub use row::row_at;
 
 // The number of places: names are numbered below it.
 pub const PLACES: usize = 64;
+
+// How many numbers a set has room for. Each name's number is among them.
+pub const CAPACITY: usize = 64;
+
+// How many words keep a row for each place.
+pub const ROWS: usize = 64;
 
 // Whether there may be this many names.
 pub fn good_count(names: usize) -> bool
@@ -20,7 +31,7 @@ pub fn good_count(names: usize) -> bool
     names <= PLACES
 }
 
-// Name i is a member where bit i is 1. Only this crate looks at the bits.
+// The number i is a member where bit i is 1. Only this crate looks at the bits.
 pub struct NameSet {
     bits: u64,
 }
@@ -32,9 +43,9 @@ impl NameSet {
         NameSet { bits: 0 }
     }
 
-    // The set of all names: one for each place.
+    // The set of all numbers that there is room for.
     pub fn full() -> NameSet
-        ensures { λ r. ⌜ Made r full (λ j. ltb j places) ⌝ }
+        ensures { λ r. ⌜ Made r full (λ j. ltb j capacity) ⌝ }
     {
         NameSet {
             bits: 0xffff_ffff_ffff_ffff,
@@ -42,14 +53,14 @@ impl NameSet {
     }
 
     pub fn has(self, i: usize) -> bool
-        requires { ⌜ i < places ⌝ }
+        requires { ⌜ i < capacity ⌝ }
         ensures { λ r. ⌜ r ≡ member self i ⌝ }
     {
         (self.bits >> i) % 2 == 1
     }
 
     pub fn with(self, i: usize) -> NameSet
-        requires { ⌜ i < places ⌝ }
+        requires { ⌜ i < capacity ⌝ }
         ensures { λ r. ⌜ Made r (with self i) (λ j. member self j || eqb i j) ⌝ }
     {
         NameSet {
@@ -89,7 +100,7 @@ impl NameSet {
         self.bits == 0
     }
 
-    // The smallest member, or the number of places where there is none.
+    // The smallest member, or the capacity where there is none.
     pub fn first(self) -> usize
         ensures { λ r. ⌜ Smallest self r ⌝ }
     {

@@ -8,15 +8,14 @@ use lib.Dec.{lit<}
 use lib.Pow.{shl-exact}
 use lib.Bits.{bitOr}
 use borrow.Author.Needs.{needs}
-use Rattle.nameset.specs.Places.{places}
 use Rattle.nameset.specs.declared.NameSet.{NameSet}
-use Rattle.nameset.specs.Set.{with}
+use Rattle.nameset.specs.Set.{capacity, with}
 use Rattle.nameset.proofs.Laws.{member-with}
 use Rattle.nameset.proofs.NameSet.with.Statement.{statement}
 use Rattle.nameset.proofs.NameSet.with.Tie as tie
 
 -- a 1 shifted to its place
-shifted : (s : NameSet) (i : ℕ) → i < places → record { bits = bitOr (s .bits) ((1 * 2 ^ i) % 2 ^ 64) } ≡ with s i
+shifted : (s : NameSet) (i : ℕ) → i < capacity → record { bits = bitOr (s .bits) ((1 * 2 ^ i) % 2 ^ 64) } ≡ with s i
 unfolding with
 shifted s i h = ap (λ (n : ℕ). record { bits = bitOr (s .bits) n }) (shl-exact 1 i 64 (lit< tt) (omega arith) ∙ one-mul (2 ^ i))
 
