@@ -15,11 +15,12 @@ use Rattle.nameset.specs.Promise.{Emptiness}
 use Rattle.model.specs.declared.Model.{Model}
 use Rattle.model.specs.Build.{withFactor}
 use Rattle.chain_levels.specs.Below.{anyBelow, countBelow}
+use Rattle.chain_levels.specs.Chain.{factors, singlesMode, groupMode, withAny, withEach, withBoth}
 use Rattle.chain_levels.proofs.Tests.{and-is}
 use Rattle.chain_levels.proofs.Below.{count-more}
-use Rattle.chain_peel.proofs.Counting.{appended}
+use Rattle.chain_peel.proofs.Counting.{any-count, each-count}
 use Rattle.chain_rows.specs.Rows.{groupIn}
-use Rattle.chain.specs.Chain.{holdsIn, factors, withAny, withEach, withBoth}
+use Rattle.chain.specs.Chain.{holdsIn}
 use Rattle.chain.proofs.Sets.{some-empty, some-full}
 
 -- ---- a set as one factor
@@ -35,16 +36,7 @@ any-some m n names mode r e q h = rw (some-full names r e q) h
 pub any-room : (names : NameSet) (count : ℕ) (r : Bool) → Emptiness names r → r ≡ false → count + cond (anyBelow places (member names)) 1 0 ≤ places → count < places
 any-room names count r e q h = let k : count + 1 ≤ places = (rw (some-full names r e q) at h) in omega arith
 
-pub any-count : (size : ℕ) (names : ℕ → Bool) (mode : ℕ) (m : Model) → withAny size names mode m .count ≡ m .count + cond (anyBelow size names) 1 0
-unfolding withAny
-any-count size names mode m = appended (anyBelow size names) m names mode
-
 -- ---- each group
-
-each-count : (test : ℕ → Bool) (holds : ℕ → ℕ → Bool) (mode k : ℕ) (m : Model) → withEach test holds mode k m .count ≡ m .count + countBelow k test
-unfolding withEach countBelow
-each-count test holds mode zero m = omega arith
-each-count test holds mode (suc k) m = omega (arith, appended (test k) (withEach test holds mode k m) (holds k) mode, each-count test holds mode k m)
 
 -- numbers that do not pass add nothing
 pub each-pass : (test : ℕ → Bool) (holds : ℕ → ℕ → Bool) (mode k j : ℕ) (m : Model) → ((x : ℕ) → k ≤ x → x < k + j → test x ≡ false) →
@@ -149,7 +141,7 @@ pub level-both : (m first out : Model) (singles leaders : NameSet) (holds : ℕ 
     one ≡ eqb (factors places (member singles) (member leaders)) 1 → fixed ≡ (not skipped && one) → plain ≡ cond fixed 0 1 → group ≡ cond fixed 2 3 →
     first ≡ withAny places (member singles) plain m → out ≡ withEach (member leaders) holds group places first →
     out ≡ withBoth places (not skipped && eqb (factors places (member singles) (member leaders)) 1) (member singles) (member leaders) holds m
-unfolding withBoth
+unfolding withBoth singlesMode groupMode
 level-both m first out singles leaders holds skipped one fixed plain group a b c d e f =
     let z : fixed ≡ (not skipped && eqb (factors places (member singles) (member leaders)) 1) = b ∙ ap (λ (x : Bool). not skipped && x) a in
     f

@@ -22,6 +22,7 @@ use Rattle.follow.specs.View.{viewOf}
 use Rattle.follow.specs.declared.Facts.{Facts}
 use Rattle.chain_levels.specs.Below.{anyBelow, countBelow}
 use Rattle.chain_levels.specs.Reach.{reachBy, reaches, occurs}
+use Rattle.chain_levels.specs.Chain.{factors}
 use Rattle.chain_peel.specs.Shown.{Shown}
 use Rattle.chain_peel.specs.Sets.{meets, inRows, stepsOver}
 use Rattle.chain_levels.proofs.Tests.{and-is, or-is, ltb-is, some-is, refuted, both-ways}
@@ -29,7 +30,7 @@ use Rattle.chain_levels.proofs.Below.{some-count}
 use Rattle.chain_peel.proofs.Reaching.{edge-follows}
 use Rattle.chain_rows.specs.Rows.{inWord, inRow, Round, amongRows}
 use Rattle.chain_rows.proofs.Laws.{rows-none, rows-both}
-use Rattle.chain.specs.Chain.{Reached, factors}
+use Rattle.chain.specs.Chain.{Reached}
 
 -- ---- reach
 

@@ -1,7 +1,7 @@
 -- The chain level after level: the sets that the code keeps are those of the levels, and the record is the chain so
 -- far.
 -- Assumes nothing.
-use Prim.Native.Nat.{ℕ, zero, suc, _+_, _-_, _≤_, _<_}
+use Prim.Native.Nat.{ℕ, suc, _+_, _-_, _≤_, _<_}
 use mathlib.Core.Path.{_≡_, refl, sym, _∙_, ap, ap₂, fun-ext}
 use mathlib.Core.Bool.{Bool, true, false, cond, _&&_, _||_, not}
 use mathlib.Core.List.{List}
@@ -21,7 +21,7 @@ use Rattle.follow.specs.declared.Facts.{Facts}
 use Rattle.chain_levels.specs.Below.{anyBelow, countBelow, firstBelow}
 use Rattle.chain_levels.specs.Reach.{reaches, sameGroup, loops, leads, occurs}
 use Rattle.chain_levels.specs.Rank.{isBefore, levelOf, lastLevel, skipped}
-use Rattle.chain_levels.specs.Chain.{singleAt, leadsAt, factorsAt, fixed, singlesMode, groupMode, withSingles, withGroups, withLevel, chainTo, chainOf}
+use Rattle.chain_levels.specs.Chain.{singleAt, leadsAt, factors, factorsAt, fixed, singlesMode, groupMode, withAny, withEach, withBoth, withLevel, chainTo, chainOf}
 use Rattle.chain_peel.specs.Shown.{Shown}
 use Rattle.chain_peel.specs.Sets.{isLower, isAt, isHigher, inRows, stepsOver}
 use Rattle.chain_levels.proofs.Tests.{and-is, not-is, eqb-is, some-is, some-within, refuted, both-ways}
@@ -29,11 +29,11 @@ use Rattle.chain_levels.proofs.Below.{first-le, first-is, count-past, count-lt}
 use Rattle.chain_levels.proofs.Reach.{reaches-below, group-is}
 use Rattle.chain_peel.proofs.Reaching.{occurs-small}
 use Rattle.chain_peel.proofs.Peel.{at-is, higher-is, higher-first, lower-first, higher-next, lower-next, single-at, leads-at, peel, level-left, level-none, level-found}
-use Rattle.chain_peel.proofs.Skips.{skipped-law}
+use Rattle.chain_peel.proofs.Skips.{skipped-over}
 use Rattle.chain_peel.proofs.Counting.{level-room}
 use Rattle.chain_rows.specs.Rows.{inWord, inRow, OneWay, groupIn, smallestIn, leadsIn}
-use Rattle.chain_rows.proofs.Laws.{group-law}
-use Rattle.chain.specs.Chain.{Reached, holdsIn, factors, withAny, withEach, withBoth}
+use Rattle.chain_rows.proofs.Laws.{group-members}
+use Rattle.chain.specs.Chain.{Reached, holdsIn}
 use Rattle.chain.proofs.Factors.{each-upto}
 
 -- ---- the tables
@@ -93,7 +93,7 @@ tables-made f reach behind looping lead r o own small =
     both a b = both-reach (reaches f a b) (reaches f b a) ∙ same-test (reaches f a b && reaches f b a) (sameGroup f a b) (λ e. group-is f a b .1 (and-is (reaches f a b) (reaches f b a) .0 e)) (λ e. and-is (reaches f a b) (reaches f b a) .1 (group-is f a b .0 e))
 
     group : (a b : ℕ) → member (groupIn reach behind a) b ≡ sameGroup f a b
-    group a b = group-law reach behind a b ∙ ap₂ (λ (u v : Bool). u && not v) (r .law a b) (before a b) ∙ both a b
+    group a b = group-members reach behind a b ∙ ap₂ (λ (u v : Bool). u && not v) (r .law a b) (before a b) ∙ both a b
 
     leading : (x : ℕ) → member lead x ≡ leads f x
     leading x =
@@ -102,12 +102,6 @@ tables-made f reach behind looping lead r o own small =
         ∙ leads-smallest f x
 
 -- ---- one level
-
-each-groups : (f : Follow) (l k : ℕ) (m : Model) → withEach (leadsAt f l) (sameGroup f) (groupMode f l) k m ≡ withGroups f l k m
-unfolding withEach withGroups
-each-groups f l zero m = refl
-each-groups f l (suc k) m =
-    ap (λ (n : Model). cond (leadsAt f l k) (withFactor n (sameGroup f k) (groupMode f l)) n) (each-groups f l k m)
 
 module _ (f : Follow) (n : f .names ≤ places) where
   small-at : (l x : ℕ) → isAt f l x ≡ true → x < f .names
@@ -135,11 +129,10 @@ module _ (f : Follow) (n : f .names ≤ places) where
       rw (some-singles l, c)
 
   pub level-made : (l : ℕ) (m : Model) → withBoth places (fixed f l) (singleAt f l) (leadsAt f l) (sameGroup f) m ≡ withLevel f l m
-  unfolding withBoth withAny withLevel withSingles singlesMode groupMode
+  unfolding withBoth withAny withLevel
   level-made l m =
-      ap (λ (b : Bool). withEach (leadsAt f l) (sameGroup f) (cond (fixed f l) 2 3) places (cond b (withFactor m (singleAt f l) (cond (fixed f l) 0 1)) m)) (some-singles l)
-      ∙ each-upto (leadsAt f l) (sameGroup f) (cond (fixed f l) 2 3) (f .names) places _ n (λ x a b. leads-past l x a)
-      ∙ each-groups f l (f .names) (cond (anyBelow (f .names) (singleAt f l)) (withFactor m (singleAt f l) (cond (fixed f l) 0 1)) m)
+      ap (λ (b : Bool). withEach (leadsAt f l) (sameGroup f) (groupMode (fixed f l)) places (cond b (withFactor m (singleAt f l) (singlesMode (fixed f l))) m)) (some-singles l)
+      ∙ each-upto (leadsAt f l) (sameGroup f) (groupMode (fixed f l)) (f .names) places _ n (λ x a b. leads-past l x a)
 
 -- ---- the follow rows as facts
 
@@ -217,7 +210,7 @@ module _ {f : Follow} {m : Model} {lower higher : NameSet} (s : Shown f) (n : f 
       skips-is =
           skips-law
           ∙ ap₂ (λ (p q : ℕ → Bool). stepsOver places (f .empty) (f .starts) (f .ends) (f .follows) p q) (fun-ext (st .lower-law)) (fun-ext above-is)
-          ∙ sym (skipped-law f s places (suc (st .level)) n (omega arith) (omega (arith, more .0)))
+          ∙ sym (skipped-over f s places (suc (st .level)) n (omega arith) (omega (arith, more .0)))
 
       singles-is : _≡_ {A = ℕ → Bool} (member singles) (singleAt f (suc (st .level)))
       singles-is = fun-ext (λ x. singles-law x ∙ ap₂ (λ (u v : Bool). u && not v) (on-is x) (t .loops-law x) ∙ sym (single-at f (suc (st .level)) x))

@@ -8,3 +8,4 @@ pub mod Levels
 pub mod Skipped
 pub mod Longest
 pub mod Theorem
+pub mod Samples

@@ -20,34 +20,42 @@ singleAt f l x = isSingle f x && eqb (levelOf f x) l
 unfoldable pub leadsAt : Follow → ℕ → ℕ → Bool
 leadsAt f l x = leads f x && eqb (levelOf f x) l
 
--- How many factors level l has: one for its singles, if any, and one for each loop group.
+-- How many factors a level with these singles and these smallest numbers of loop groups has, all below n: one for its
+-- singles, if any, and one for each loop group.
+unfoldable pub factors : ℕ → (ℕ → Bool) → (ℕ → Bool) → ℕ
+factors n singles leaders = cond (anyBelow n singles) 1 0 + countBelow n leaders
+
 unfoldable pub factorsAt : Follow → ℕ → ℕ
-factorsAt f l = cond (anyBelow (f .names) (singleAt f l)) 1 0 + countBelow (f .names) (leadsAt f l)
+factorsAt f l = factors (f .names) (singleAt f l) (leadsAt f l)
 
 -- "the level is not skipped and has just one factor"
 unfoldable pub fixed : Follow → ℕ → Bool
 fixed f l = not (skipped f l) && eqb (factorsAt f l) 1
 
 -- "singles get mode 0 and a loop group mode 2. Otherwise singles get mode 1 and loop groups mode 3."
-unfoldable pub singlesMode : Follow → ℕ → ℕ
-singlesMode f l = cond (fixed f l) 0 1
+unfoldable pub singlesMode : Bool → ℕ
+singlesMode fixed = cond fixed 0 1
 
-unfoldable pub groupMode : Follow → ℕ → ℕ
-groupMode f l = cond (fixed f l) 2 3
+unfoldable pub groupMode : Bool → ℕ
+groupMode fixed = cond fixed 2 3
 
--- "At each level the singles, if any, form one factor"
-unfoldable pub withSingles : Follow → ℕ → Model → Model
-withSingles f l m = cond (anyBelow (f .names) (singleAt f l)) (withFactor m (singleAt f l) (singlesMode f l)) m
+-- "At each level the singles, if any, form one factor": the record m with the names of the set below n.
+unfoldable pub withAny : ℕ → (ℕ → Bool) → ℕ → Model → Model
+withAny n names mode m = cond (anyBelow n names) (withFactor m names mode) m
 
 -- "Then each loop group is a factor of its own, in order of its smallest number": those with a smallest number below k.
-unfoldable pub withGroups : Follow → ℕ → ℕ → Model → Model
-withGroups f l zero m = m
-withGroups f l (suc k) m =
-    cond (leadsAt f l k) (withFactor (withGroups f l k m) (sameGroup f k) (groupMode f l)) (withGroups f l k m)
+unfoldable pub withEach : (ℕ → Bool) → (ℕ → ℕ → Bool) → ℕ → ℕ → Model → Model
+withEach leaders group mode zero m = m
+withEach leaders group mode (suc k) m =
+    cond (leaders k) (withFactor (withEach leaders group mode k m) (group k) mode) (withEach leaders group mode k m)
 
 -- One level: its singles "stand first".
+unfoldable pub withBoth : ℕ → Bool → (ℕ → Bool) → (ℕ → Bool) → (ℕ → ℕ → Bool) → Model → Model
+withBoth n fixed singles leaders group m =
+    withEach leaders group (groupMode fixed) n (withAny n singles (singlesMode fixed) m)
+
 unfoldable pub withLevel : Follow → ℕ → Model → Model
-withLevel f l m = withGroups f l (f .names) (withSingles f l m)
+withLevel f l m = withBoth (f .names) (fixed f l) (singleAt f l) (leadsAt f l) (sameGroup f) m
 
 -- Levels 1 to k.
 unfoldable pub chainTo : ℕ → Follow → ℕ → Model

@@ -14,7 +14,7 @@ use Rattle.follow.specs.Follow.{Follow}
 use Rattle.chain_levels.specs.Below.{anyBelow}
 use Rattle.chain_levels.specs.Reach.{sameGroup, occurs}
 use Rattle.chain_levels.specs.Rank.{levelOf, lastLevel}
-use Rattle.chain_levels.specs.Chain.{singleAt, leadsAt, singlesMode, groupMode, withSingles, withGroups, withLevel, chainTo, chainOf}
+use Rattle.chain_levels.specs.Chain.{singleAt, leadsAt, fixed, singlesMode, groupMode, withAny, withEach, withBoth, withLevel, chainTo, chainOf}
 use Rattle.chain_levels.proofs.Tests.{some-is, both-ways, refuted}
 use Rattle.chain_levels.proofs.Below.{few}
 use Rattle.chain_levels.proofs.Paths.{occurs-is, occurs-below, Sampled}
@@ -197,14 +197,14 @@ module _ (f : Follow) (size l g : ℕ) (m : Model) (holds : ℕ → Bool) (mode 
 -- ---- level by level
 
 module _ (f : Follow) (size : ℕ) (room : f .names ≤ size) where
-  singles-built : (l : ℕ) (m : Model) → Built f size l 0 m → Built f size l 1 (withSingles f l m)
-  unfolding withSingles
+  singles-built : (l : ℕ) (m : Model) → Built f size l 0 m → Built f size l 1 (withAny (f .names) (singleAt f l) (singlesMode (fixed f l)) m)
+  unfolding withAny
   singles-built l m b = go (anyBelow (f .names) (singleAt f l)) refl
     where
-      go : (q : Bool) → anyBelow (f .names) (singleAt f l) ≡ q → Built f size l 1 (cond q (withFactor m (singleAt f l) (singlesMode f l)) m)
+      go : (q : Bool) → anyBelow (f .names) (singleAt f l) ≡ q → Built f size l 1 (cond q (withFactor m (singleAt f l) (singlesMode (fixed f l))) m)
       go true e =
           let z = some-is (f .names) (singleAt f l) .0 e in
-          append f size l 0 m (singleAt f l) (singlesMode f l) room b (single-at f l) (z .0) (single-at f l (z .0) .0 (z .2)) (single-mode f l)
+          append f size l 0 m (singleAt f l) (singlesMode (fixed f l)) room b (single-at f l) (z .0) (single-at f l (z .0) .0 (z .2)) (single-mode f l)
       go false e =
           skip f size l 0 m
           (λ x a.
@@ -213,16 +213,16 @@ module _ (f : Follow) (size : ℕ) (room : f .names ≤ size) where
           e)
           b
 
-  groups-built : (l k : ℕ) (m : Model) → Built f size l 1 m → Built f size l (suc k) (withGroups f l k m)
-  unfolding withGroups
+  groups-built : (l k : ℕ) (m : Model) → Built f size l 1 m → Built f size l (suc k) (withEach (leadsAt f l) (sameGroup f) (groupMode (fixed f l)) k m)
+  unfolding withEach
   groups-built l zero m b = b
-  groups-built l (suc k) m b = go (leadsAt f l k) refl (withGroups f l k m) (groups-built l k m b)
+  groups-built l (suc k) m b = go (leadsAt f l k) refl (withEach (leadsAt f l) (sameGroup f) (groupMode (fixed f l)) k m) (groups-built l k m b)
     where
       go : (q : Bool) → leadsAt f l k ≡ q → (p : Model) → Built f size l (suc k) p →
-          Built f size l (suc (suc k)) (cond q (withFactor p (sameGroup f k) (groupMode f l)) p)
+          Built f size l (suc (suc k)) (cond q (withFactor p (sameGroup f k) (groupMode (fixed f l))) p)
       go true e p ih =
           let a = leader-at f l k .0 e in
-          append f size l (suc k) p (sameGroup f k) (groupMode f l) room ih (group-at f l k a) k a (group-mode f l k)
+          append f size l (suc k) p (sameGroup f k) (groupMode (fixed f l)) room ih (group-at f l k a) k a (group-mode f l k)
       go false e p ih = skip f size l (suc k) p (λ x a. both-ways (leadsAt f l k) (leader-at f l k .1 (leader-of f l k x a)) e) ih
 
   -- A name's number on its level is at most n, so behind that the level is whole.
@@ -242,10 +242,9 @@ module _ (f : Follow) (size : ℕ) (room : f .names ≤ size) where
           go (no q) = inr (omega arith, omega (arith, number-low f x))
 
   level-built : (l : ℕ) (m : Model) → Built f size l 0 m → Built f size (suc l) 0 (withLevel f l m)
-  unfolding withLevel
+  unfolding withLevel withBoth
   level-built l m b =
-      carry f size l (suc (f .names)) (suc l) 0 (withGroups f l (f .names) (withSingles f l m)) (level-done l)
-      (groups-built l (f .names) (withSingles f l m) (singles-built l m b))
+      carry f size l (suc (f .names)) (suc l) 0 _ (level-done l) (groups-built l (f .names) _ (singles-built l m b))
 
   module _ (s : Sampled f) where
     nothing-done : (x : ℕ) → Done f 1 0 x → ⊥

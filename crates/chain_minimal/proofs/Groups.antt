@@ -130,11 +130,11 @@ module _ (f : Follow) where
 
   -- ---- modes
 
-  pub single-mode : (l x : ℕ) → At f l 0 x → modeFor f x ≡ singlesMode f l
+  pub single-mode : (l x : ℕ) → At f l 0 x → modeFor f x ≡ singlesMode (fixed f l)
   unfolding modeFor
   single-mode l x (o, e, p) = rw (single-number x p, e)
 
-  pub group-mode : (l k x : ℕ) → At f l (suc k) x → modeFor f x ≡ groupMode f l
+  pub group-mode : (l k x : ℕ) → At f l (suc k) x → modeFor f x ≡ groupMode (fixed f l)
   unfolding modeFor
   group-mode l k x (o, e, p) = rw (loop-number x k p .0, e)
 

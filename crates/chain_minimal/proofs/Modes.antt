@@ -13,7 +13,7 @@ use Rattle.follow.specs.Follow.{Follow}
 use Rattle.chain_levels.specs.Below.{anyBelow, countBelow}
 use Rattle.chain_levels.specs.Reach.{loops, occurs}
 use Rattle.chain_levels.specs.Rank.{levelOf, skipped}
-use Rattle.chain_levels.specs.Chain.{singleAt, leadsAt, factorsAt, fixed, singlesMode, groupMode}
+use Rattle.chain_levels.specs.Chain.{singleAt, leadsAt, factors, factorsAt, fixed, singlesMode, groupMode}
 use Rattle.chain_levels.proofs.Tests.{and-is, not-is, eqb-is, some-is, both-ways, refuted}
 use Rattle.chain_levels.proofs.Below.{count-one, count-two, count-some, count-other}
 use Rattle.chain_levels.proofs.Paths.{occurs-is, occurs-below}
@@ -53,7 +53,7 @@ module _ (f : Follow) where
     groups = countBelow (f .names) (leadsAt f l)
 
     factors-are : (b : Bool) → anyBelow (f .names) (singleAt f l) ≡ b → factorsAt f l ≡ cond b 1 0 + groups
-    unfolding factorsAt groups
+    unfolding factors factorsAt groups
     factors-are b e = rw e
 
     below : (g x : ℕ) → At f l g x → x < f .names

@@ -11,7 +11,7 @@ use Rattle.follow.specs.Follow.{Follow}
 use Rattle.chain_levels.specs.Below.{firstBelow}
 use Rattle.chain_levels.specs.Reach.{sameGroup, loops, occurs}
 use Rattle.chain_levels.specs.Rank.{levelOf}
-use Rattle.chain_levels.specs.Chain.{singlesMode, groupMode}
+use Rattle.chain_levels.specs.Chain.{fixed, singlesMode, groupMode}
 
 -- On its level, 0 for a single, and one more than the smallest number of its loop group for a name of one.
 unfoldable pub groupNo : Follow → ℕ → ℕ
@@ -27,7 +27,7 @@ SortsWith f x y = (levelOf f x ≡ levelOf f y) × (groupNo f x ≡ groupNo f y)
 
 -- The mode of the factor of x.
 unfoldable pub modeFor : Follow → ℕ → ℕ
-modeFor f x = cond (loops f x) (groupMode f (levelOf f x)) (singlesMode f (levelOf f x))
+modeFor f x = cond (loops f x) (groupMode (fixed f (levelOf f x))) (singlesMode (fixed f (levelOf f x)))
 
 -- The record is the chain that the levels give.
 pub record Arranged (f : Follow) (m : Model) : Type 0 where

@@ -13,16 +13,25 @@ use Rattle.follow.specs.Follow.{Follow}
 use Rattle.chain_levels.specs.Below.{anyBelow, countBelow}
 use Rattle.chain_levels.specs.Reach.{loops, occurs, leads, isSingle, sameGroup}
 use Rattle.chain_levels.specs.Rank.{levelOf}
-use Rattle.chain_levels.specs.Chain.{singleAt, leadsAt, factorsAt, withSingles, withGroups, withLevel, chainTo, singlesMode, groupMode}
+use Rattle.chain_levels.specs.Chain.{singleAt, leadsAt, factors, factorsAt, fixed, singlesMode, groupMode, withAny, withEach, withBoth, withLevel, chainTo}
 use Rattle.chain_levels.proofs.Tests.{and-is, not-is, eqb-is, both-ways}
 use Rattle.chain_levels.proofs.Below.{count-all, count-join, some-count}
 use Rattle.chain_peel.proofs.Peel.{leads-loops}
 
 -- the number of factors after one more, or none
-pub appended : (b : Bool) (m : Model) (holds : ℕ → Bool) (mode : ℕ) → cond b (withFactor m holds mode) m .count ≡ m .count + cond b 1 0
+appended : (b : Bool) (m : Model) (holds : ℕ → Bool) (mode : ℕ) → cond b (withFactor m holds mode) m .count ≡ m .count + cond b 1 0
 unfolding withFactor
 appended true m holds mode = refl
 appended false m holds mode = omega arith
+
+pub any-count : (n : ℕ) (names : ℕ → Bool) (mode : ℕ) (m : Model) → withAny n names mode m .count ≡ m .count + cond (anyBelow n names) 1 0
+unfolding withAny
+any-count n names mode m = appended (anyBelow n names) m names mode
+
+pub each-count : (leaders : ℕ → Bool) (group : ℕ → ℕ → Bool) (mode k : ℕ) (m : Model) → withEach leaders group mode k m .count ≡ m .count + countBelow k leaders
+unfolding withEach countBelow
+each-count leaders group mode zero m = omega arith
+each-count leaders group mode (suc k) m = omega (arith, appended (leaders k) (withEach leaders group mode k m) (group k) mode, each-count leaders group mode k m)
 
 module _ (f : Follow) where
   single-is : (l x : ℕ) → singleAt f l x ≡ true → (loops f x ≡ false) × (levelOf f x ≡ l)
@@ -36,15 +45,6 @@ module _ (f : Follow) where
   leads-is l x e =
       let p = and-is (leads f x) (eqb (levelOf f x) l) .0 e in
       (leads-loops f x (p .0), eqb-is (levelOf f x) l .0 (p .1))
-
-  singles-count : (l : ℕ) (m : Model) → withSingles f l m .count ≡ m .count + cond (anyBelow (f .names) (singleAt f l)) 1 0
-  unfolding withSingles
-  singles-count l m = appended (anyBelow (f .names) (singleAt f l)) m (singleAt f l) (singlesMode f l)
-
-  groups-count : (l k : ℕ) (m : Model) → withGroups f l k m .count ≡ m .count + countBelow k (leadsAt f l)
-  unfolding withGroups countBelow
-  groups-count l zero m = omega arith
-  groups-count l (suc k) m = omega (arith, appended (leadsAt f l k) (withGroups f l k m) (sameGroup f k) (groupMode f l), groups-count l k m)
 
   -- those of a level, and those up to it
   upto : ℕ → ℕ → Bool
@@ -69,14 +69,15 @@ module _ (f : Follow) where
 
   module _ (size : ℕ) where
     bound : (l : ℕ) → chainTo size f l .count ≤ countBelow (f .names) (upto l)
-    unfolding chainTo emptyModel withLevel
+    unfolding chainTo emptyModel withLevel withBoth
     bound zero = omega arith
     bound (suc l) =
         omega (
           arith,
           bound l,
-          singles-count (suc l) (chainTo size f l),
-          groups-count (suc l) (f .names) (withSingles f (suc l) (chainTo size f l)),
+          any-count (f .names) (singleAt f (suc l)) (singlesMode (fixed f (suc l))) (chainTo size f l),
+          each-count (leadsAt f (suc l)) (sameGroup f) (groupMode (fixed f (suc l))) (f .names)
+              (withAny (f .names) (singleAt f (suc l)) (singlesMode (fixed f (suc l))) (chainTo size f l)),
           some-count (f .names) (singleAt f (suc l)),
           level-count (suc l),
           upto-count l,
@@ -84,7 +85,7 @@ module _ (f : Follow) where
 
     -- there is a place for each factor of the next level
     pub level-room : (l : ℕ) → chainTo size f l .count + factorsAt f (suc l) ≤ f .names
-    unfolding factorsAt
+    unfolding factors factorsAt
     level-room l =
         omega (
           arith,

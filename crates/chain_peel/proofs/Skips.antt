@@ -169,6 +169,6 @@ module _ (f : Follow) (s : Shown f) (size l : ℕ) (k : f .names ≤ size) (firs
       (λ e. to (four (empty-over f l) (start-over f l) (end-over f l) (inner-over f l) .0 e))
       (λ e. four (empty-over f l) (start-over f l) (end-over f l) (inner-over f l) .1 (from e))
 
-  pub skipped-law : skipped f l ≡ stepsOver size (f .empty) (f .starts) (f .ends) (f .follows) (isLower f l) (isHigher f l)
+  pub skipped-over : skipped f l ≡ stepsOver size (f .empty) (f .starts) (f .ends) (f .follows) (isLower f l) (isHigher f l)
   unfolding stepsOver over comes
-  skipped-law = same-over
+  skipped-over = same-over

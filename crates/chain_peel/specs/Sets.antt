@@ -1,4 +1,4 @@
--- A means: `peel`, `skipped-law` in crates/chain_peel/proofs/{Peel,Skips}.antt join it to chain_levels/specs/Rank.antt.
+-- A means: `peel`, `skipped-over` in crates/chain_peel/proofs/{Peel,Skips}.antt join it to chain_levels/specs/Rank.antt.
 -- Assumes nothing.
 -- The names of the levels below a level, of a level, and of those above it.
 use Prim.Native.Nat.{ℕ}

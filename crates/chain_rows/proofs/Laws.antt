@@ -305,13 +305,13 @@ among-more rows s r q a b x e f law = law ∙ rw (add-one a, e, of-law (getD row
 
 -- ---- loop groups
 
-pub group-law : (reach behind : List ℕ) (a b : ℕ) → member (groupIn reach behind a) b ≡ (inRow reach a b && not (inRow behind a b))
+pub group-members : (reach behind : List ℕ) (a b : ℕ) → member (groupIn reach behind a) b ≡ (inRow reach a b && not (inRow behind a b))
 unfolding groupIn inRow inWord
-group-law reach behind a b = member-minus (ofWord (getD reach a 0)) (ofWord (getD behind a 0)) b
+group-members reach behind a b = member-minus (ofWord (getD reach a 0)) (ofWord (getD behind a 0)) b
 
 pub leads-past : (reach behind : List ℕ) (a : ℕ) → length reach ≡ places → places ≤ a → leadsIn reach behind a ≡ false
 unfolding leadsIn smallestIn
-leads-past reach behind a e h = rw (group-law reach behind a a, row-past reach a a e h)
+leads-past reach behind a e h = rw (group-members reach behind a a, row-past reach a a e h)
 
 pub group-made : (reach behind : List ℕ) (a : ℕ) (p q r : NameSet) → p ≡ ofWord (getD reach a 0) → q ≡ ofWord (getD behind a 0) → r ≡ minus p q → r ≡ groupIn reach behind a
 unfolding groupIn

@@ -27,6 +27,6 @@ module _ (s : List ℕ) (l : Layout) (parent : ℕ) (laid : LaidOut s l) (facts 
   pub chain-ready : (l .names ≤ places) × Shown (viewOf (l .names) facts)
   chain-ready = (few-names s l laid, subst Shown (sym view-is) (shown-words (l .names) (wordsOf parent (blocksIn s)) (sample-over s l parent laid)))
 
-  pub chain-made : (m : Model) → m ≡ chainOf places (viewOf (l .names) facts) → m ≡ chainOfWords (l .names) (wordsOf parent (blocksIn s))
+  pub chain-made : (m : Model) → m ≡ chainOf places (viewOf (l .names) facts) → m ≡ chainOfWords places (l .names) (wordsOf parent (blocksIn s))
   unfolding chainOfWords
   chain-made m e = e ∙ ap (λ (f : Follow). chainOf places f) view-is

@@ -4,11 +4,10 @@
 -- Assumes nothing.
 use Prim.Native.Nat.{ℕ}
 use mathlib.Core.List.{List}
-use Rattle.nameset.specs.Places.{places}
 use Rattle.model.specs.declared.Model.{Model}
 use Rattle.follow.specs.Follow.{followOf}
 use Rattle.chain_levels.specs.Chain.{chainOf}
 
--- The chain that paper 01 gives to words over n names, as a record of 64 places.
-unfoldable pub chainOfWords : ℕ → List (List ℕ) → Model
-chainOfWords n words = chainOf places (followOf n words)
+-- The chain that paper 01 gives to words over n names, as a record of `size` places (64 in paper 01: `places`).
+unfoldable pub chainOfWords : ℕ → ℕ → List (List ℕ) → Model
+chainOfWords size n words = chainOf size (followOf n words)

@@ -3,6 +3,7 @@ use book::Layout;
 use model::Model;
 ghost use mathlib.Core.Path.{_≡_};
 ghost use lib.ListN.{length};
+ghost use Rattle.nameset.specs.Places.{places};
 ghost use Rattle.book.specs.Book.{blocksIn};
 ghost use Rattle.book.specs.Access.{LaidOut};
 ghost use Rattle.follow.specs.Sample.{wordsOf};
@@ -18,7 +19,7 @@ pub struct SampleChain {
 pub fn sample_chain(bytes: &[u8], layout: Layout, parent: usize) -> SampleChain
     requires { ⌜ LaidOut (now bytes) layout ⌝ }
     ensures { λ r. ⌜ (r .blocks ≡ length (wordsOf parent (blocksIn (now (bytes .entry)))))
-        × (r .model ≡ chainOfWords (layout .names) (wordsOf parent (blocksIn (now (bytes .entry))))) ⌝ }
+        × (r .model ≡ chainOfWords places (layout .names) (wordsOf parent (blocksIn (now (bytes .entry))))) ⌝ }
 {
     let found = follow::parent_facts(bytes, layout, parent);
     SampleChain {

@@ -240,7 +240,7 @@ only-placed bytes parent r b a = Model3.only-placed bytes parent r (a .call) b (
 -- The executable definition of the same chain, which the code is proved to compute. (`chainOfWords` is `chainOf` of the
 -- words' follow facts.)
 pub model-is-chain : (bytes : List ℕ) (parent : ℕ) (r : Inferred) (b : Book) → Asked bytes parent r b →
-    r .model ≡ chainOfWords (length (b .names)) (sampleOf b parent)
+    r .model ≡ chainOfWords places (length (b .names)) (sampleOf b parent)
 model-is-chain bytes parent r b a = sym (Model3.model-is bytes parent r (a .call) b (a .read) (a .block))
 
 -- A reader may skip the laws from here to `skipped-law`: they join executable definitions to the specified ones.
@@ -285,7 +285,7 @@ module _ (bytes : List ℕ) (parent : ℕ) (r : Inferred) (b : Book) (a : Asked 
 pub same-model : (s t : List ℕ) (p q : ℕ) (x y : Inferred) (b c : Book) → Asked s p x b → Asked t q y c →
     length (b .names) ≡ length (c .names) → SameWords (sampleOf b p) (sampleOf c q) → x .model ≡ y .model
 same-model s t p q x y b c one other names same =
-    sym (Model3.model-is s p x (one .call) b (one .read) (one .block)) ∙ ap (λ (n : ℕ). chainOfWords n (sampleOf b p)) names
+    sym (Model3.model-is s p x (one .call) b (one .read) (one .block)) ∙ ap (λ (n : ℕ). chainOfWords places n (sampleOf b p)) names
     ∙ Model3.same-sample (length (c .names)) (sampleOf b p)
     (sampleOf c q) same ∙ Model3.model-is t q y (other .call) c (other .read) (other .block)
 

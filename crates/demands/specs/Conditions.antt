@@ -84,7 +84,7 @@ pub record WriteConditions (bytes : List ℕ) (parent : ℕ) (m : Model) (room :
 
 -- The declaration of the model that the parent's sample gives.
 abbrev pub sampleDeclaration : Book → ℕ → List ℕ
-sampleDeclaration b parent = declaration (b .names) parent (chainOfWords (length (b .names)) (sampleOf b parent))
+sampleDeclaration b parent = declaration (b .names) parent (chainOfWords places (length (b .names)) (sampleOf b parent))
 
 -- A declaration written from the sample, into a buffer of `room` bytes.
 pub record SampleConditions (bytes : List ℕ) (parent room : ℕ) (k : ℕ) : Type 0 where

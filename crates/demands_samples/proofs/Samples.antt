@@ -8,7 +8,7 @@ use Rattle.follow.specs.Follow.{someWord, beginsWith, endsWith, hasPair, isEmpt
 use Rattle.chain_levels.specs.Below.{anyBelow, countBelow, firstBelow, largestBelow}
 use Rattle.chain_levels.specs.Reach.{edge, reachBy, reaches, sameGroup, loops, leads, occurs, isSingle}
 use Rattle.chain_levels.specs.Rank.{isBefore, levelBy, levelOf, lastLevel, skipped}
-use Rattle.chain_levels.specs.Chain.{singleAt, leadsAt, factorsAt, fixed, singlesMode, groupMode, withSingles, withGroups, withLevel, chainTo, chainOf}
+use Rattle.chain_levels.specs.Chain.{singleAt, leadsAt, factors, factorsAt, fixed, singlesMode, groupMode, withAny, withEach, withBoth, withLevel, chainTo, chainOf}
 use Rattle.chain_sample.specs.Sample.{chainOfWords}
 use Rattle.declaration_spelling.specs.Token.{markByte}
 use Rattle.declaration_spelling.specs.House.{members, factorsFrom, factorsOf, nameAt, namesAt, named, opening, emptyWord, markText, barsText, groupText, factorText, othersText, bodyText, houseText, declaration}
@@ -28,8 +28,8 @@ unfolding
     -- levels
     isBefore levelBy levelOf lastLevel skipped
     -- the chain
-    emptyModel entriesWith withFactor singleAt leadsAt factorsAt fixed singlesMode groupMode
-    withSingles withGroups withLevel chainTo chainOf chainOfWords
+    emptyModel entriesWith withFactor singleAt leadsAt factors factorsAt fixed singlesMode groupMode
+    withAny withEach withBoth withLevel chainTo chainOf chainOfWords
     -- the declaration
     factorOf modeOf markByte members factorsFrom factorsOf nameAt namesAt named opening emptyWord
     markText barsText groupText factorText othersText bodyText houseText declaration

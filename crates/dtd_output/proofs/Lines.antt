@@ -66,10 +66,10 @@ module _ (s : List ℕ) (l : Layout) (laid : LaidOut s l) where
     pub nothing-put : k ≡ 0 → (d : List ℕ) (at : ℕ) → Put d at (lineOf (bookIn s) p) at d
     nothing-put e d at = put-is d at [] (lineOf (bookIn s) p) at d (sym (no-line e)) (put-nothing d at)
 
-    module _ (some : k ≡ 0 → ⊥) (m : Model) (made : m ≡ chainOfWords (l .names) (wordsOf p (blocksIn s))) where
+    module _ (some : k ≡ 0 → ⊥) (m : Model) (made : m ≡ chainOfWords places (l .names) (wordsOf p (blocksIn s))) where
       chain-is : m ≡ chainIn (bookIn s) p
       unfolding chainIn sampleOf
-      chain-is = made ∙ ap (λ (n : ℕ). chainOfWords n (wordsOf p (blocksIn s))) (name-count s l laid)
+      chain-is = made ∙ ap (λ (n : ℕ). chainOfWords places n (wordsOf p (blocksIn s))) (name-count s l laid)
 
       pub chain : IsChain places (l .names) m
       unfolding sampleOf

@@ -7,6 +7,7 @@ use mathlib.Core.List.{List, [], _∷_}
 use native.Mathlib.Omega.{arith}
 use lib.ListN.{length}
 use borrow.Author.Tests.{lt-ltb, le-ltb}
+use Rattle.nameset.specs.Places.{places}
 use Rattle.refusal.specs.declared.Refusal.{Refusal}
 use Rattle.refusal.specs.declared.Refusal.the-variants.{BadParent, NoBlock}
 use Rattle.refusal.specs.declared.Outcome.the-variants.{Done, Refused}
@@ -65,11 +66,11 @@ module _ (s : List ℕ) (p : ℕ) (r : Reading) (read : r ≡ readingOf (bookOf 
       stopped-none x z e =
           rw (← read, laid .read, lt-ltb p (length (laid .book .names)) (omega (arith, names-are)), none-there (sampleOf (laid .book) p) (sym count-is ∙ z)) e
 
-      pub model-made : (m : Model) → (k ≡ 0 → ⊥) → m ≡ chainOfWords (r .layout .names) (wordsOf p (blocksIn s)) → record { outcome = Done; layout = r .layout; model = m } ≡ found (readingOf (bookOf s)) (modelAnswer s p)
+      pub model-made : (m : Model) → (k ≡ 0 → ⊥) → m ≡ chainOfWords places (r .layout .names) (wordsOf p (blocksIn s)) → record { outcome = Done; layout = r .layout; model = m } ≡ found (readingOf (bookOf s)) (modelAnswer s p)
       unfolding modelAnswer modelIn badParent chainIn found
       model-made m d e =
           rw (← read, laid .read, lt-ltb p (length (laid .book .names)) (omega (arith, names-are)), some-there (sampleOf (laid .book) p) (λ z. d (count-is ∙ z)))
-          (ap (λ (x : Model). record { outcome = Done; layout = r .layout; model = x }) (e ∙ ap (λ (n : ℕ). chainOfWords n (wordsOf p (blocksIn s))) names-are ∙ ap (chainOfWords (length (laid .book .names))) sample-is))
+          (ap (λ (x : Model). record { outcome = Done; layout = r .layout; model = x }) (e ∙ ap (λ (n : ℕ). chainOfWords places n (wordsOf p (blocksIn s))) names-are ∙ ap (chainOfWords places (length (laid .book .names))) sample-is))
 
 -- ---- the layout left out
 

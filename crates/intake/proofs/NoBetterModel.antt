@@ -47,7 +47,7 @@ module _ (bytes : List ℕ) (parent : ℕ) (answer : Inferred) (call : answer �
   pub not-refused : answer .outcome ≡ Done
   not-refused = ap (λ (x : Inferred). x .outcome) answer-is
 
-  pub model-is : chainOfWords n sample ≡ ours
+  pub model-is : chainOfWords places n sample ≡ ours
   unfolding chainIn
   model-is = sym (ap (λ (x : Inferred). x .model) answer-is)
 
@@ -83,6 +83,6 @@ module _ (bytes : List ℕ) (parent : ℕ) (answer : Inferred) (call : answer �
   only-placed m c p = Demand.only-placed places n (few bytes book read) small sample (sample-names bytes book read parent) block m c p ∙ model-is
 
 -- "In whatever order and however often": the chain depends only on which words there are.
-pub same-sample : (n : ℕ) (us vs : List (List ℕ)) → SameWords us vs → chainOfWords n us ≡ chainOfWords n vs
+pub same-sample : (n : ℕ) (us vs : List (List ℕ)) → SameWords us vs → chainOfWords places n us ≡ chainOfWords places n vs
 unfolding chainOfWords
 same-sample n us vs same = ap (λ (f : Follow). chainOf places f) (same-facts n us vs same)

@@ -7,6 +7,7 @@ use mathlib.Core.Bool.{Bool, true, false, not}
 use mathlib.Core.List.{List, [], _∷_}
 use lib.Dec.{ltb}
 use lib.ListN.{length}
+use Rattle.nameset.specs.Places.{places}
 use Rattle.refusal.specs.declared.Refusal.{Refusal}
 use Rattle.refusal.specs.declared.Refusal.the-variants.{BadParent, NoBlock}
 use Rattle.refusal.specs.Answer.{Answer, given, refused, onward, refuseIf, valueOr, outcomeOf}
@@ -34,7 +35,7 @@ badParent b parent = not (ltb parent (length (b .names)))
 
 -- The chain of the parent's sample over the book's names.
 unfoldable pub chainIn : Book → ℕ → Model
-chainIn b parent = chainOfWords (length (b .names)) (sampleOf b parent)
+chainIn b parent = chainOfWords places (length (b .names)) (sampleOf b parent)
 
 -- 8, then "9: no block has it", else the chain.
 unfoldable pub modelIn : Book → ℕ → Answer Model

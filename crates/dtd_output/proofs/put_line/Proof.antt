@@ -3,6 +3,7 @@
 use mathlib.Core.Path.{_≡_}
 use lib.ListN.{length}
 use borrow.Author.Needs.{needs}
+use Rattle.nameset.specs.Places.{places}
 use Rattle.book.specs.Book.{blocksIn}
 use Rattle.follow.specs.Sample.{wordsOf}
 use Rattle.follow.specs.Adding.{factsOf}
@@ -27,7 +28,7 @@ gathered c =
 
 made : (c : tie.After-chain) →
     c .chain .result
-    ≡ chainOfWords (c .before .before .before .before .before .before .before .args .layout .names)
+    ≡ chainOfWords places (c .before .before .before .before .before .before .before .args .layout .names)
     (wordsOf (c .before .before .before .before .before .before .before .args .parent) (blocksIn (c .before .before .before .before .before .before .before .args .bytes .now)))
 made c =
     let found = c .before .before .before in
