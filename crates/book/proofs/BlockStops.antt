@@ -17,7 +17,7 @@ use Rattle.refusal.proofs.Answers.{refused-same, given-refused, onward-refused,
 use Rattle.book.specs.Field.{Field, field, byteOf, bytesOf}
 use Rattle.book.specs.Book.{Block, allBelow, blockOf, blocksOf}
 use Rattle.book.specs.Bytes.{blockBytes, blocksBytes}
-use Rattle.book.specs.Stops.{Within, BlockMissing, BlockBad}
+use Rattle.book.specs.Stops.{BlocksBelow, BlockMissing, BlockBad}
 use Rattle.book.proofs.Told.{bytes-told, block-told}
 use Rattle.book.proofs.FieldStops.{bytes-missing, bytes-given, bytes-stop, joined}
 
@@ -29,7 +29,7 @@ pub data BlockStop (n : ℕ) (rest : List ℕ) (r : Refusal) : Type 0 where
   over : BlockBad n rest → NumberNotBelow ≡ r → BlockStop n rest r
 
 -- a block whose children were taken
-abbrev taken : ℕ → ℕ → Field (List ℕ) → Answer (Field Block)
+abbrev pub taken : ℕ → ℕ → Field (List ℕ) → Answer (Field Block)
 taken n p w = refuseIf (not (allBelow n (w .value))) NumberNotBelow (given (field (record { parent = p; word = w .value }) (w .rest)))
 
 pub block-stop : (n : ℕ) (s : List ℕ) (r : Refusal) → blockOf n s ≡ refused r → BlockStop n s r
@@ -76,7 +76,7 @@ block-given n b rest l k = rw (lt-ltb (b .parent) n l, bytes-given (b .word) res
 pub record BlocksStop (n k : ℕ) (s : List ℕ) (r : Refusal) : Type 0 where
   pub blocks : List Block
   pub rest : List ℕ
-  pub within : Within n blocks
+  pub within : BlocksBelow n blocks
   pub stand : s ≡ blocksBytes blocks rest
   pub fewer : length blocks < k
   pub at : blockOf n rest ≡ refused r
@@ -104,7 +104,7 @@ blocks-stop n (suc k) s r e = more (λ t h. blocks-stop n k t r h) (onward-refus
     more again (inr (b, h, e)) =
         ⊎-elim (λ q. behind b h (again (b .rest) q)) (λ q. absurd (given-refused _ r (q .2))) (onward-refused (blocksOf n k (b .rest)) (joined b) r e)
 
-pub blocks-refused : (n : ℕ) (bs : List Block) (rest : List ℕ) (r : Refusal) (k : ℕ) → Within n bs → length bs < k → blockOf n rest ≡ refused r →
+pub blocks-refused : (n : ℕ) (bs : List Block) (rest : List ℕ) (r : Refusal) (k : ℕ) → BlocksBelow n bs → length bs < k → blockOf n rest ≡ refused r →
     blocksOf n k (blocksBytes bs rest) ≡ refused r
 unfolding blocksOf blocksBytes
 blocks-refused n [] rest r zero w l e = absurd (omega arith)
@@ -112,7 +112,7 @@ blocks-refused n [] rest r (suc k) w l e = rw e
 blocks-refused n (b ∷ bs) rest r zero w l e = absurd (omega arith)
 blocks-refused n (b ∷ bs) rest r (suc k) (p, c, w) l e = rw (block-given n b (blocksBytes bs rest) p c, blocks-refused n bs rest r k w (le-of-suc-le-suc l) e)
 
-pub blocks-given : (n : ℕ) (bs : List Block) (rest : List ℕ) → Within n bs → blocksOf n (length bs) (blocksBytes bs rest) ≡ given (field bs rest)
+pub blocks-given : (n : ℕ) (bs : List Block) (rest : List ℕ) → BlocksBelow n bs → blocksOf n (length bs) (blocksBytes bs rest) ≡ given (field bs rest)
 unfolding blocksOf blocksBytes
 blocks-given n [] rest w = refl
 blocks-given n (b ∷ bs) rest (p, c, w) = rw (block-given n b (blocksBytes bs rest) p c, blocks-given n bs rest w)

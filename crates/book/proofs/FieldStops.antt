@@ -13,7 +13,7 @@ use Rattle.refusal.specs.declared.Refusal.{Refusal}
 use Rattle.refusal.specs.declared.Refusal.the-variants.{BytesMissing}
 use Rattle.refusal.specs.Answer.{Answer, given, refused}
 use Rattle.refusal.proofs.Answers.{given-refused, onward-refused, check-refused}
-use Rattle.book.specs.Field.{Field, field, bytesOf, countOf}
+use Rattle.book.specs.Field.{Field, field, bytesOf, countSize, countOf}
 
 -- ---- bytes and counts
 
@@ -31,9 +31,9 @@ pub bytes-stop : (n : ℕ) (s : List ℕ) (r : Refusal) → bytesOf n s ≡ refu
 unfolding bytesOf
 bytes-stop n s r e = ⊎-elim (λ h. (ltb-true (length s) n (h .0), h .1)) (λ h. absurd (given-refused _ r (h .1))) (check-refused (ltb (length s) n) BytesMissing _ r e)
 
-pub count-stop : (s : List ℕ) (r : Refusal) → countOf s ≡ refused r → (length s < 2) × (BytesMissing ≡ r)
+pub count-stop : (s : List ℕ) (r : Refusal) → countOf s ≡ refused r → (length s < countSize) × (BytesMissing ≡ r)
 unfolding countOf
-count-stop s r e = ⊎-elim (bytes-stop 2 s r) (λ h. absurd (given-refused _ r (h .2))) (onward-refused (bytesOf 2 s) _ r e)
+count-stop s r e = ⊎-elim (bytes-stop countSize s r) (λ h. absurd (given-refused _ r (h .2))) (onward-refused (bytesOf countSize s) _ r e)
 
 -- ---- one before the others, names as well as blocks
 

@@ -2,7 +2,7 @@
 -- Assumes nothing.
 use Prim.Native.Nat.{ℕ, zero, suc, _+_, _-_, _≤_, _<_}
 use mathlib.Core.Path.{_≡_, refl, sym, _∙_, ap, subst}
-use mathlib.Core.Bool.{Bool, true, false, _&&_}
+use mathlib.Core.Bool.{Bool, true, false, _&&_, false≢true}
 use mathlib.Core.List.{List, [], _∷_, _++_}
 use native.Mathlib.Omega.{arith}
 use native.Mathlib.Decide.{decLt}
@@ -24,14 +24,14 @@ use Rattle.name.specs.Order.{orderOf}
 use Rattle.name.proofs.Ordering.{rises-below, below-trans, same-refl}
 use Rattle.book.specs.declared.Layout.{Layout}
 use Rattle.book.specs.declared.Reading.{Reading}
-use Rattle.book.specs.Field.{Field}
+use Rattle.book.specs.Field.{Field, countSize}
 use Rattle.book.specs.Book.{Block, Book, allBelow, longestBook, nameSection, blockSection, bookOf, namesIn, blocksIn}
 use Rattle.book.specs.Bytes.{nameBytes, namesBytes, blocksBytes}
-use Rattle.book.specs.Layout.{placesFrom, endFrom, noPlaces, placeTable, layoutOf, noReading, readingOf}
-use Rattle.book.specs.Access.{LaidOut, BlockFits}
-use Rattle.book.specs.Stops.{Rising, none, one, Within}
+use Rattle.book.specs.Layout.{offsetsFrom, endFrom, noOffsets, offsetTable, layoutOf, noReading, readingOf}
+use Rattle.book.specs.Access.{LaidOut}
+use Rattle.book.specs.Stops.{Rising, none, one, BlocksBelow}
 use Rattle.book.proofs.Parts.{byte-at}
-use Rattle.book.proofs.Placed.{name-placed, BlockPlaced, block-placed}
+use Rattle.book.proofs.Placed.{name-placed}
 use Rattle.book.proofs.Sections.{name-section-told, block-section-told, behind-names}
 
 -- ---- the whole book
@@ -45,12 +45,12 @@ pub record BookTold (s : List ℕ) (b : Book) : Type 0 where
   -- the names keep the rule and rise strictly
   pub rising : Rising [] (b .names)
   -- every parent and every child number is below N
-  pub within : Within (length (b .names)) (b .blocks)
-  -- the names stand behind the first two bytes, and the blocks behind two more
-  pub enough : 2 ≤ length s
+  pub within : BlocksBelow (length (b .names)) (b .blocks)
+  -- the names stand behind the count N, and the blocks behind the names and the count M
+  pub enough : countSize ≤ length s
   pub after-names : List ℕ
-  pub names-stand : drop 2 s ≡ namesBytes (b .names) after-names
-  pub blocks-stand : drop (endFrom 2 (b .names) + 2) s ≡ blocksBytes (b .blocks) []
+  pub names-stand : drop countSize s ≡ namesBytes (b .names) after-names
+  pub blocks-stand : drop (endFrom countSize (b .names) + countSize) s ≡ blocksBytes (b .blocks) []
 
 pub book-told : (s : List ℕ) (b : Book) → bookOf s ≡ given b → BookTold s b
 unfolding bookOf
@@ -62,7 +62,7 @@ book-told s b e = named (check-given (ltb longestBook (length s)) BookTooLong _ 
         let t = name-section-told s f p in
         let u = block-section-told (length (f .value)) (f .rest) bs q in
         let c = count-bounds (length (f .value)) (t .good) in
-        let z = behind-names s 2 (f .value) (f .rest) (t .enough) (t .bytes) in
+        let z = behind-names s countSize (f .value) (f .rest) (t .enough) (t .bytes) in
         record {
           short = l;
           some-name = c .0;
@@ -72,7 +72,7 @@ book-told s b e = named (check-given (ltb longestBook (length s)) BookTooLong _ 
           enough = t .enough;
           after-names = f .rest;
           names-stand = t .bytes;
-          blocks-stand = sym (drop-drop 2 (endFrom 2 (f .value)) s) ∙ ap (drop 2) (z .1) ∙ u .bytes;
+          blocks-stand = sym (drop-drop countSize (endFrom countSize (f .value)) s) ∙ ap (drop countSize) (z .1) ∙ u .bytes;
         }
 
     blocked : length s ≤ longestBook → (f : Field (List (List ℕ))) → nameSection s ≡ given f →
@@ -108,8 +108,7 @@ one-number before xs r i j hi hj e = go (decLt i j) (decLt j i)
     differ : (a b : List ℕ) → a ≡ b → orderOf a b ≡ Below → ⊥
     differ a b p q =
         let s : orderOf a b ≡ Same = ap (orderOf a) (sym p) ∙ same-refl a in
-        let z : _≡_ {A = ℕ} 0 1 = cc in
-        omega arith
+        false≢true cc
 
     go : Dec (i < j) → Dec (j < i) → i ≡ j
     go (yes h) k = absurd (differ (getD xs i []) (getD xs j []) e (names-rise before xs r i j h hj))
@@ -123,27 +122,27 @@ name-good before [] none i l = absurd (omega arith)
 name-good before (x ∷ xs) (one a b c r) zero l = rw (a, b)
 name-good before (x ∷ xs) (one a b c r) (suc i) l = name-good x xs r i (le-of-suc-le-suc l)
 
--- name i stands where the places say
+-- name i stands where the offsets say
 name-stands : (s : List ℕ) (at : ℕ) (xs : List (List ℕ)) (after : List ℕ) → drop at s ≡ namesBytes xs after → (i : ℕ) → i < length xs →
-    (rest : List ℕ) × (drop (getD (placesFrom at xs) i 0) s ≡ nameBytes (getD xs i []) rest)
-unfolding namesBytes placesFrom
+    (rest : List ℕ) × (drop (getD (offsetsFrom at xs) i 0) s ≡ nameBytes (getD xs i []) rest)
+unfolding namesBytes offsetsFrom
 name-stands s at [] after e i l = absurd (omega arith)
 name-stands s at (x ∷ xs) after e zero l = (namesBytes xs after, e)
 name-stands s at (x ∷ xs) after e (suc i) l =
     name-stands s (at + 1 + length x) xs after (name-placed s at x (namesBytes xs after) e .2) i (le-of-suc-le-suc l)
 
-places-length : (at : ℕ) (xs : List (List ℕ)) → length (placesFrom at xs) ≡ length xs
-unfolding placesFrom
-places-length at [] = refl
-places-length at (x ∷ xs) = ap suc (places-length (at + 1 + length x) xs)
+offsets-length : (at : ℕ) (xs : List (List ℕ)) → length (offsetsFrom at xs) ≡ length xs
+unfolding offsetsFrom
+offsets-length at [] = refl
+offsets-length at (x ∷ xs) = ap suc (offsets-length (at + 1 + length x) xs)
 
-table-entry : (xs : List (List ℕ)) → length xs ≤ places → (i : ℕ) → i < length xs → getD (placeTable xs) i 0 ≡ getD (placesFrom 2 xs) i 0
-unfolding placeTable noPlaces
+table-entry : (xs : List (List ℕ)) → length xs ≤ places → (i : ℕ) → i < length xs → getD (offsetTable xs) i 0 ≡ getD (offsetsFrom countSize xs) i 0
+unfolding offsetTable noOffsets
 table-entry xs h i l =
-    let n : length (placesFrom 2 xs) ≡ length xs = places-length 2 xs in
-    let r : 0 + length (placesFrom 2 xs) ≤ length noPlaces = omega (arith, length-replicate {A = ℕ} places 0) in
-    ap (λ (t : List ℕ). getD t i 0) (sets-eq (placesFrom 2 xs) noPlaces 0 r)
-    ∙ List·getD-append (placesFrom 2 xs) (drop (0 + length (placesFrom 2 xs)) noPlaces) 0 i (omega arith)
+    let n : length (offsetsFrom countSize xs) ≡ length xs = offsets-length countSize xs in
+    let r : 0 + length (offsetsFrom countSize xs) ≤ length noOffsets = omega (arith, length-replicate {A = ℕ} places 0) in
+    ap (λ (t : List ℕ). getD t i 0) (sets-eq (offsetsFrom countSize xs) noOffsets 0 r)
+    ∙ List·getD-append (offsetsFrom countSize xs) (drop (0 + length (offsetsFrom countSize xs)) noOffsets) 0 i (omega arith)
 
 -- what stands where name i does
 pub record NameLaid (s : List ℕ) (at : ℕ) (name : List ℕ) : Type 0 where
@@ -186,14 +185,11 @@ module _ (s : List ℕ) (l : Layout) (laid : LaidOut s l) where
   pub some-name : 1 ≤ l .names
   some-name = rw (name-count, names-in) (laid-told .some-name)
 
-  pub short-book : length s ≤ longestBook
-  short-book = laid-told .short
-
   pub names-rising : Rising [] (namesIn s)
   names-rising = rw names-in (laid-told .rising)
 
   -- every parent and every child is below N
-  pub blocks-within : Within (l .names) (blocksIn s)
+  pub blocks-within : BlocksBelow (l .names) (blocksIn s)
   blocks-within = rw (name-count, names-in, blocks-in) (laid-told .within)
 
   -- the blocks stand from `body` on, up to the end
@@ -201,14 +197,14 @@ module _ (s : List ℕ) (l : Layout) (laid : LaidOut s l) where
   unfolding layoutOf
   blocks-stand = rw (ap (λ (x : Layout). x .body) (laid .same), blocks-in) (laid-told .blocks-stand)
 
-  pub name-laid : (i : ℕ) → i < l .names → NameLaid s (getD (l .places) i 0) (getD (namesIn s) i [])
+  pub name-laid : (i : ℕ) → i < l .names → NameLaid s (getD (l .offsets) i 0) (getD (namesIn s) i [])
   unfolding layoutOf
   name-laid i h =
       let k : i < length (laid .book .names) = subst (λ (n : ℕ). i < n) (name-count ∙ ap length names-in) h in
-      let t = name-stands s 2 (laid .book .names) (laid-told .after-names) (laid-told .names-stand) i k in
-      let e : getD (l .places) i 0 ≡ getD (placesFrom 2 (laid .book .names)) i 0 =
-      ap (λ (x : Layout). getD (x .places) i 0) (laid .same) ∙ table-entry (laid .book .names) (laid-told .few-names) i k in
-      rw (names-in, e) (name-laid-at s (getD (placesFrom 2 (laid .book .names)) i 0) (getD (laid .book .names) i []) (t .0) (t .1))
+      let t = name-stands s countSize (laid .book .names) (laid-told .after-names) (laid-told .names-stand) i k in
+      let e : getD (l .offsets) i 0 ≡ getD (offsetsFrom countSize (laid .book .names)) i 0 =
+      ap (λ (x : Layout). getD (x .offsets) i 0) (laid .same) ∙ table-entry (laid .book .names) (laid-told .few-names) i k in
+      rw (names-in, e) (name-laid-at s (getD (offsetsFrom countSize (laid .book .names)) i 0) (getD (laid .book .names) i []) (t .0) (t .1))
 
 -- a book that was read without a refusal is laid out as the answer says
 pub laid-out : (s : List ℕ) (r : Reading) → r ≡ readingOf (bookOf s) → r .outcome ≡ Done → LaidOut s (r .layout)
@@ -219,31 +215,23 @@ laid-out s r e d = go (bookOf s) refl e
     go (given b) q e = record { book = b; read = q; same = ap (λ (x : Reading). x .layout) e }
     go (refused f) q e =
         let o : Refused f ≡ Done = sym (ap (λ (x : Reading). x .outcome) e) ∙ d in
-        absurd (let z : _≡_ {A = ℕ} 0 1 = cc in omega arith)
+        absurd (false≢true cc)
 
 -- a book whose answer is a refusal is refused by its definition too
 pub book-refused : (a : Answer Book) (r : Reading) (f : Refusal) → r ≡ readingOf a → r .outcome ≡ Refused f → a ≡ refused f
 unfolding readingOf noReading
 book-refused (given b) r f e o =
     let q : Done ≡ Refused f = sym (ap (λ (x : Reading). x .outcome) e) ∙ o in
-    absurd (let z : _≡_ {A = ℕ} 0 1 = cc in omega arith)
+    absurd (false≢true cc)
 book-refused (refused g) r f e o =
     let q : Refused g ≡ Refused f = sym (ap (λ (x : Reading). x .outcome) e) ∙ o in
     cc
 
--- ---- its blocks
-
--- one block after another: what stands at a place where blocks do
-pub next-block : (s : List ℕ) (at : ℕ) (b : Block) (bs : List Block) → drop at s ≡ blocksBytes (b ∷ bs) [] →
-    BlockPlaced s at b (blocksBytes bs []) × BlockFits s at
-unfolding blocksBytes
-next-block s at b bs e =
-    let p = block-placed s at b (blocksBytes bs []) e in
-    (p, record { head = omega (arith, p .fits); whole = rw (p .size) (p .fits) })
+-- ---- its words
 
 both-true : (a b : Bool) → (a && b) ≡ true → (a ≡ true) × (b ≡ true)
 both-true true b e = (refl, e)
-both-true false b e = absurd (let z : _≡_ {A = ℕ} 0 1 = cc in omega arith)
+both-true false b e = absurd (false≢true e)
 
 -- each number of a word is below n
 pub child-below : (n : ℕ) (w : List ℕ) → allBelow n w ≡ true → (k : ℕ) → k < length w → getD w k 0 < n
@@ -251,15 +239,3 @@ unfolding allBelow
 child-below n [] e k l = absurd (omega arith)
 child-below n (x ∷ w) e zero l = ltb-true x n (both-true (ltb x n) (allBelow n w) e .0)
 child-below n (x ∷ w) e (suc k) l = child-below n w (both-true (ltb x n) (allBelow n w) e .1) k (le-of-suc-le-suc l)
-
--- where every byte is below 256, every word has at most 255 names
-abbrev pub ShortWords : List Block → Type 0
-ShortWords [] = Unit {0}
-ShortWords (b ∷ bs) = (length (b .word) ≤ 255) × ShortWords bs
-
-pub words-short : (s : List ℕ) → ((i : ℕ) → getD s i 0 < 256) → (at : ℕ) (bs : List Block) (after : List ℕ) → drop at s ≡ blocksBytes bs after → ShortWords bs
-unfolding blocksBytes
-words-short s bytes at [] after e = tt
-words-short s bytes at (b ∷ bs) after e =
-    let p = block-placed s at b (blocksBytes bs after) e in
-    (omega (arith, p .size, bytes (at + 1)), words-short s bytes (at + 2 + length (b .word)) bs after (p .rest))

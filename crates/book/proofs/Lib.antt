@@ -4,6 +4,7 @@ pub mod Told
 pub mod Placed
 pub mod Sections
 pub mod Laws
+pub mod Blocks
 pub mod Example
 pub mod FieldStops
 pub mod NameStops

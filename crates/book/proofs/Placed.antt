@@ -6,7 +6,7 @@ use mathlib.Core.List.{List, [], _∷_, _++_}
 use native.Mathlib.Omega.{arith}
 use lib.ListN.{length, take, drop, getD, length-append}
 use Rattle.book.specs.Book.{Block}
-use Rattle.book.specs.Bytes.{nameBytes, blockBytes}
+use Rattle.book.specs.Bytes.{nameBytes, headSize, childCountAt, blockBytes}
 use Rattle.book.proofs.Parts.{behind, standing, reaches, byte-at}
 
 -- where a name's length byte stands
@@ -20,22 +20,22 @@ name-placed s at name rest e =
 
 -- what stands where a block does
 pub record BlockPlaced (s : List ℕ) (at : ℕ) (b : Block) (after : List ℕ) : Type 0 where
-  pub fits : at + 2 + length (b .word) ≤ length s
+  pub fits : at + headSize + length (b .word) ≤ length s
   pub parent : getD s at 0 ≡ b .parent
-  pub size : getD s (at + 1) 0 ≡ length (b .word)
-  pub word : take (length (b .word)) (drop (at + 2) s) ≡ b .word
-  pub rest : drop (at + 2 + length (b .word)) s ≡ after
+  pub size : getD s (at + childCountAt) 0 ≡ length (b .word)
+  pub word : take (length (b .word)) (drop (at + headSize) s) ≡ b .word
+  pub rest : drop (at + headSize + length (b .word)) s ≡ after
 
 pub block-placed : (s : List ℕ) (at : ℕ) (b : Block) (after : List ℕ) → drop at s ≡ blockBytes b after → BlockPlaced s at b after
 unfolding blockBytes
 block-placed s at b after e =
-    let one : drop (at + 1) s ≡ length (b .word) ∷ (b .word ++ after) = behind s at (b .parent ∷ []) (length (b .word) ∷ (b .word ++ after)) e in
-    let two : drop (at + 2) s ≡ b .word ++ after = behind s at (b .parent ∷ (length (b .word) ∷ [])) (b .word ++ after) e in
-    let l : at + 1 + 1 + length (b .word ++ after) ≡ length s = reaches s (at + 1) (length (b .word)) (b .word ++ after) one in
+    let count : drop (at + childCountAt) s ≡ length (b .word) ∷ (b .word ++ after) = behind s at (b .parent ∷ []) (length (b .word) ∷ (b .word ++ after)) e in
+    let word : drop (at + headSize) s ≡ b .word ++ after = behind s at (b .parent ∷ (length (b .word) ∷ [])) (b .word ++ after) e in
+    let l : at + childCountAt + 1 + length (b .word ++ after) ≡ length s = reaches s (at + childCountAt) (length (b .word)) (b .word ++ after) count in
     record {
       fits = omega (arith, length-append (b .word) after);
       parent = byte-at s at (b .parent) (length (b .word) ∷ (b .word ++ after)) e;
-      size = byte-at s (at + 1) (length (b .word)) (b .word ++ after) one;
-      word = standing s (at + 2) (b .word) after two;
-      rest = behind s (at + 2) (b .word) after two;
+      size = byte-at s (at + childCountAt) (length (b .word)) (b .word ++ after) count;
+      word = standing s (at + headSize) (b .word) after word;
+      rest = behind s (at + headSize) (b .word) after word;
     }

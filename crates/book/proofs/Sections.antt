@@ -11,15 +11,15 @@ use lib.ListN.{length, drop}
 use borrow.Author.Tests.{not-false, ltb-false}
 use Rattle.refusal.specs.declared.Refusal.the-variants.{BytesMissing, BadNameCount, BytesLeftOver}
 use Rattle.refusal.specs.Answer.{given, onward, refuseIf}
-use Rattle.refusal.proofs.Answers.{onward-given, check-given, given-same}
+use Rattle.refusal.proofs.Answers.{onward-given, check-given, given-same, given-refused}
 use Rattle.nameset.specs.Places.{goodCount}
-use Rattle.book.specs.Field.{Field, field, countOf}
+use Rattle.book.specs.Field.{Field, field, countSize, countAt, countOf}
 use Rattle.book.specs.Book.{Block, namesOf, nameSection, blocksOf, blockSection}
 use Rattle.book.specs.Bytes.{namesBytes, blocksBytes}
 use Rattle.book.specs.Layout.{endFrom}
-use Rattle.book.specs.Stops.{countAt, Rising, Within}
+use Rattle.book.specs.Stops.{Rising, BlocksBelow}
 use Rattle.book.proofs.Counts.{count-missing, count-given}
-use Rattle.book.proofs.Told.{not-refused, names-told, blocks-told}
+use Rattle.book.proofs.Told.{names-told, blocks-told}
 use Rattle.book.proofs.Placed.{name-placed}
 
 -- where names end, and what stands behind them
@@ -32,26 +32,26 @@ behind-names s at (x ∷ xs) after l e =
     behind-names s (at + 1 + length x) xs after (p .0) (p .2)
 
 pub record CountTold (s : List ℕ) (f : Field ℕ) : Type 0 where
-  pub enough : 2 ≤ length s
+  pub enough : countSize ≤ length s
   pub value : countAt s 0 ≡ f .value
-  pub rest : drop 2 s ≡ f .rest
+  pub rest : drop countSize s ≡ f .rest
 
 pub count-told : (s : List ℕ) (f : Field ℕ) → countOf s ≡ given f → CountTold s f
-count-told s f e = go (decLt (length s) 2)
+count-told s f e = go (decLt (length s) countSize)
   where
-    go : Dec (length s < 2) → CountTold s f
-    go (yes h) = absurd (not-refused BytesMissing (sym (count-missing s 0 h) ∙ e))
+    go : Dec (length s < countSize) → CountTold s f
+    go (yes h) = absurd (given-refused f BytesMissing (sym e ∙ count-missing s 0 h))
     go (no h) =
-        let l : 2 ≤ length s = omega arith in
-        let g : field (countAt s 0) (drop 2 s) ≡ f = given-same (field (countAt s 0) (drop 2 s)) f (sym (count-given s 0 l) ∙ e) in
+        let l : countSize ≤ length s = omega arith in
+        let g : field (countAt s 0) (drop countSize s) ≡ f = given-same (field (countAt s 0) (drop countSize s)) f (sym (count-given s 0 l) ∙ e) in
         record { enough = l; value = ap (λ (x : Field ℕ). x .value) g; rest = ap (λ (x : Field ℕ). x .rest) g }
 
 -- section 1
 pub record NameSectionTold (s : List ℕ) (f : Field (List (List ℕ))) : Type 0 where
-  pub enough : 2 ≤ length s
+  pub enough : countSize ≤ length s
   pub count : countAt s 0 ≡ length (f .value)
   pub good : goodCount (length (f .value)) ≡ true
-  pub bytes : drop 2 s ≡ namesBytes (f .value) (f .rest)
+  pub bytes : drop countSize s ≡ namesBytes (f .value) (f .rest)
   pub rising : Rising [] (f .value)
 
 pub name-section-told : (s : List ℕ) (f : Field (List (List ℕ))) → nameSection s ≡ given f → NameSectionTold s f
@@ -74,10 +74,10 @@ name-section-told s f e = go (onward-given (countOf s) _ f e)
 
 -- section 2
 pub record BlockSectionTold (n : ℕ) (s : List ℕ) (bs : List Block) : Type 0 where
-  pub enough : 2 ≤ length s
+  pub enough : countSize ≤ length s
   pub count : countAt s 0 ≡ length bs
-  pub bytes : drop 2 s ≡ blocksBytes bs []
-  pub within : Within n bs
+  pub bytes : drop countSize s ≡ blocksBytes bs []
+  pub within : BlocksBelow n bs
 
 nothing-left : (r : List ℕ) → length r ≤ 0 → r ≡ []
 nothing-left [] h = refl

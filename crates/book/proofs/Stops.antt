@@ -17,13 +17,13 @@ use Rattle.refusal.specs.Answer.{Answer, given, refused, onward, refuseIf}
 use Rattle.refusal.proofs.Answers.{onward-given, check-given, given-same, given-refused, onward-refused, check-refused}
 use Rattle.nameset.specs.Places.{goodCount, OutOfRange}
 use Rattle.nameset.proofs.Count.{count-bounds, bounds-count, count-bad}
-use Rattle.book.specs.Field.{Field, field, countOf}
+use Rattle.book.specs.Field.{Field, field, countSize, countAt, countOf}
 use Rattle.book.specs.Book.{Block, Book, longestBook, nameOf, namesOf, blockOf, blocksOf, nameSection, blockSection, bookOf, IsBook}
 use Rattle.book.specs.Bytes.{blocksBytes}
-use Rattle.book.specs.Stops.{countAt, lastOf, Within, NamesRead, AtName, AtSection, BlocksRead, AtBlock, AtEnd, Whole, Missing, BadCount, Stops}
+use Rattle.book.specs.Stops.{lastOf, BlocksBelow, NamesRead, AtName, AtSection, BlocksRead, AtBlock, AtEnd, Whole, Missing, BadCount, Stops}
 use Rattle.book.proofs.Counts.{count-missing, count-given}
 use Rattle.book.proofs.Told.{blocks-told}
-use Rattle.book.proofs.Sections.{count-told, name-section-told, block-section-told}
+use Rattle.book.proofs.Sections.{count-told, NameSectionTold, name-section-told, block-section-told}
 use Rattle.book.proofs.FieldStops.{count-stop}
 use Rattle.book.proofs.NameStops.{NameStop, missing, bad, low, name-stop, name-missing, name-bad, name-low, NamesStop, names-stop, names-refused, names-given}
 use Rattle.book.proofs.BlockStops.{BlockStop, cut, over, block-stop, block-missing, block-bad, BlocksStop, blocks-stop, blocks-refused, blocks-given}
@@ -33,6 +33,19 @@ use Rattle.book.proofs.BlockStops.{BlockStop, cut, over, block-stop, bl
 -- behind section 1
 abbrev behind-names : Field (List (List ℕ)) → Answer Book
 behind-names f = onward (blockSection (length (f .value)) (f .rest)) (λ blocks. given (record { names = f .value; blocks = blocks }))
+
+-- section 1, read
+names-read : (s : List ℕ) (f : Field (List (List ℕ))) → length s ≤ longestBook → NameSectionTold s f → NamesRead s (f .value) (f .rest)
+names-read s f short t =
+    let c = count-bounds (length (f .value)) (t .good) in
+    record {
+      short = short;
+      enough = t .enough;
+      some = rw (t .count) (c .0);
+      few = rw (t .count) (c .1);
+      rising = t .rising;
+      stand = t .bytes;
+    }
 
 module _ (s : List ℕ) (r : Refusal) where
   at-name : (last rest : List ℕ) → AtName s last rest → NameStop last rest r → Stops s r
@@ -84,7 +97,7 @@ module _ (s : List ℕ) (r : Refusal) where
   in-blocks rest a e =
       ⊎-elim (λ h. let k = count-stop rest r h in subst (Stops s) (k .1) (inr (inr (inl (rest, a, k .0))))) (λ h. counted (h .0) (h .1) (h .2)) (onward-refused (countOf rest) _ r e)
     where
-      so-far : (m : Field ℕ) → countOf rest ≡ given m → (bs : List Block) (after : List ℕ) → Within (countAt s 0) bs → m .rest ≡ blocksBytes bs after → BlocksRead s (m .value) bs after
+      so-far : (m : Field ℕ) → countOf rest ≡ given m → (bs : List Block) (after : List ℕ) → BlocksBelow (countAt s 0) bs → m .rest ≡ blocksBytes bs after → BlocksRead s (m .value) bs after
       so-far m h bs after w q =
           let c = count-told rest m h in
           record { section = rest; before = a; enough = c .enough; count = c .value; within = w; stand = c .rest ∙ q }
@@ -111,14 +124,7 @@ module _ (s : List ℕ) (r : Refusal) where
   section-2 : length s ≤ longestBook → (f : Field (List (List ℕ))) → nameSection s ≡ given f → blockSection (length (f .value)) (f .rest) ≡ refused r → Stops s r
   section-2 short f h e =
       let t = name-section-told s f h in
-      let c = count-bounds (length (f .value)) (t .good) in
-      in-blocks (f .rest)
-      (record {
-        names = f .value;
-        read = record { short = short; enough = t .enough; some = rw (t .count) (c .0); few = rw (t .count) (c .1); rising = t .rising; stand = t .bytes };
-        all = sym (t .count);
-      })
-      (rw (t .count) e)
+      in-blocks (f .rest) (record { names = f .value; read = names-read s f short t; all = sym (t .count) }) (rw (t .count) e)
 
   refused-stops : bookOf s ≡ refused r → Stops s r
   unfolding bookOf
@@ -139,7 +145,7 @@ module _ (s : List ℕ) where
   unfolding bookOf
   named-refused short r e = rw (le-ltb longestBook (length s) short, e)
 
-  no-count-refused : length s < 2 → bookOf s ≡ refused BytesMissing
+  no-count-refused : length s < countSize → bookOf s ≡ refused BytesMissing
   unfolding nameSection
   no-count-refused l = named-refused (omega arith) BytesMissing (rw (count-missing s 0 l))
 
@@ -218,19 +224,10 @@ module _ (s : List ℕ) (b : Book) where
       let g = onward-given (blockSection (length (f .0 .value)) (f .0 .rest)) _ b (f .2) in
       let t = name-section-told s (f .0) (f .1) in
       let u = block-section-told (length (f .0 .value)) (f .0 .rest) (g .0) (g .1) in
-      let c = count-bounds (length (f .0 .value)) (t .good) in
       subst (Whole s) (given-same _ b (g .2))
       (record {
         section = f .0 .rest;
-        names =
-            record {
-              short = ltb-false longestBook (length s) (l .0);
-              enough = t .enough;
-              some = rw (t .count) (c .0);
-              few = rw (t .count) (c .1);
-              rising = t .rising;
-              stand = t .bytes;
-            };
+        names = names-read s (f .0) (ltb-false longestBook (length s) (l .0)) t;
         all-names = sym (t .count);
         enough = u .enough;
         all-blocks = u .count;

@@ -4,28 +4,23 @@ use Prim.Native.Nat.{ℕ, zero, suc, _+_, _<_}
 use mathlib.Core.Path.{_≡_, refl, sym, _∙_, ap, subst}
 use mathlib.Core.Bool.{true, not}
 use mathlib.Core.List.{List, [], _∷_, _++_}
-use native.Mathlib.Omega.{arith}
 use lib.Dec.{ltb}
 use lib.ListN.{length, take, drop, take-append-drop}
 use lib.Seq.{length-take-le}
 use borrow.Author.Tests.{ltb-true, ltb-false, not-false}
 use Rattle.refusal.specs.declared.Refusal.the-variants.{BytesMissing, BadName, NameNotAbove, NumberNotBelow}
-use Rattle.refusal.specs.Answer.{given, refused, onward, refuseIf}
-use Rattle.refusal.proofs.Answers.{onward-given, check-given, given-same}
+use Rattle.refusal.specs.Answer.{given, onward, refuseIf}
+use Rattle.refusal.proofs.Answers.{onward-given, check-given, given-same, given-refused}
 use Rattle.name.specs.Rule.{goodLength, goodBytes}
 use Rattle.name.specs.Order.{rises}
 use Rattle.book.specs.Field.{Field, field, byteOf, bytesOf}
 use Rattle.book.specs.Book.{Block, allBelow, nameOf, namesOf, blockOf, blocksOf}
 use Rattle.book.specs.Bytes.{nameBytes, namesBytes, blockBytes, blocksBytes}
-use Rattle.book.specs.Stops.{Rising, none, one, Within}
-
--- a given answer and a refused one are never the same
-pub not-refused : {A : Type 0} {a : A} → (r : Rattle.refusal.specs.declared.Refusal.Refusal) → refused r ≡ given a → ⊥
-not-refused r e = let z : _≡_ {A = ℕ} 0 1 = cc in omega arith
+use Rattle.book.specs.Stops.{Rising, none, one, BlocksBelow}
 
 pub byte-told : (s : List ℕ) (f : Field ℕ) → byteOf s ≡ given f → s ≡ f .value ∷ f .rest
 unfolding byteOf
-byte-told [] f e = absurd (not-refused BytesMissing e)
+byte-told [] f e = absurd (given-refused f BytesMissing (sym e))
 byte-told (b ∷ s) f e = ap (λ (g : Field ℕ). g .value ∷ g .rest) (given-same (field b s) f e)
 
 pub bytes-told : (n : ℕ) (s : List ℕ) (f : Field (List ℕ)) → bytesOf n s ≡ given f → (s ≡ f .value ++ f .rest) × (length (f .value) ≡ n)
@@ -145,7 +140,7 @@ block-told n s f e = started (onward-given (byteOf s) _ f e)
 pub record BlocksTold (n m : ℕ) (s : List ℕ) (f : Field (List Block)) : Type 0 where
   pub bytes : s ≡ blocksBytes (f .value) (f .rest)
   pub many : length (f .value) ≡ m
-  pub within : Within n (f .value)
+  pub within : BlocksBelow n (f .value)
 
 pub blocks-told : (n m : ℕ) (s : List ℕ) (f : Field (List Block)) → blocksOf n m s ≡ given f → BlocksTold n m s f
 unfolding blocksOf blocksBytes

@@ -13,6 +13,7 @@ use Rattle.book.specs.declared.Found.{Found}
 use Rattle.book.specs.declared.Found.the-variants.{At, Nothing}
 use Rattle.book.specs.declared.BlockPlace.{BlockPlace}
 use Rattle.book.specs.Book.{Book, bookOf}
+use Rattle.book.specs.Bytes.{headSize, childCountAt}
 use Rattle.book.specs.Layout.{layoutOf}
 
 -- The bytes are a book, and this is its layout.
@@ -30,12 +31,17 @@ numberFrom i text (x ∷ xs) = cond (isSame (orderOf x text)) (At i) (numberFrom
 unfoldable pub numberIn : List (List ℕ) → List ℕ → Found
 numberIn names text = numberFrom 0 text names
 
--- A block's parent, child count and children stand within the bytes.
+-- A block's head and its children stand within the bytes.
 pub record BlockFits (bytes : List ℕ) (at : ℕ) : Type 0 where
-  pub head : at + 2 ≤ length bytes
-  pub whole : at + 2 + getD bytes (at + 1) 0 ≤ length bytes
+  pub head : at + headSize ≤ length bytes
+  pub whole : at + headSize + getD bytes (at + childCountAt) 0 ≤ length bytes
 
 -- The block that stands at a place: its parent, and where its children begin and end. The next block stands where they
 -- end.
 unfoldable pub blockPlace : List ℕ → ℕ → BlockPlace
-blockPlace bytes at = record { parent = getD bytes at 0; from = at + 2; to = at + 2 + getD bytes (at + 1) 0 }
+blockPlace bytes at =
+    record {
+      parent = getD bytes at 0;
+      from = at + headSize;
+      to = at + headSize + getD bytes (at + childCountAt) 0;
+    }

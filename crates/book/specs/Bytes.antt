@@ -13,6 +13,14 @@ unfoldable pub namesBytes : List (List ℕ) → List ℕ → List ℕ
 namesBytes [] rest = rest
 namesBytes (x ∷ xs) rest = nameBytes x (namesBytes xs rest)
 
+-- The head of a block is what comes before its children: a parent number, then a child count. It has so many bytes,
+-- and the child count is at this place of it; the parent is at place 0.
+abbrev pub headSize : ℕ
+headSize = 2
+
+abbrev pub childCountAt : ℕ
+childCountAt = 1
+
 -- a parent number, a child count, then the children
 unfoldable pub blockBytes : Block → List ℕ → List ℕ
 blockBytes b rest = b .parent ∷ (length (b .word) ∷ (b .word ++ rest))

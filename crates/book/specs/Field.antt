@@ -24,6 +24,14 @@ byteOf (b ∷ bytes) = given (field b bytes)
 unfoldable pub bytesOf : ℕ → List ℕ → Answer (Field (List ℕ))
 bytesOf n bytes = refuseIf (ltb (length bytes) n) BytesMissing (given (field (take n bytes) (drop n bytes)))
 
--- a two-byte count, the low byte first
+-- a count has two bytes
+abbrev pub countSize : ℕ
+countSize = 2
+
+-- the value of a count whose bytes are known to be there, at a place: the low byte first
+abbrev pub countAt : List ℕ → ℕ → ℕ
+countAt bytes at = getD bytes at 0 + 256 * getD bytes (at + 1) 0
+
+-- a count that is read: its bytes taken whole, then its value
 unfoldable pub countOf : List ℕ → Answer (Field ℕ)
-countOf bytes = onward (bytesOf 2 bytes) (λ two. given (field (getD (two .value) 0 0 + 256 * getD (two .value) 1 0) (two .rest)))
+countOf bytes = onward (bytesOf countSize bytes) (λ two. given (field (countAt (two .value) 0) (two .rest)))

@@ -11,43 +11,40 @@ use Rattle.refusal.specs.Answer.{Answer, given, refused}
 use Rattle.nameset.specs.Places.{places}
 use Rattle.book.specs.declared.Layout.{Layout}
 use Rattle.book.specs.declared.Reading.{Reading}
+use Rattle.book.specs.Field.{countSize}
 use Rattle.book.specs.Book.{Book}
 
--- The place of each name's length byte, where the names stand one after the other from `at` on.
-unfoldable pub placesFrom : ℕ → List (List ℕ) → List ℕ
-placesFrom at [] = []
-placesFrom at (x ∷ xs) = at ∷ placesFrom (at + 1 + length x) xs
+-- The offset of each name's length byte, where the names stand one after the other from `at` on.
+unfoldable pub offsetsFrom : ℕ → List (List ℕ) → List ℕ
+offsetsFrom at [] = []
+offsetsFrom at (x ∷ xs) = at ∷ offsetsFrom (at + 1 + length x) xs
 
 -- The place after the last of those names.
 unfoldable pub endFrom : ℕ → List (List ℕ) → ℕ
 endFrom at [] = at
 endFrom at (x ∷ xs) = endFrom (at + 1 + length x) xs
 
--- the count N takes two bytes, and the names stand behind it
-abbrev pub namesAt : ℕ
-namesAt = 2
+-- one entry for each of the 64 numbers that a name may have, all 0
+unfoldable pub noOffsets : List ℕ
+noOffsets = replicate places 0
 
--- one entry for each place, all 0
-unfoldable pub noPlaces : List ℕ
-noPlaces = replicate places 0
+-- the offsets of the names, which stand behind the count N, by number, and 0 from N on
+unfoldable pub offsetTable : List (List ℕ) → List ℕ
+offsetTable names = sets noOffsets 0 (offsetsFrom countSize names)
 
--- the places of the names, by number, and 0 from N on
-unfoldable pub placeTable : List (List ℕ) → List ℕ
-placeTable names = sets noPlaces 0 (placesFrom namesAt names)
-
--- N, the places, where the blocks begin (behind the two bytes of M), and M
+-- N, the offsets, where the blocks begin (behind the names and the count M), and M
 unfoldable pub layoutOf : Book → Layout
 layoutOf b =
     record {
       names = length (b .names);
-      places = placeTable (b .names);
-      body = endFrom namesAt (b .names) + 2;
+      offsets = offsetTable (b .names);
+      body = endFrom countSize (b .names) + countSize;
       blocks = length (b .blocks);
     }
 
 -- what stands in the place of the layout of a refused book
 unfoldable pub noLayout : Layout
-noLayout = record { names = 0; places = noPlaces; body = 0; blocks = 0 }
+noLayout = record { names = 0; offsets = noOffsets; body = 0; blocks = 0 }
 
 -- the answer to a refused book
 unfoldable pub noReading : Refusal → Reading

@@ -2,25 +2,22 @@
 -- are a book. Stated of the bytes, without the function that reads; `book-refused` and `book-whole` in
 -- proofs/Stops.antt say that `bookOf` agrees. Read from `Stops`, at the end, upwards.
 -- Assumes nothing.
-use Prim.Native.Nat.{ℕ, _+_, _*_, _≤_, _<_}
+use Prim.Native.Nat.{ℕ, _≤_, _<_}
 use mathlib.Core.Path.{_≡_}
 use mathlib.Core.Bool.{true, false}
 use mathlib.Core.List.{List, [], _∷_}
 use mathlib.Core.Logic.{_⊎_}
-use lib.ListN.{length, drop, getD}
+use lib.ListN.{length, drop}
 use Rattle.refusal.specs.declared.Refusal.{Refusal}
 use Rattle.refusal.specs.declared.Refusal.the-variants.{BookTooLong, BytesMissing, BadNameCount, BadName, NameNotAbove, NumberNotBelow, BytesLeftOver, BadParent, NoBlock, NotAChain, BadWord, BufferTooShort, NotADeclaration, UnknownName, NameTwice}
 use Rattle.nameset.specs.Places.{places, OutOfRange}
 use Rattle.name.specs.Rule.{goodLength, goodBytes}
 use Rattle.name.specs.Order.{rises}
+use Rattle.book.specs.Field.{countSize, countAt}
 use Rattle.book.specs.Book.{Block, Book, longestBook, allBelow}
 use Rattle.book.specs.Bytes.{nameBytes, namesBytes, blockBytes, blocksBytes}
 
 -- ---- what was read before a place
-
--- the two-byte count that stands at a place, the low byte first
-abbrev pub countAt : List ℕ → ℕ → ℕ
-countAt s at = getD s at 0 + 256 * getD s (at + 1) 0
 
 -- names behind the name `before`: each keeps the rule and stands above the one before it
 pub data Rising : List ℕ → List (List ℕ) → Type 0 where
@@ -34,18 +31,18 @@ lastOf before [] = before
 lastOf before (x ∷ xs) = lastOf x xs
 
 -- blocks over n names
-abbrev pub Within : ℕ → List Block → Type 0
-Within n [] = Unit {0}
-Within n (b ∷ bs) = (b .parent < n) × (allBelow n (b .word) ≡ true) × Within n bs
+abbrev pub BlocksBelow : ℕ → List Block → Type 0
+BlocksBelow n [] = Unit {0}
+BlocksBelow n (b ∷ bs) = (b .parent < n) × (allBelow n (b .word) ≡ true) × BlocksBelow n bs
 
 -- The count N is good and these names stand behind it, in order; `rest` follows them. N is `countAt s 0`.
 pub record NamesRead (s : List ℕ) (names : List (List ℕ)) (rest : List ℕ) : Type 0 where
   pub short : length s ≤ longestBook
-  pub enough : 2 ≤ length s
+  pub enough : countSize ≤ length s
   pub some : 1 ≤ countAt s 0
   pub few : countAt s 0 ≤ places
   pub rising : Rising [] names
-  pub stand : drop 2 s ≡ namesBytes names rest
+  pub stand : drop countSize s ≡ namesBytes names rest
 
 -- The next to be read, in `rest`, is a name: they are fewer than N. `last` is the one before it.
 pub record AtName (s last rest : List ℕ) : Type 0 where
@@ -64,10 +61,10 @@ pub record AtSection (s rest : List ℕ) : Type 0 where
 pub record BlocksRead (s : List ℕ) (m : ℕ) (blocks : List Block) (rest : List ℕ) : Type 0 where
   pub section : List ℕ
   pub before : AtSection s section
-  pub enough : 2 ≤ length section
+  pub enough : countSize ≤ length section
   pub count : countAt section 0 ≡ m
-  pub within : Within (countAt s 0) blocks
-  pub stand : drop 2 section ≡ blocksBytes blocks rest
+  pub within : BlocksBelow (countAt s 0) blocks
+  pub stand : drop countSize section ≡ blocksBytes blocks rest
 
 -- The next to be read, in `rest`, is a block: they are fewer than M.
 pub record AtBlock (s rest : List ℕ) : Type 0 where
@@ -88,10 +85,10 @@ pub record Whole (s : List ℕ) (b : Book) : Type 0 where
   pub section : List ℕ
   pub names : NamesRead s (b .names) section
   pub all-names : length (b .names) ≡ countAt s 0
-  pub enough : 2 ≤ length section
+  pub enough : countSize ≤ length section
   pub all-blocks : countAt section 0 ≡ length (b .blocks)
-  pub within : Within (countAt s 0) (b .blocks)
-  pub stand : drop 2 section ≡ blocksBytes (b .blocks) []
+  pub within : BlocksBelow (countAt s 0) (b .blocks)
+  pub stand : drop countSize section ≡ blocksBytes (b .blocks) []
 
 -- ---- what is wrong there
 
@@ -122,12 +119,12 @@ BlockBad n rest = ((p : ℕ) × (more : List ℕ) × (rest ≡ p ∷ more) × (n
 
 -- 2: bytes are missing for the count N, for a name, for the count M, or for a block.
 abbrev pub Missing : List ℕ → Type 0
-Missing s = (length s < 2) ⊎ (((last rest : List ℕ) × AtName s last rest × NameMissing rest)
-    ⊎ (((rest : List ℕ) × AtSection s rest × (length rest < 2)) ⊎ ((rest : List ℕ) × AtBlock s rest × BlockMissing (countAt s 0) rest)))
+Missing s = (length s < countSize) ⊎ (((last rest : List ℕ) × AtName s last rest × NameMissing rest)
+    ⊎ (((rest : List ℕ) × AtSection s rest × (length rest < countSize)) ⊎ ((rest : List ℕ) × AtBlock s rest × BlockMissing (countAt s 0) rest)))
 
 -- 3: the count N is there, and is 0 or above 64.
 abbrev pub BadCount : List ℕ → Type 0
-BadCount s = (length s ≤ longestBook) × (2 ≤ length s) × OutOfRange (countAt s 0)
+BadCount s = (length s ≤ longestBook) × (countSize ≤ length s) × OutOfRange (countAt s 0)
 
 -- The bytes are refused by this number, and no number above 7 is one of a book.
 abbrev pub Stops : List ℕ → Refusal → Type 0

@@ -1,7 +1,11 @@
 // Bytes, counts and parts of the book.
 ghost use mathlib.Core.Path.{_≡_};
-ghost use Prim.Native.Nat.{_+_, _*_, _-_, _≤_, _<_};
-ghost use lib.ListN.{length, getD, take, drop};
+ghost use Prim.Native.Nat.{_+_, _-_, _≤_, _<_};
+ghost use lib.ListN.{length, take, drop};
+ghost use Rattle.book.specs.Field.{countSize, countAt};
+
+// The bytes of a count.
+pub const COUNT_SIZE: usize = 2;
 
 pub fn wide(byte: u8) -> usize
     ensures { λ r. ⌜ (r ≡ byte) × (r < 256) ⌝ }
@@ -9,10 +13,10 @@ pub fn wide(byte: u8) -> usize
     byte as usize
 }
 
-// The two-byte count at a place, the low byte first.
+// The count at a place, the low byte first.
 pub fn count_at(bytes: &[u8], at: usize) -> usize
-    requires { ⌜ at + 2 ≤ length (now bytes) ⌝ }
-    ensures { λ r. ⌜ (r ≡ getD (now (bytes .entry)) at 0 + 256 * getD (now (bytes .entry)) (at + 1) 0) × (r < 65536) ⌝ }
+    requires { ⌜ at + countSize ≤ length (now bytes) ⌝ }
+    ensures { λ r. ⌜ (r ≡ countAt (now (bytes .entry)) at) × (r < 65536) ⌝ }
 {
     wide(bytes[at]) + 256 * wide(bytes[at + 1])
 }

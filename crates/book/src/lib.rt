@@ -5,17 +5,23 @@ use refusal::Outcome;
 mod field; // field.rt: bytes, counts and parts of the book
 mod word; // word.rt: whether each number of a word is below n
 
+pub use field::COUNT_SIZE;
 pub use field::count_at;
 pub use field::part;
 pub use field::wide;
 pub use word::all_below;
 
+// The bytes of a block before its children, and where among them the number of the children stands.
+pub const HEAD_SIZE: usize = 2;
+
+pub const CHILD_COUNT_AT: usize = 1;
+
 // Where the parts of a book stand.
 pub struct Layout {
     // how many names there are: paper 01's N
     pub names: usize,
-    // the place of each name's length byte, by the name's number; 0 from N on
-    pub places: [u16; PLACES],
+    // the offset of each name's length byte, by the name's number; 0 from N on
+    pub offsets: [u16; PLACES],
     // where the first block stands
     pub body: usize,
     // how many blocks there are: paper 01's M

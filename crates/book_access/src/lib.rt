@@ -1,6 +1,8 @@
 // Back to a name or a block of a book that was read.
 use book::BlockPlace;
+use book::CHILD_COUNT_AT;
 use book::Found;
+use book::HEAD_SIZE;
 use book::Layout;
 use book::part;
 use book::wide;
@@ -35,19 +37,9 @@ pub fn name_bytes(bytes: &[u8], layout: Layout, i: usize) -> &[u8]
     requires { ⌜ LaidOut (now bytes) layout × (i < layout .names) ⌝ }
     ensures { λ r. ⌜ now r ≡ getD (namesIn (now (bytes .entry))) i [] ⌝ }
 {
-    let places = layout.places;
-    let at = places[i] as usize;
+    let offsets = layout.offsets;
+    let at = offsets[i] as usize;
     name_at_place(bytes, at)
-}
-
-// How name i stands to a text.
-pub fn compare_name(bytes: &[u8], layout: Layout, i: usize, text: &[u8]) -> Order
-    requires { ⌜ LaidOut (now bytes) layout × (i < layout .names) ⌝ }
-    ensures { λ r. ⌜ r ≡ orderOf (getD (namesIn (now (bytes .entry))) i []) (now (text .entry)) ⌝ }
-{
-    let places = layout.places;
-    let place = places[i] as usize;
-    compare_at_place(bytes, place, text)
 }
 
 // The number of the name that is the text. Names rise, so the search halves what is left at each step.
@@ -55,12 +47,12 @@ pub fn find_name(bytes: &[u8], layout: Layout, text: &[u8]) -> Found
     requires { ⌜ LaidOut (now bytes) layout ⌝ }
     ensures { λ r. ⌜ r ≡ numberIn (namesIn (now (bytes .entry))) (now (text .entry)) ⌝ }
 {
-    let places = layout.places;
+    let offsets = layout.offsets;
     let mut low = 0;
     let mut high = layout.names;
     while low < high {
         let middle = low + (high - low) / 2;
-        let at = places[middle] as usize;
+        let at = offsets[middle] as usize;
         match compare_at_place(bytes, at, text) {
             Order::Below => {
                 low = middle + 1;
@@ -76,15 +68,15 @@ pub fn find_name(bytes: &[u8], layout: Layout, text: &[u8]) -> Found
     Found::Nothing
 }
 
-// The block at a place. That a block of the book stands there is the caller's to know (`next-block` of the laws).
+// The block at a place. That a block of the book stands there is the caller's to know (`next-block` of `book`).
 pub fn block_at_place(bytes: &[u8], at: usize) -> BlockPlace
     requires { ⌜ BlockFits (now bytes) at ⌝ }
     ensures { λ r. ⌜ r ≡ blockPlace (now (bytes .entry)) at ⌝ }
 {
-    let from = at + 2;
+    let from = at + HEAD_SIZE;
     BlockPlace {
         parent: wide(bytes[at]),
         from,
-        to: from + wide(bytes[at + 1]),
+        to: from + wide(bytes[at + CHILD_COUNT_AT]),
     }
 }

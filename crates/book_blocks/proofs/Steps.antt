@@ -2,14 +2,14 @@
 -- Assumes nothing.
 use Prim.Native.Nat.{ℕ, _+_, _≤_}
 use mathlib.Core.Path.{_≡_, refl}
+use mathlib.Core.Bool.{false≢true}
 use mathlib.Core.List.{List, [], _∷_}
-use native.Mathlib.Omega.{arith}
 use lib.ListN.{length, drop}
 use Rattle.refusal.specs.declared.Refusal.{Refusal}
 use Rattle.refusal.specs.Answer.{Answer, given, refused}
 use Rattle.book.specs.Field.{Field}
 use Rattle.book.specs.Book.{Block, blockOf}
-use Rattle.book.specs.Bytes.{blocksBytes}
+use Rattle.book.specs.Bytes.{headSize, blocksBytes}
 use Rattle.book.proofs.Told.{block-told}
 use Rattle.book.proofs.Placed.{block-placed}
 use Rattle.book_blocks.specs.declared.BlockStep.the-variants.{Block as BlockIs, Stopped as BlockStopped}
@@ -20,8 +20,8 @@ pub record BlockRead (n : ℕ) (s : List ℕ) (at k : ℕ) : Type 0 where
   pub block : Field Block
   pub read : blockOf n (drop at s) ≡ given block
   pub size : length (block .value .word) ≡ k
-  pub fits : at + 2 + k ≤ length s
-  pub rest : drop (at + 2 + k) s ≡ block .rest
+  pub fits : at + headSize + k ≤ length s
+  pub rest : drop (at + headSize + k) s ≡ block .rest
 
 pub block-read : (n : ℕ) (s : List ℕ) (at k : ℕ) → blockStep (blockOf n (drop at s)) ≡ BlockIs k → BlockRead n s at k
 unfolding blockStep
@@ -32,15 +32,15 @@ block-read n s at k e = go (blockOf n (drop at s)) refl e
         let z : length (block .value .word) ≡ k = cc in
         let p = block-placed s at (block .value) (block .rest) (block-told n (drop at s) block q .bytes) in
         record { block = block; read = q; size = z; fits = rw (← z) (p .fits); rest = rw (← z) (p .rest) }
-    go (refused r) q e = absurd (let z : _≡_ {A = ℕ} 0 1 = cc in omega arith)
+    go (refused r) q e = absurd (false≢true cc)
 
 pub block-stopped : (a : Answer (Field Block)) (r : Refusal) → blockStep a ≡ BlockStopped r → a ≡ refused r
 unfolding blockStep
-block-stopped (given block) r e = absurd (let z : _≡_ {A = ℕ} 0 1 = cc in omega arith)
+block-stopped (given block) r e = absurd (false≢true cc)
 block-stopped (refused q) r e = cc
 
 -- the bytes behind blocks
 pub behind-blocks : (s : List ℕ) (at : ℕ) (bs : List Block) (after : List ℕ) → drop at s ≡ blocksBytes bs after → drop (behindBlocks at bs) s ≡ after
 unfolding blocksBytes behindBlocks
 behind-blocks s at [] after e = e
-behind-blocks s at (b ∷ bs) after e = behind-blocks s (at + 2 + length (b .word)) bs after (block-placed s at b (blocksBytes bs after) e .rest)
+behind-blocks s at (b ∷ bs) after e = behind-blocks s (at + headSize + length (b .word)) bs after (block-placed s at b (blocksBytes bs after) e .rest)

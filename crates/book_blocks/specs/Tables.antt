@@ -6,6 +6,7 @@ use lib.ListN.{length}
 use Rattle.refusal.specs.Answer.{Answer, given, refused}
 use Rattle.book.specs.Field.{Field}
 use Rattle.book.specs.Book.{Block}
+use Rattle.book.specs.Bytes.{headSize}
 use Rattle.book_blocks.specs.declared.BlockStep.{BlockStep}
 use Rattle.book_blocks.specs.declared.BlockStep.the-variants.{Block as BlockIs, Stopped as BlockStopped}
 use Rattle.book_blocks.specs.declared.BlocksEnd.{BlocksEnd}
@@ -21,7 +22,7 @@ blockStep (refused r) = BlockStopped r
 -- the place behind blocks that stand one after the other from `at` on
 unfoldable pub behindBlocks : ℕ → List Block → ℕ
 behindBlocks at [] = at
-behindBlocks at (b ∷ bs) = behindBlocks (at + 2 + length (b .word)) bs
+behindBlocks at (b ∷ bs) = behindBlocks (at + headSize + length (b .word)) bs
 
 unfoldable pub blocksEnd : ℕ → Answer (Field (List Block)) → BlocksEnd
 blocksEnd at (given blocks) = End (behindBlocks at (blocks .value))

@@ -1,4 +1,7 @@
 // Section 2 of the book: the count M and the blocks.
+use book::CHILD_COUNT_AT;
+use book::COUNT_SIZE;
+use book::HEAD_SIZE;
 use book::all_below;
 use book::count_at;
 use book::part;
@@ -39,12 +42,12 @@ fn block_at(bytes: &[u8], n: usize, at: usize) -> BlockStep
     if n <= wide(bytes[at]) {
         return BlockStep::Stopped(Refusal::NumberNotBelow);
     }
-    let second = at + 1;
-    if bytes.len() <= second {
+    let count = at + CHILD_COUNT_AT;
+    if bytes.len() <= count {
         return BlockStep::Stopped(Refusal::BytesMissing);
     }
-    let size = wide(bytes[second]);
-    let from = second + 1;
+    let size = wide(bytes[count]);
+    let from = at + HEAD_SIZE;
     if bytes.len() - from < size {
         return BlockStep::Stopped(Refusal::BytesMissing);
     }
@@ -65,7 +68,7 @@ fn read_blocks(bytes: &[u8], n: usize, m: usize, from: usize) -> BlocksEnd
     while 0 < left {
         match block_at(bytes, n, at) {
             BlockStep::Block(size) => {
-                at = at + 2 + size;
+                at = at + HEAD_SIZE + size;
             }
             BlockStep::Stopped(refusal) => {
                 return BlocksEnd::Stopped(refusal);
@@ -80,11 +83,11 @@ pub fn block_section(bytes: &[u8], n: usize, at: usize) -> BlockCount
     requires { ⌜ (at ≤ length (now bytes)) × (length (now bytes) ≤ longestBook) ⌝ }
     ensures { λ r. ⌜ r ≡ blockCount (blockSection n (drop at (now (bytes .entry)))) ⌝ }
 {
-    if bytes.len() - at < 2 {
+    if bytes.len() - at < COUNT_SIZE {
         return BlockCount::Stopped(Refusal::BytesMissing);
     }
     let m = count_at(bytes, at);
-    match read_blocks(bytes, n, m, at + 2) {
+    match read_blocks(bytes, n, m, at + COUNT_SIZE) {
         BlocksEnd::End(end) => {
             if end < bytes.len() {
                 BlockCount::Stopped(Refusal::BytesLeftOver)

@@ -2,8 +2,8 @@
 -- Assumes nothing.
 use Prim.Native.Nat.{ℕ, _+_, _≤_}
 use mathlib.Core.Path.{_≡_, refl}
+use mathlib.Core.Bool.{false≢true}
 use mathlib.Core.List.{List}
-use native.Mathlib.Omega.{arith}
 use lib.ListN.{length, take, drop}
 use Rattle.refusal.specs.declared.Refusal.{Refusal}
 use Rattle.refusal.specs.Answer.{Answer, given, refused}
@@ -39,9 +39,9 @@ name-read before s at size e = go (nameOf before (drop at s)) refl e
           value = rw (← z) (p .1);
           rest = rw (← z) (p .2);
         }
-    go (refused r) q e = absurd (let z : _≡_ {A = ℕ} 0 1 = cc in omega arith)
+    go (refused r) q e = absurd (false≢true cc)
 
 pub name-stopped : (a : Answer (Field (List ℕ))) (r : Refusal) → nameStep a ≡ Stopped r → a ≡ refused r
 unfolding nameStep
-name-stopped (given name) r e = absurd (let z : _≡_ {A = ℕ} 0 1 = cc in omega arith)
+name-stopped (given name) r e = absurd (false≢true cc)
 name-stopped (refused q) r e = cc

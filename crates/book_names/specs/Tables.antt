@@ -10,8 +10,8 @@ use Rattle.refusal.specs.declared.Outcome.the-variants.{Done, Refused}
 use Rattle.refusal.specs.Answer.{Answer, given, refused, refuseIf}
 use Rattle.name.specs.Rule.{goodBytes}
 use Rattle.name.specs.Order.{rises}
-use Rattle.book.specs.Field.{Field, field}
-use Rattle.book.specs.Layout.{namesAt, noPlaces, placeTable, endFrom}
+use Rattle.book.specs.Field.{Field, field, countSize}
+use Rattle.book.specs.Layout.{noOffsets, offsetTable, endFrom}
 use Rattle.book_names.specs.declared.NameStep.{NameStep}
 use Rattle.book_names.specs.declared.NameStep.the-variants.{Name, Stopped}
 use Rattle.book_names.specs.declared.NameTable.{NameTable}
@@ -30,14 +30,14 @@ judgedName before name =
     (given (field name name))))
 
 unfoldable pub noNames : Refusal → NameTable
-noNames r = record { outcome = Refused r; names = 0; places = noPlaces; end = 0 }
+noNames r = record { outcome = Refused r; names = 0; offsets = noOffsets; end = 0 }
 
 unfoldable pub nameTable : Answer (Field (List (List ℕ))) → NameTable
 nameTable (given names) =
     record {
       outcome = Done;
       names = length (names .value);
-      places = placeTable (names .value);
-      end = endFrom namesAt (names .value);
+      offsets = offsetTable (names .value);
+      end = endFrom countSize (names .value);
     }
 nameTable (refused r) = noNames r

@@ -1,4 +1,5 @@
 // Section 1 of the book: the count N and the names.
+use book::COUNT_SIZE;
 use book::count_at;
 use book::part;
 use book::wide;
@@ -11,6 +12,7 @@ ghost use mathlib.Core.List.{[]};
 ghost use Prim.Native.Nat.{_+_, _-_, _≤_, _<_};
 ghost use lib.ListN.{length, drop};
 ghost use Rattle.nameset.specs.Places.{places};
+ghost use Rattle.book.specs.Field.{countSize};
 ghost use Rattle.book.specs.Book.{nameOf, namesOf, nameSection, longestBook};
 ghost use Rattle.book_names.specs.Tables.{nameStep, nameTable, noNames, judgedName};
 
@@ -24,7 +26,7 @@ pub enum NameStep {
 pub struct NameTable {
     pub outcome: Outcome,
     pub names: usize,
-    pub places: [u16; PLACES],
+    pub offsets: [u16; PLACES],
     pub end: usize,
 }
 
@@ -70,24 +72,24 @@ fn no_names(refusal: Refusal) -> NameTable
     NameTable {
         outcome: Outcome::Refused(refusal),
         names: 0,
-        places: [0u16; PLACES],
+        offsets: [0u16; PLACES],
         end: 0,
     }
 }
 
-// The n names behind the book's first two bytes.
+// The n names behind the count N.
 fn read_names(bytes: &[u8], n: usize) -> NameTable
-    requires { ⌜ (2 ≤ length (now bytes)) × (length (now bytes) ≤ longestBook) × (n ≤ places) ⌝ }
-    ensures { λ r. ⌜ r ≡ nameTable (namesOf n [] (drop 2 (now (bytes .entry)))) ⌝ }
+    requires { ⌜ (countSize ≤ length (now bytes)) × (length (now bytes) ≤ longestBook) × (n ≤ places) ⌝ }
+    ensures { λ r. ⌜ r ≡ nameTable (namesOf n [] (drop countSize (now (bytes .entry)))) ⌝ }
 {
-    let mut places = [0u16; PLACES];
-    let mut from = 2;
-    let mut at = 2;
+    let mut offsets = [0u16; PLACES];
+    let mut from = COUNT_SIZE;
+    let mut at = COUNT_SIZE;
     let mut i = 0;
     while i < n {
         match name_at(bytes, at, part(bytes, from, at)) {
             NameStep::Name(size) => {
-                places[i] = at as u16;
+                offsets[i] = at as u16;
                 from = at + 1;
                 at = from + size;
             }
@@ -100,7 +102,7 @@ fn read_names(bytes: &[u8], n: usize) -> NameTable
     NameTable {
         outcome: Outcome::Done,
         names: n,
-        places,
+        offsets,
         end: at,
     }
 }
@@ -109,7 +111,7 @@ pub fn name_section(bytes: &[u8]) -> NameTable
     requires { ⌜ length (now bytes) ≤ longestBook ⌝ }
     ensures { λ r. ⌜ r ≡ nameTable (nameSection (now (bytes .entry))) ⌝ }
 {
-    if bytes.len() < 2 {
+    if bytes.len() < COUNT_SIZE {
         return no_names(Refusal::BytesMissing);
     }
     let n = count_at(bytes, 0);

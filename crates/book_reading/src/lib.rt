@@ -1,4 +1,5 @@
 // A book read: its length, then its two sections.
+use book::COUNT_SIZE;
 use book::Layout;
 use book::Reading;
 use book_blocks::BlockCount;
@@ -21,7 +22,7 @@ fn refused(refusal: Refusal) -> Reading
         outcome: Outcome::Refused(refusal),
         layout: Layout {
             names: 0,
-            places: [0u16; PLACES],
+            offsets: [0u16; PLACES],
             body: 0,
             blocks: 0,
         },
@@ -40,15 +41,15 @@ pub fn read_book(bytes: &[u8]) -> Reading
     if let Outcome::Refused(refusal) = outcome {
         return refused(refusal);
     }
-    let places = table.places;
+    let offsets = table.offsets;
     let end = table.end;
     match block_section(bytes, table.names, end) {
         BlockCount::Blocks(blocks) => Reading {
             outcome: Outcome::Done,
             layout: Layout {
                 names: table.names,
-                places,
-                body: end + 2,
+                offsets,
+                body: end + COUNT_SIZE,
                 blocks,
             },
         },

@@ -19,7 +19,7 @@ use Rattle.nameset.proofs.Laws.{member-empty, member-with, of-word-of, of-zero}
 use Rattle.book.specs.declared.Layout.{Layout}
 use Rattle.book.specs.Book.{Block, allBelow, blocksIn}
 use Rattle.book.specs.Access.{LaidOut}
-use Rattle.book.specs.Stops.{Within}
+use Rattle.book.specs.Stops.{BlocksBelow}
 use Rattle.book.proofs.Laws.{few-names, blocks-within}
 use Rattle.model.specs.Accept.{Names}
 use Rattle.model.proofs.Tests.{and-left, and-right, or-split, or-right, same-test}
@@ -52,7 +52,7 @@ unfolding allBelow
 names-below n [] e = tt
 names-below n (x ∷ w) e = (ltb-true x n (and-left (ltb x n) (allBelow n w) e), names-below n w (and-right (ltb x n) (allBelow n w) e))
 
-words-over : (n parent : ℕ) (bs : List Block) → Within n bs → Over n (wordsOf parent bs)
+words-over : (n parent : ℕ) (bs : List Block) → BlocksBelow n bs → Over n (wordsOf parent bs)
 unfolding wordsOf
 words-over n parent [] h = tt
 words-over n parent (b ∷ bs) h = go (words-over n parent bs (h .2)) (eqb (b .parent) parent)

@@ -1,7 +1,7 @@
 -- The walk over a book's blocks that gathers the facts of one parent.
 -- Assumes nothing.
 use Prim.Native.Nat.{ℕ, suc, _+_, _-_, _≤_, _<_}
-use mathlib.Core.Path.{_≡_, refl, sym, _∙_, ap}
+use mathlib.Core.Path.{_≡_, refl, sym, _∙_, ap, subst}
 use mathlib.Core.Bool.{Bool, true, false, _||_}
 use mathlib.Core.List.{List, [], _∷_}
 use native.Mathlib.Omega.{arith}
@@ -16,10 +16,10 @@ use Rattle.book.specs.declared.Layout.{Layout}
 use Rattle.book.specs.declared.BlockPlace.{BlockPlace}
 use Rattle.book.specs.Book.{Block, allBelow, blocksIn}
 use Rattle.book.specs.Bytes.{blocksBytes}
-use Rattle.book.specs.Access.{LaidOut, BlockFits, blockPlace}
-use Rattle.book.specs.Stops.{Within}
-use Rattle.book.proofs.Placed.{BlockPlaced}
-use Rattle.book.proofs.Laws.{blocks-stand, block-count, blocks-within, few-names, next-block}
+use Rattle.book.specs.Access.{LaidOut, blockPlace}
+use Rattle.book.specs.Stops.{BlocksBelow}
+use Rattle.book.proofs.Laws.{blocks-within, few-names}
+use Rattle.book.proofs.Blocks.{BlockLaid, BlocksAhead, all-ahead, NextBlock, next-block, others-ahead}
 use Rattle.model.proofs.Tests.{both, and-left, and-right}
 use Rattle.follow.specs.declared.Facts.{Facts}
 use Rattle.follow.specs.Follow.{isEmpty}
@@ -46,17 +46,15 @@ all-below-more n m (x ∷ w) l h =
     (lt-ltb x m (lt-of-lt-of-le (ltb-true x n (and-left (ltb x n) (allBelow n w) h)) l))
     (all-below-more n m w l (and-right (ltb x n) (allBelow n w) h))
 
--- Where the walk stands: at a place with so many blocks still to come, after so many blocks of the parent; what is to
--- come decides the rest.
+-- Where the walk is: at a place with so many blocks still to come, after so many blocks of the parent; what is to come
+-- decides the rest.
 pub record Walk (s : List ℕ) (parent : ℕ) (facts : Facts) (blocks at left : ℕ) : Type 0 where
-  pub rest : List Block
-  pub stands : drop at s ≡ blocksBytes rest []
-  pub many : length rest ≡ left
+  pub ahead : BlocksAhead s at left
   pub names : ℕ
   pub few : names ≤ places
-  pub within : Within names rest
-  pub counted : length (wordsOf parent (blocksIn s)) ≡ blocks + length (wordsOf parent rest)
-  pub gathered : factsOf (wordsOf parent (blocksIn s)) ≡ withWords facts (wordsOf parent rest)
+  pub within : BlocksBelow names (ahead .blocks)
+  pub counted : length (wordsOf parent (blocksIn s)) ≡ blocks + length (wordsOf parent (ahead .blocks))
+  pub gathered : factsOf (wordsOf parent (blocksIn s)) ≡ withWords facts (wordsOf parent (ahead .blocks))
 
 pub walk-begin : (s : List ℕ) (l : Layout) (parent : ℕ) (starts ends : NameSet) → LaidOut s l → starts ≡ noNames → ends ≡ noNames →
     Walk s parent (record { starts = starts; ends = ends; follows = noRows; empty = false }) 0 (l .body) (l .blocks)
@@ -64,9 +62,7 @@ unfolding factsOf noFacts
 walk-begin s l parent starts ends laid es ee =
     rw (es, ee)
     (record {
-      rest = blocksIn s;
-      stands = blocks-stand s l laid;
-      many = sym (block-count s l laid);
+      ahead = all-ahead s l laid;
       names = l .names;
       few = few-names s l laid;
       within = blocks-within s l laid;
@@ -77,7 +73,7 @@ walk-begin s l parent starts ends laid es ee =
 pub walk-done : (s : List ℕ) (parent : ℕ) (facts : Facts) (blocks at left : ℕ) → Walk s parent facts blocks at left → left ≤ 0 →
     (blocks ≡ length (wordsOf parent (blocksIn s))) × (facts ≡ factsOf (wordsOf parent (blocksIn s)))
 unfolding wordsOf withWords
-walk-done s parent facts blocks at left walk h = go (walk .rest) (walk .many) (walk .counted) (walk .gathered)
+walk-done s parent facts blocks at left walk h = go (walk .ahead .blocks) (walk .ahead .many) (walk .counted) (walk .gathered)
   where
     go : (bs : List Block) → length bs ≡ left → length (wordsOf parent (blocksIn s)) ≡ blocks + length (wordsOf parent bs) →
         factsOf (wordsOf parent (blocksIn s)) ≡ withWords facts (wordsOf parent bs) →
@@ -85,94 +81,58 @@ walk-done s parent facts blocks at left walk h = go (walk .rest) (walk .many) (w
     go [] m c g = (let e : blocks + 0 ≡ blocks = omega arith in sym (c ∙ e), sym g)
     go (b ∷ bs) m c g = absurd (omega arith)
 
--- The block at which the walk stands, and the walk behind it.
-pub record Turn (s : List ℕ) (parent : ℕ) (facts : Facts) (blocks at left : ℕ) : Type 0 where
-  pub block : Block
-  pub after : List ℕ
-  pub placed : BlockPlaced s at block after
-  pub fits : BlockFits s at
-  pub named : block .parent < places
-  pub below : allBelow places (block .word) ≡ true
-  pub other : eqb (block .parent) parent ≡ false → Walk s parent facts blocks (at + 2 + length (block .word)) (left - 1)
-  pub own : eqb (block .parent) parent ≡ true → Walk s parent (withWord facts (block .word)) (blocks + 1) (at + 2 + length (block .word)) (left - 1)
+-- A turn of the walk: the next block, and its place, which the code has looked up.
+module _ (s : List ℕ) (parent : ℕ) (facts : Facts) (blocks at left : ℕ) (walk : Walk s parent facts blocks at left) (more : 0 < left) where
+  pub turn : NextBlock s at left (walk .ahead .blocks)
+  turn = next-block s at left (walk .ahead) more
 
-pub walk-turn : (s : List ℕ) (parent : ℕ) (facts : Facts) (blocks at left : ℕ) → Walk s parent facts blocks at left → 0 < left → Turn s parent facts blocks at left
-unfolding wordsOf withWords
-walk-turn s parent facts blocks at left walk h = go (walk .rest) (walk .stands) (walk .many) (walk .within) (walk .counted) (walk .gathered)
-  where
-    go : (bs : List Block) → drop at s ≡ blocksBytes bs [] → length bs ≡ left → Within (walk .names) bs →
-        length (wordsOf parent (blocksIn s)) ≡ blocks + length (wordsOf parent bs) →
-        factsOf (wordsOf parent (blocksIn s)) ≡ withWords facts (wordsOf parent bs) → Turn s parent facts blocks at left
-    go [] d m w c g = absurd (omega arith)
-    go (b ∷ bs) d m w c g =
-        let p = next-block s at b bs d in
-        let size : length bs ≡ left - 1 = omega arith in
+  -- its parent and its children, and those of the blocks behind it, are names
+  below : BlocksBelow (walk .names) (turn .block ∷ turn .others)
+  below = subst (BlocksBelow (walk .names)) (turn .first) (walk .within)
+
+  module _ (place : BlockPlace) (found : place ≡ blockPlace s at) where
+    laid : BlockLaid s at place (turn .block) (blocksBytes (turn .others) [])
+    laid = turn .laid place found
+
+    pub goes-on : at < place .to
+    goes-on = omega (arith, laid .begins, laid .ends)
+
+    pub part-fits : (place .from ≤ place .to) × (place .to ≤ length s)
+    part-fits = (laid .ends, laid .fits)
+
+    pub parent-named : place .parent < places
+    parent-named = rw (laid .parent) (lt-of-lt-of-le (below .0) (walk .few))
+
+    module _ (w : List ℕ) (word : w ≡ take (place .to - place .from) (drop (place .from) s)) where
+      pub word-below : allBelow places w ≡ true
+      word-below = rw (word, laid .word) (all-below-more (walk .names) places (turn .block .word) (walk .few) (below .1))
+
+      -- behind a block of the parent
+      pub own-turn : (new : Facts) (count : ℕ) → place .parent ≡ parent → new ≡ withWord facts w → count ≡ blocks + 1 → Walk s parent new count (place .to) (left - 1)
+      unfolding wordsOf withWords
+      own-turn new count e en ec =
+          let own : eqb (turn .block .parent) parent ≡ true = eq-eqb (turn .block .parent) parent (sym (laid .parent) ∙ e) in
+          let k : length (wordsOf parent (blocksIn s)) ≡ blocks + suc (length (wordsOf parent (turn .others))) =
+          walk .counted ∙ ap (λ (bs : List Block). blocks + length (wordsOf parent bs)) (turn .first) ∙ rw own in
+          record {
+            ahead = others-ahead s at left (walk .ahead .blocks) turn place found;
+            names = walk .names;
+            few = walk .few;
+            within = below .2;
+            counted = omega arith;
+            gathered = walk .gathered ∙ ap (λ (bs : List Block). withWords facts (wordsOf parent bs)) (turn .first) ∙ rw (own, en, word, laid .word);
+          }
+
+    -- behind a block of another parent
+    pub other-turn : (new : Facts) (count : ℕ) → (place .parent ≡ parent → ⊥) → new ≡ facts → count ≡ blocks → Walk s parent new count (place .to) (left - 1)
+    unfolding wordsOf withWords
+    other-turn new count d en ec =
+        let other : eqb (turn .block .parent) parent ≡ false = ne-eqb (turn .block .parent) parent (λ e. d (laid .parent ∙ e)) in
         record {
-          block = b;
-          after = blocksBytes bs [];
-          placed = p .0;
-          fits = p .1;
-          named = lt-of-lt-of-le (w .0) (walk .few);
-          below = all-below-more (walk .names) places (b .word) (walk .few) (w .1);
-          other =
-              λ e.
-              record {
-                rest = bs;
-                stands = p .0 .rest;
-                many = size;
-                names = walk .names;
-                few = walk .few;
-                within = w .2;
-                counted = rw e at c;
-                gathered = rw e at g;
-              };
-          own =
-              λ e.
-              record {
-                rest = bs;
-                stands = p .0 .rest;
-                many = size;
-                names = walk .names;
-                few = walk .few;
-                within = w .2;
-                counted =
-                    let k : length (wordsOf parent (blocksIn s)) ≡ blocks + suc (length (wordsOf parent bs)) = rw e at c in
-                    omega arith;
-                gathered = rw e at g;
-              };
+          ahead = others-ahead s at left (walk .ahead .blocks) turn place found;
+          names = walk .names;
+          few = walk .few;
+          within = below .2;
+          counted = walk .counted ∙ ap (λ (bs : List Block). blocks + length (wordsOf parent bs)) (turn .first) ∙ rw (other, ec);
+          gathered = walk .gathered ∙ ap (λ (bs : List Block). withWords facts (wordsOf parent bs)) (turn .first) ∙ rw (other, en);
         }
-
--- A turn as the code takes it, from the place of the block.
-module _ (s : List ℕ) (parent : ℕ) (facts : Facts) (blocks at left : ℕ) (turn : Turn s parent facts blocks at left) (place : BlockPlace) (found : place ≡ blockPlace s at) where
-  from-is : place .from ≡ at + 2
-  unfolding blockPlace
-  from-is = ap (λ (p : BlockPlace). p .from) found
-
-  pub to-is : place .to ≡ at + 2 + length (turn .block .word)
-  unfolding blockPlace
-  to-is = ap (λ (p : BlockPlace). p .to) found ∙ ap (λ (n : ℕ). at + 2 + n) (turn .placed .size)
-
-  parent-is : place .parent ≡ turn .block .parent
-  unfolding blockPlace
-  parent-is = ap (λ (p : BlockPlace). p .parent) found ∙ turn .placed .parent
-
-  pub parent-named : place .parent < places
-  parent-named = rw parent-is (turn .named)
-
-  pub part-fits : (place .from ≤ place .to) × (place .to ≤ length s)
-  part-fits = (omega (arith, from-is, to-is), omega (arith, to-is, turn .placed .fits))
-
-  word-is : (w : List ℕ) → w ≡ take (place .to - place .from) (drop (place .from) s) → w ≡ turn .block .word
-  word-is w e =
-      let k : place .to - place .from ≡ length (turn .block .word) = omega (arith, from-is, to-is) in
-      e ∙ ap (λ (n : ℕ). take n (drop (place .from) s)) k ∙ ap (λ (n : ℕ). take (length (turn .block .word)) (drop n s)) from-is ∙ turn .placed .word
-
-  pub word-below : (w : List ℕ) → w ≡ take (place .to - place .from) (drop (place .from) s) → allBelow places w ≡ true
-  word-below w e = rw (word-is w e) (turn .below)
-
-  pub other-turn : (new : Facts) (count : ℕ) → (place .parent ≡ parent → ⊥) → new ≡ facts → count ≡ blocks → Walk s parent new count (place .to) (left - 1)
-  other-turn new count d en ec = rw (en, ec, to-is) (turn .other (ne-eqb (turn .block .parent) parent (λ e. d (parent-is ∙ e))))
-
-  pub own-turn : (new : Facts) (count : ℕ) (w : List ℕ) → place .parent ≡ parent → w ≡ take (place .to - place .from) (drop (place .from) s) →
-      new ≡ withWord facts w → count ≡ blocks + 1 → Walk s parent new count (place .to) (left - 1)
-  own-turn new count w e q en ec = rw (en, ec, to-is, word-is w q) (turn .own (eq-eqb (turn .block .parent) parent (sym parent-is ∙ e)))

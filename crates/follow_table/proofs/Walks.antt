@@ -13,7 +13,7 @@ use Rattle.book.specs.declared.Layout.{Layout}
 use Rattle.book.specs.declared.BlockPlace.{BlockPlace}
 use Rattle.book.specs.Access.{LaidOut, blockPlace}
 use Rattle.follow.specs.Adding.{noRows, noFacts, withWord}
-use Rattle.follow.proofs.Walk.{Walk, Turn, walk-begin, walk-turn, walk-done, to-is, own-turn, other-turn}
+use Rattle.follow.proofs.Walk.{Walk, walk-begin, walk-done, goes-on, own-turn, other-turn}
 use Rattle.follow_table.specs.Table.{rowSize, tableSize, rowOf, factsIn, countIn, HasRoom, Added, Gathered}
 use Rattle.follow_table.proofs.Parts.{row-zeros}
 
@@ -44,10 +44,6 @@ walks-begin s l n en laid p h =
       few = omega arith;
     }
 
--- The turn of one parent at the block where the walk stands.
-pub turn-of : (s table : List ℕ) (at left p : ℕ) → Stands s table at left p → 0 < left → Turn s p (factsIn (rowOf table p)) (countIn (rowOf table p)) at left
-turn-of s table at left p stands h = walk-turn s p (factsIn (rowOf table p)) (countIn (rowOf table p)) at left (stands .walk) h
-
 -- A book has fewer bytes than a count of blocks can reach.
 pub count-room : (s table : List ℕ) (at left p : ℕ) → Walks s table at left → p < places → at < 2 ^ 63 → HasRoom (rowOf table p)
 count-room s table at left p walks below h = omega (arith, walks p below .few)
@@ -57,25 +53,22 @@ module _ (s t u : List ℕ) (at left : ℕ) (more : 0 < left) (place : BlockPlac
   stands-on : (p : ℕ) → p < places → Stands s t at left p → Stands s u (place .to) (left - 1) p
   stands-on p below stands = go (ℕ-discrete p (place .parent))
     where
-      turn : Turn s p (factsIn (rowOf t p)) (countIn (rowOf t p)) at left
-      turn = turn-of s t at left p stands more
-
-      past : at + 2 ≤ place .to
-      past = omega (arith, to-is s p (factsIn (rowOf t p)) (countIn (rowOf t p)) at left turn place found)
+      past : at < place .to
+      past = goes-on s p (factsIn (rowOf t p)) (countIn (rowOf t p)) at left (stands .walk) more place found
 
       go : Dec (p ≡ place .parent) → Stands s u (place .to) (left - 1) p
       go (yes e) =
           let facts : factsIn (rowOf u p) ≡ withWord (factsIn (rowOf t p)) w = rw e (added .own .facts) in
           let count : countIn (rowOf u p) ≡ countIn (rowOf t p) + 1 = rw e (added .own .count) in
           record {
-            walk = own-turn s p (factsIn (rowOf t p)) (countIn (rowOf t p)) at left turn place found (factsIn (rowOf u p)) (countIn (rowOf u p)) w (sym e) word facts count;
+            walk = own-turn s p (factsIn (rowOf t p)) (countIn (rowOf t p)) at left (stands .walk) more place found w word (factsIn (rowOf u p)) (countIn (rowOf u p)) (sym e) facts count;
             few = omega (arith, stands .few, past);
           }
       go (no d) =
           let same : rowOf u p ≡ rowOf t p = added .others p below d in
           let count : countIn (rowOf u p) ≡ countIn (rowOf t p) = ap countIn same in
           record {
-            walk = other-turn s p (factsIn (rowOf t p)) (countIn (rowOf t p)) at left turn place found (factsIn (rowOf u p)) (countIn (rowOf u p)) (λ e. d (sym e)) (ap factsIn same) count;
+            walk = other-turn s p (factsIn (rowOf t p)) (countIn (rowOf t p)) at left (stands .walk) more place found (factsIn (rowOf u p)) (countIn (rowOf u p)) (λ e. d (sym e)) (ap factsIn same) count;
             few = omega (arith, stands .few, past);
           }
 

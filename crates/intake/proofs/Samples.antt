@@ -14,7 +14,7 @@ use Rattle.nameset.specs.Places.{places}
 use Rattle.book.specs.Book.{Block, Book, bookOf}
 use Rattle.book.specs.Layout.{layoutOf}
 use Rattle.book.specs.Access.{LaidOut}
-use Rattle.book.specs.Stops.{Within}
+use Rattle.book.specs.Stops.{BlocksBelow}
 use Rattle.book.proofs.Laws.{few-names, blocks-in, blocks-within}
 use Rattle.model.specs.Accept.{Names}
 use Rattle.follow.specs.Sample.{wordsOf, Over}
@@ -22,7 +22,7 @@ use Rattle.follow.proofs.Laws.{over-in, sample-over}
 use Rattle.intake.specs.Inference.{sampleOf, noWord, badParent, chainIn, modelIn, modelAnswer}
 
 -- a parent with a block is below n where every block's parent is
-parent-below : (n p : ℕ) (bs : List Block) → Within n bs → ¬ (wordsOf p bs ≡ []) → p < n
+parent-below : (n p : ℕ) (bs : List Block) → BlocksBelow n bs → ¬ (wordsOf p bs ≡ []) → p < n
 unfolding wordsOf
 parent-below n p [] h d = absurd (d refl)
 parent-below n p (b ∷ bs) h d = go (eqb (b .parent) p) refl (parent-below n p bs (h .2)) d
@@ -60,5 +60,5 @@ module _ (bytes : List ℕ) (book : Book) (read : bookOf bytes ≡ given book) w
     pub answer-given : ¬ (sampleOf book parent ≡ []) → modelAnswer bytes parent ≡ given (chainIn book parent)
     unfolding modelAnswer modelIn badParent sampleOf layoutOf laid
     answer-given block =
-        let within : Within (length (book .names)) (book .blocks) = subst (Within (length (book .names))) (blocks-in bytes (layoutOf book) laid) (blocks-within bytes (layoutOf book) laid) in
+        let within : BlocksBelow (length (book .names)) (book .blocks) = subst (BlocksBelow (length (book .names))) (blocks-in bytes (layoutOf book) laid) (blocks-within bytes (layoutOf book) laid) in
         rw (read, lt-ltb parent (length (book .names)) (parent-below (length (book .names)) parent (book .blocks) within block), some-word (wordsOf parent (book .blocks)) .1 block)

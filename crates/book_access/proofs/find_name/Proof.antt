@@ -15,8 +15,6 @@ use Rattle.name.specs.declared.Order.{Order}
 use Rattle.book.specs.declared.Layout.{Layout}
 use Rattle.book.specs.declared.Found.the-variants.{At, Nothing}
 use Rattle.book.specs.Access.{LaidOut, numberIn}
-use Prim.Native.Nat.{ℕ, _+_, _-_, _≤_, _<_}
-use lib.ListN.{length, getD}
 use Rattle.book_access.proofs.find_name.Statement.{statement}
 use Rattle.book_access.proofs.find_name.Tie as tie
 use Rattle.book_access.proofs.find_name.Reads as reads
@@ -29,7 +27,7 @@ module _ (s : List ℕ) (l : Layout) (laid : LaidOut s l) (text : List ℕ) wher
 
   -- what comparing the bytes where name i stands tells of name i
   told : (i : ℕ) → i < l .names → (o p : Order) →
-      o ≡ orderOf (take (getD s (getD (l .places) i 0) 0) (drop (getD (l .places) i 0 + 1) s)) text → o ≡ p → orderOf (getD (namesIn s) i []) text ≡ p
+      o ≡ orderOf (take (getD s (getD (l .offsets) i 0) 0) (drop (getD (l .offsets) i 0 + 1) s)) text → o ≡ p → orderOf (getD (namesIn s) i []) text ≡ p
   told i h o p e k = ap (λ (x : List ℕ). orderOf x text) (sym (name-laid s l laid i h .bytes)) ∙ sym e ∙ k
 
   hit : (i : ℕ) → i < l .names → orderOf (getD (namesIn s) i []) text ≡ Same → At i ≡ numberIn (namesIn s) text
@@ -47,13 +45,26 @@ module _ (s : List ℕ) (l : Layout) (laid : LaidOut s l) (text : List ℕ) wher
   above i h e k m j = upper (namesIn s) (names-rising s l laid) text i (among i h) e k m (among k j)
 
 abbrev Inv-loop : tie.InvT-loop
-Inv-loop bytes text places low₀ high₀ low high =
+Inv-loop bytes text offsets low₀ high₀ low high =
     (high ≤ high₀)
     × ((k : ℕ) → k < low → orderOf (getD (namesIn bytes) k []) text ≡ Below)
     × ((k : ℕ) → high ≤ k → k < high₀ → orderOf (getD (namesIn bytes) k []) text ≡ Above)
 
 abbrev μ-loop : tie.MeasureT-loop
-μ-loop bytes text places low₀ high₀ low high = high - low
+μ-loop bytes text offsets low₀ high₀ low high = high - low
+
+-- the middle, where it was compared
+abbrev middle : tie.After-compare-at-place Inv-loop μ-loop → ℕ
+middle c = let l = c .before .before .loop in l .low + (l .high - l .low) / 2
+
+among-names : (c : tie.After-compare-at-place Inv-loop μ-loop) → middle c < c .before .before .before .before .before .before .args .layout .names
+among-names c = omega arith
+
+-- and what that tells of the name with this number
+middle-told : (c : tie.After-compare-at-place Inv-loop μ-loop) (p : Order) → c .compare-at-place .result ≡ p →
+    orderOf (getD (namesIn (c .before .before .before .before .before .before .args .bytes .now)) (middle c) [])
+    (c .before .before .before .before .before .before .args .text .now) ≡ p
+middle-told c p e = told _ _ (c .before .before .before .before .before .before .pre) _ _ (among-names c) _ p (c .compare-at-place .ensures) e
 
 loop-holds : tie.Need-loop-holds Inv-loop μ-loop
 loop-holds c = (omega arith, λ k h. absurd (omega arith), λ k h l. absurd (omega arith))
@@ -91,22 +102,17 @@ loop-less c = omega arith
 
 loop-again : tie.Need-loop-again Inv-loop μ-loop
 loop-again c =
-    let w = c .before .before .before .before .before .before .before .before in
     let b = c .before .before in
     let i = b .before .before .loop .inv in
-    let h : b .before .before .loop .low + (b .before .before .loop .high - b .before .before .loop .low) / 2 < w .args .layout .names = omega arith in
-    (i .0, below _ _ (w .pre) _ _ h (told _ _ (w .pre) _ _ h _ _ (b .compare-at-place .ensures) (c .enum-told .given .1)), i .2)
+    (i .0, below _ _ (b .before .before .before .before .before .before .pre) _ _ (among-names b) (middle-told b _ (c .enum-told .given .1)), i .2)
 
 enum-told-2 : tie.Need-enum-told-2 Inv-loop μ-loop
 enum-told-2 c = search needs
 
 returns : tie.Need-returns Inv-loop μ-loop
 returns c =
-    let w = c .before .before .before .before .before .before .before .before in
     let b = c .before .before in
-    let i = b .before .before .loop .inv in
-    let h : b .before .before .loop .low + (b .before .before .loop .high - b .before .before .loop .low) / 2 < w .args .layout .names = omega arith in
-    hit _ _ (w .pre) _ _ h (told _ _ (w .pre) _ _ h _ _ (b .compare-at-place .ensures) (c .enum-told2 .given .1))
+    hit _ _ (b .before .before .before .before .before .before .pre) _ _ (among-names b) (middle-told b _ (c .enum-told2 .given .1))
 
 enum-told-3 : tie.Need-enum-told-3 Inv-loop μ-loop
 enum-told-3 c = search needs
@@ -116,11 +122,11 @@ loop-less-2 c = omega arith
 
 loop-again-2 : tie.Need-loop-again-2 Inv-loop μ-loop
 loop-again-2 c =
-    let w = c .before .before .before .before .before .before .before .before in
-    let b = c .before .before in
-    let i = b .before .before .loop .inv in
-    let h : b .before .before .loop .low + (b .before .before .loop .high - b .before .before .loop .low) / 2 < w .args .layout .names = omega arith in
-    (omega arith, i .1, above _ _ (w .pre) _ _ h (told _ _ (w .pre) _ _ h _ _ (b .compare-at-place .ensures) (c .enum-told3 .given .1)))
+    let b = c .before .before in (
+      omega arith,
+      b .before .before .loop .inv .1,
+      above _ _ (b .before .before .before .before .before .before .pre) _ _ (among-names b) (middle-told b _ (c .enum-told3 .given .1)),
+    )
 
 returns-2 : tie.Need-returns-2 Inv-loop μ-loop
 returns-2 c =

@@ -5,14 +5,17 @@ use mathlib.Core.Path.{_≡_, sym, _∙_, ap}
 use mathlib.Core.Bool.{Bool, true, false}
 use mathlib.Core.List.{List}
 use native.Mathlib.Omega.{arith}
-use native.Mathlib.Numerals.{add-one}
 use lib.ListN.{length, getD, take, drop, length-drop, drop-of-length-le}
 use lib.Seq.{drop-cons, length-take-le}
 use borrow.Author.Tests.{lt-ltb, le-ltb}
 use Rattle.refusal.specs.declared.Refusal.the-variants.{BytesMissing, NumberNotBelow}
+use Rattle.refusal.specs.Answer.{given, onward}
 use Rattle.book_blocks.specs.declared.BlockStep.the-variants.{Block, Stopped}
-use Rattle.book.specs.Field.{byteOf, bytesOf}
+use Rattle.book.specs.Field.{field, byteOf, bytesOf}
 use Rattle.book.specs.Book.{allBelow, blockOf}
+use Rattle.book.specs.Bytes.{headSize, childCountAt}
+use Rattle.book.proofs.FieldStops.{bytes-missing}
+use Rattle.book.proofs.BlockStops.{taken}
 use Rattle.book_blocks.specs.Tables.{blockStep}
 use borrow.Author.Needs.{needs}
 use Rattle.book_blocks.proofs.block_at.Statement.{statement}
@@ -34,77 +37,46 @@ module _ (s : List ℕ) (n at : ℕ) where
     bad-parent h = rw (drop-cons s at 0 h₁, ← e₁, le-ltb parent n h)
 
     module _ (h₂ : parent < n) where
-      no-size : length s ≤ at + 1 → Stopped BytesMissing ≡ blockStep (blockOf n (drop at s))
+      no-size : length s ≤ at + childCountAt → Stopped BytesMissing ≡ blockStep (blockOf n (drop at s))
       unfolding blockStep blockOf byteOf
       no-size h =
-          let one : suc at ≡ at + 1 = sym (add-one at) in
+          let one : suc at ≡ at + childCountAt = omega arith in
           rw (drop-cons s at 0 h₁, ← e₁, lt-ltb parent n h₂, one, drop-of-length-le s h)
 
-      module _ (h₃ : at + 1 < length s) (size : ℕ) (e₂ : size ≡ getD s (at + 1) 0) where
-        short : length s - (at + 1 + 1) < size → Stopped BytesMissing ≡ blockStep (blockOf n (drop at s))
-        unfolding blockStep blockOf byteOf bytesOf
-        short h =
-            let one : suc at ≡ at + 1 = sym (add-one at) in
-            let two : suc (at + 1) ≡ at + 1 + 1 = sym (add-one (at + 1)) in
-            rw (
-              drop-cons s at 0 h₁,
-              ← e₁,
-              lt-ltb parent n h₂,
-              one,
-              drop-cons s (at + 1) 0 h₃,
-              ← e₂,
-              two,
-              length-drop (at + 1 + 1) s,
-              lt-ltb (length s - (at + 1 + 1)) size h,
-            )
+      module _ (h₃ : at + childCountAt < length s) (size : ℕ) (e₂ : size ≡ getD s (at + childCountAt) 0) where
+        -- the head was read, and the children are due
+        headed : blockOf n (drop at s) ≡ onward (bytesOf size (drop (at + headSize) s)) (taken n parent)
+        unfolding blockOf byteOf
+        headed =
+            let one : suc at ≡ at + childCountAt = omega arith in
+            let two : suc (at + childCountAt) ≡ at + headSize = omega arith in
+            rw (drop-cons s at 0 h₁, ← e₁, lt-ltb parent n h₂, one, drop-cons s (at + childCountAt) 0 h₃, ← e₂, two)
 
-        module _ (h₄ : size ≤ length s - (at + 1 + 1)) (word : List ℕ) (w : word ≡ take (at + 1 + 1 + size - (at + 1 + 1)) (drop (at + 1 + 1) s))
+        short : length s - (at + headSize) < size → Stopped BytesMissing ≡ blockStep (blockOf n (drop at s))
+        unfolding blockStep
+        short h = rw (headed, bytes-missing size (drop (at + headSize) s) (rw (length-drop (at + headSize) s) h))
+
+        module _ (h₄ : size ≤ length s - (at + headSize)) (word : List ℕ) (w : word ≡ take (at + headSize + size - (at + headSize)) (drop (at + headSize) s))
             (below : Bool) (e₃ : below ≡ allBelow n word) where
-          same-word : take size (drop (at + 1 + 1) s) ≡ word
-          same-word = let d : size ≡ at + 1 + 1 + size - (at + 1 + 1) = omega arith in ap (λ (k : ℕ). take k (drop (at + 1 + 1) s)) d ∙ sym w
+          same-word : take size (drop (at + headSize) s) ≡ word
+          same-word = let d : size ≡ at + headSize + size - (at + headSize) = omega arith in ap (λ (k : ℕ). take k (drop (at + headSize) s)) d ∙ sym w
+
+          enough : size ≤ length (drop (at + headSize) s)
+          enough = rw (length-drop (at + headSize) s) h₄
+
+          children : bytesOf size (drop (at + headSize) s) ≡ given (field word (drop size (drop (at + headSize) s)))
+          unfolding bytesOf
+          children = rw (le-ltb (length (drop (at + headSize) s)) size enough, same-word)
 
           bad-child : below ≡ false → Stopped NumberNotBelow ≡ blockStep (blockOf n (drop at s))
-          unfolding blockStep blockOf byteOf bytesOf
-          bad-child h =
-              let one : suc at ≡ at + 1 = sym (add-one at) in
-              let two : suc (at + 1) ≡ at + 1 + 1 = sym (add-one (at + 1)) in
-              rw (
-                drop-cons s at 0 h₁,
-                ← e₁,
-                lt-ltb parent n h₂,
-                one,
-                drop-cons s (at + 1) 0 h₃,
-                ← e₂,
-                two,
-                length-drop (at + 1 + 1) s,
-                le-ltb (length s - (at + 1 + 1)) size h₄,
-                same-word,
-                ← e₃,
-                h,
-              )
+          unfolding blockStep
+          bad-child h = rw (headed, children, ← e₃, h)
 
           whole : below ≡ true → Block size ≡ blockStep (blockOf n (drop at s))
-          unfolding blockStep blockOf byteOf bytesOf
+          unfolding blockStep
           whole h =
-              let one : suc at ≡ at + 1 = sym (add-one at) in
-              let two : suc (at + 1) ≡ at + 1 + 1 = sym (add-one (at + 1)) in
-              let l : size ≤ length (drop (at + 1 + 1) s) = rw (length-drop (at + 1 + 1) s) h₄ in
-              let k : length word ≡ size = ap length (sym same-word) ∙ length-take-le size (drop (at + 1 + 1) s) l in
-              rw (
-                drop-cons s at 0 h₁,
-                ← e₁,
-                lt-ltb parent n h₂,
-                one,
-                drop-cons s (at + 1) 0 h₃,
-                ← e₂,
-                two,
-                length-drop (at + 1 + 1) s,
-                le-ltb (length s - (at + 1 + 1)) size h₄,
-                same-word,
-                ← e₃,
-                h,
-                k,
-              )
+              let k : length word ≡ size = ap length (sym same-word) ∙ length-take-le size (drop (at + headSize) s) enough in
+              rw (headed, children, ← e₃, h, k)
 
 returns : tie.Need-returns
 returns c = no-parent _ _ _ (c .if1 .taken)
@@ -118,8 +90,8 @@ wide-requires c κs = search needs
 returns-2 : tie.Need-returns-2
 returns-2 c = bad-parent _ _ _ (c .before .before .before .if1 .left) _ (c .before .wide .ensures .0) (c .if2 .taken)
 
-add-second : tie.Need-add-second
-add-second c = search needs
+add-count : tie.Need-add-count
+add-count c = search needs
 
 returns-3 : tie.Need-returns-3
 returns-3 c =
@@ -178,7 +150,7 @@ block-at-spec =
     shared-slice-read-wide
     wide-requires
     returns-2
-    add-second
+    add-count
     returns-3
     shared-slice-read-wide-2
     wide-requires-2

@@ -2,6 +2,7 @@
 -- Assumes nothing.
 use Prim.Native.Nat.{ℕ, _+_, _-_, _≤_, _<_}
 use mathlib.Core.Path.{_≡_, refl, sym, _∙_, ap}
+use mathlib.Core.Bool.{false≢true}
 use mathlib.Core.List.{List}
 use native.Mathlib.Omega.{arith}
 use lib.ListN.{length, drop, length-drop}
@@ -12,10 +13,9 @@ use Rattle.refusal.specs.Answer.{Answer, given, refused}
 use Rattle.book_blocks.specs.declared.BlocksEnd.{BlocksEnd}
 use Rattle.book_blocks.specs.declared.BlocksEnd.the-variants.{End, Stopped as BlocksStopped}
 use Rattle.book_blocks.specs.declared.BlockCount.the-variants.{Blocks, Stopped}
-use Rattle.book.specs.Field.{Field}
+use Rattle.book.specs.Field.{Field, countSize, countAt}
 use Rattle.book.specs.Book.{Block, blocksOf, blockSection}
 use Rattle.book_blocks.specs.Tables.{blocksEnd, blockCount, behindBlocks}
-use Rattle.book.specs.Stops.{countAt}
 use Rattle.book.proofs.Counts.{count-missing, count-given}
 use Rattle.book.proofs.Told.{blocks-told}
 use Rattle.book_blocks.proofs.Steps.{behind-blocks}
@@ -28,35 +28,35 @@ use Rattle.book_blocks.proofs.read_blocks.Reads as read-blocks-reads
 use Rattle.book.proofs.count_at.Reads as count-at-reads
 
 module _ (s : List ℕ) (n at : ℕ) where
-  missing : at ≤ length s → length s - at < 2 → Stopped BytesMissing ≡ blockCount (blockSection n (drop at s))
+  missing : at ≤ length s → length s - at < countSize → Stopped BytesMissing ≡ blockCount (blockSection n (drop at s))
   unfolding blockCount blockSection
   missing l h = rw (count-missing s at (omega arith))
 
-  module _ (h : 2 ≤ length s - at) (m : ℕ) (e : m ≡ countAt s at) where
-    stop : (r : Refusal) (x : BlocksEnd) → x ≡ blocksEnd (at + 2) (blocksOf n m (drop (at + 2) s)) → x ≡ BlocksStopped r → Stopped r ≡ blockCount (blockSection n (drop at s))
+  module _ (h : countSize ≤ length s - at) (m : ℕ) (e : m ≡ countAt s at) where
+    stop : (r : Refusal) (x : BlocksEnd) → x ≡ blocksEnd (at + countSize) (blocksOf n m (drop (at + countSize) s)) → x ≡ BlocksStopped r → Stopped r ≡ blockCount (blockSection n (drop at s))
     unfolding blocksEnd blockCount blockSection
-    stop r x w v = go (blocksOf n m (drop (at + 2) s)) refl (sym w ∙ v)
+    stop r x w v = go (blocksOf n m (drop (at + countSize) s)) refl (sym w ∙ v)
       where
-        go : (a : Answer (Field (List Block))) → blocksOf n m (drop (at + 2) s) ≡ a → blocksEnd (at + 2) a ≡ BlocksStopped r →
+        go : (a : Answer (Field (List Block))) → blocksOf n m (drop (at + countSize) s) ≡ a → blocksEnd (at + countSize) a ≡ BlocksStopped r →
             Stopped r ≡ blockCount (blockSection n (drop at s))
-        go (given blocks) k q = absurd (let z : _≡_ {A = ℕ} 0 1 = cc in omega arith)
+        go (given blocks) k q = absurd (false≢true cc)
         go (refused r') k q = let z : r' ≡ r = cc in rw (count-given s at (omega arith), ← e, k, z)
 
     -- the blocks end at `end`
-    ended : (end : ℕ) → blocksEnd (at + 2) (blocksOf n m (drop (at + 2) s)) ≡ End end →
-        (blocks : Field (List Block)) × (blocksOf n m (drop (at + 2) s) ≡ given blocks) × (length (blocks .rest) ≡ length s - end) × (length (blocks .value) ≡ m)
+    ended : (end : ℕ) → blocksEnd (at + countSize) (blocksOf n m (drop (at + countSize) s)) ≡ End end →
+        (blocks : Field (List Block)) × (blocksOf n m (drop (at + countSize) s) ≡ given blocks) × (length (blocks .rest) ≡ length s - end) × (length (blocks .value) ≡ m)
     unfolding blocksEnd
-    ended end q = go (blocksOf n m (drop (at + 2) s)) refl q
+    ended end q = go (blocksOf n m (drop (at + countSize) s)) refl q
       where
-        go : (a : Answer (Field (List Block))) → blocksOf n m (drop (at + 2) s) ≡ a → blocksEnd (at + 2) a ≡ End end →
-            (blocks : Field (List Block)) × (blocksOf n m (drop (at + 2) s) ≡ given blocks) × (length (blocks .rest) ≡ length s - end) × (length (blocks .value) ≡ m)
+        go : (a : Answer (Field (List Block))) → blocksOf n m (drop (at + countSize) s) ≡ a → blocksEnd (at + countSize) a ≡ End end →
+            (blocks : Field (List Block)) × (blocksOf n m (drop (at + countSize) s) ≡ given blocks) × (length (blocks .rest) ≡ length s - end) × (length (blocks .value) ≡ m)
         go (given blocks) k q =
-            let z : behindBlocks (at + 2) (blocks .value) ≡ end = cc in
-            let t = blocks-told n m (drop (at + 2) s) blocks k in
-            (blocks, k, ap length (sym (behind-blocks s (at + 2) (blocks .value) (blocks .rest) (t .bytes))) ∙ rw z (length-drop end s), t .many)
-        go (refused r) k q = absurd (let z : _≡_ {A = ℕ} 0 1 = cc in omega arith)
+            let z : behindBlocks (at + countSize) (blocks .value) ≡ end = cc in
+            let t = blocks-told n m (drop (at + countSize) s) blocks k in
+            (blocks, k, ap length (sym (behind-blocks s (at + countSize) (blocks .value) (blocks .rest) (t .bytes))) ∙ rw z (length-drop end s), t .many)
+        go (refused r) k q = absurd (false≢true cc)
 
-    module _ (end : ℕ) (x : BlocksEnd) (w : x ≡ blocksEnd (at + 2) (blocksOf n m (drop (at + 2) s))) (v : x ≡ End end) where
+    module _ (end : ℕ) (x : BlocksEnd) (w : x ≡ blocksEnd (at + countSize) (blocksOf n m (drop (at + countSize) s))) (v : x ≡ End end) where
       left-over : end < length s → Stopped BytesLeftOver ≡ blockCount (blockSection n (drop at s))
       unfolding blockCount blockSection
       left-over l =

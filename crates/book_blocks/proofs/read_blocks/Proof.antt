@@ -11,6 +11,7 @@ use Rattle.refusal.specs.Answer.{Answer, given, refused, onward}
 use Rattle.book_blocks.specs.declared.BlocksEnd.the-variants.{End, Stopped}
 use Rattle.book.specs.Field.{Field, field}
 use Rattle.book.specs.Book.{Block, blockOf, blocksOf}
+use Rattle.book.specs.Bytes.{headSize}
 use Rattle.book_blocks.specs.Tables.{blocksEnd, behindBlocks}
 use Rattle.book_blocks.proofs.Steps.{BlockRead, block-read, block-stopped}
 use Rattle.book_blocks.proofs.read_blocks.Statement.{statement}
@@ -20,7 +21,7 @@ use Rattle.book_blocks.proofs.read_blocks.Lts as lts
 use Rattle.book_blocks.proofs.block_at.Reads as block-at-reads
 
 one-more : (at : ℕ) (b : Block) (a : Answer (Field (List Block))) →
-    blocksEnd at (onward a (λ others. given (field (b ∷ others .value) (others .rest)))) ≡ blocksEnd (at + 2 + length (b .word)) a
+    blocksEnd at (onward a (λ others. given (field (b ∷ others .value) (others .rest)))) ≡ blocksEnd (at + headSize + length (b .word)) a
 unfolding blocksEnd behindBlocks
 one-more at b (given blocks) = refl
 one-more at b (refused r) = refl
@@ -35,7 +36,7 @@ module _ (n left at : ℕ) (s : List ℕ) (h : 0 < left) where
   unfolding blocksEnd blocksOf
   stop r e = let k : left ≡ suc (left - 1) = omega arith in rw (k, e)
 
-  next : (size : ℕ) → BlockRead n s at size → blocksEnd at (blocksOf n left (drop at s)) ≡ blocksEnd (at + 2 + size) (blocksOf n (left - 1) (drop (at + 2 + size) s))
+  next : (size : ℕ) → BlockRead n s at size → blocksEnd at (blocksOf n left (drop at s)) ≡ blocksEnd (at + headSize + size) (blocksOf n (left - 1) (drop (at + headSize + size) s))
   unfolding blocksOf
   next size t =
       let k : left ≡ suc (left - 1) = omega arith in

@@ -10,7 +10,6 @@ use Rattle.name.specs.Rule.{goodBytes}
 use Rattle.name.specs.Order.{rises}
 use Rattle.book_names.specs.declared.NameStep.the-variants.{Name, Stopped}
 use Rattle.book_names.specs.Tables.{nameStep, judgedName}
-use Rattle.book_names.specs.Tables.{judgedName}
 use borrow.Author.Needs.{needs}
 use Rattle.book_names.proofs.judge.Statement.{statement}
 use Rattle.book_names.proofs.judge.Tie as tie

@@ -9,9 +9,9 @@ use lib.ListN.{length, drop}
 use Rattle.refusal.specs.declared.Refusal.the-variants.{BytesMissing, BadNameCount}
 use Rattle.nameset.specs.Places.{goodCount}
 use Rattle.nameset.proofs.Count.{count-bounds}
+use Rattle.book.specs.Field.{countSize, countAt}
 use Rattle.book.specs.Book.{namesOf, nameSection}
 use Rattle.book_names.specs.Tables.{nameTable, noNames}
-use Rattle.book.specs.Stops.{countAt}
 use Rattle.book.proofs.Counts.{count-missing, count-given}
 use borrow.Author.Needs.{needs}
 use Rattle.book_names.proofs.name_section.Statement.{statement}
@@ -23,16 +23,16 @@ use Rattle.book_names.proofs.no_names.Reads as no-names-reads
 use Rattle.book_names.proofs.read_names.Reads as read-names-reads
 use Rattle.nameset.proofs.good_count.Reads as good-count-reads
 
-missing : (s : List ℕ) → length s < 2 → noNames BytesMissing ≡ nameTable (nameSection s)
+missing : (s : List ℕ) → length s < countSize → noNames BytesMissing ≡ nameTable (nameSection s)
 unfolding nameTable nameSection
 missing s h = rw (count-missing s 0 h)
 
-module _ (s : List ℕ) (h : 2 ≤ length s) (n : ℕ) (e : n ≡ countAt s 0) (good : Bool) (g : good ≡ goodCount n) where
+module _ (s : List ℕ) (h : countSize ≤ length s) (n : ℕ) (e : n ≡ countAt s 0) (good : Bool) (g : good ≡ goodCount n) where
   bad-count : good ≡ false → noNames BadNameCount ≡ nameTable (nameSection s)
   unfolding nameTable nameSection
   bad-count k = rw (count-given s 0 h, ← e, ← g, k)
 
-  counted : good ≡ true → nameTable (namesOf n [] (drop 2 s)) ≡ nameTable (nameSection s)
+  counted : good ≡ true → nameTable (namesOf n [] (drop countSize s)) ≡ nameTable (nameSection s)
   unfolding nameSection
   counted k = rw (count-given s 0 h, ← e, ← g, k)
 

@@ -1,7 +1,7 @@
 -- `no_names` meets its contract.
 -- Assumes nothing.
 use mathlib.Core.Path.{refl}
-use Rattle.book.specs.Layout.{noPlaces}
+use Rattle.book.specs.Layout.{noOffsets}
 use Rattle.book_names.specs.Tables.{noNames}
 use Rattle.book_names.proofs.no_names.Statement.{statement}
 use Rattle.book_names.proofs.no_names.Tie as tie
@@ -9,7 +9,7 @@ use Rattle.book_names.proofs.no_names.Reads as reads
 use Rattle.book_names.proofs.no_names.Lts as lts
 
 returns : tie.Need-returns
-unfolding noPlaces noNames
+unfolding noOffsets noNames
 returns c = refl
 
 pub no-names-spec : {M : Type 1} → statement M

@@ -13,9 +13,9 @@ use Rattle.refusal.specs.declared.Refusal.{Refusal}
 use Rattle.refusal.specs.declared.Outcome.the-variants.{Done}
 use Rattle.refusal.specs.Answer.{Answer, given, refused, onward}
 use Rattle.book_names.specs.declared.NameTable.{NameTable}
-use Rattle.book.specs.Field.{Field, field}
+use Rattle.book.specs.Field.{Field, field, countSize}
 use Rattle.book.specs.Book.{nameOf, namesOf}
-use Rattle.book.specs.Layout.{noPlaces, placeTable, placesFrom, endFrom}
+use Rattle.book.specs.Layout.{noOffsets, offsetTable, offsetsFrom, endFrom}
 use Rattle.book_names.specs.Tables.{nameTable, noNames}
 use Rattle.book_names.proofs.Steps.{NameRead, name-read, name-stopped}
 use Rattle.book_names.proofs.read_names.Statement.{statement}
@@ -32,31 +32,31 @@ onwards table i at (given names) =
     record {
       outcome = Done;
       names = i + length (names .value);
-      places = sets table i (placesFrom at (names .value));
+      offsets = sets table i (offsetsFrom at (names .value));
       end = endFrom at (names .value);
     }
 onwards table i at (refused r) = noNames r
 
-first : (a : Answer (Field (List (List ℕ)))) → nameTable a ≡ onwards noPlaces 0 2 a
-unfolding nameTable onwards placeTable
+first : (a : Answer (Field (List (List ℕ)))) → nameTable a ≡ onwards noOffsets 0 countSize a
+unfolding nameTable onwards offsetTable
 first (given names) = let e : 0 + length (names .value) ≡ length (names .value) = omega arith in rw e
 first (refused r) = refl
 
-begin : (n : ℕ) (s : List ℕ) → nameTable (namesOf n [] (drop 2 s)) ≡ onwards noPlaces 0 2 (namesOf (n - 0) (take (2 - 2) (drop 2 s)) (drop 2 s))
-begin n s = let e : n - 0 ≡ n = omega arith in rw e (first (namesOf n [] (drop 2 s)))
+begin : (n : ℕ) (s : List ℕ) → nameTable (namesOf n [] (drop countSize s)) ≡ onwards noOffsets 0 countSize (namesOf (n - 0) (take (countSize - countSize) (drop countSize s)) (drop countSize s))
+begin n s = let e : n - 0 ≡ n = omega arith in rw e (first (namesOf n [] (drop countSize s)))
 
 one-more : (table : List ℕ) (i at : ℕ) (x : List ℕ) (a : Answer (Field (List (List ℕ)))) →
     onwards table i at (onward a (λ others. given (field (x ∷ others .value) (others .rest))))
     ≡ onwards (set table i at) (i + 1) (at + 1 + length x) a
-unfolding onwards placesFrom endFrom
+unfolding onwards offsetsFrom endFrom
 one-more table i at x (given names) =
     let e : i + suc (length (names .value)) ≡ suc i + length (names .value) = omega arith in
     rw (add-one i, e)
 one-more table i at x (refused r) = refl
 
 done : (table : List ℕ) (i at n : ℕ) (before s : List ℕ) → n ≤ i → i ≤ n →
-    onwards table i at (namesOf (n - i) before s) ≡ record { outcome = Done; names = n; places = table; end = at }
-unfolding namesOf onwards placesFrom endFrom
+    onwards table i at (namesOf (n - i) before s) ≡ record { outcome = Done; names = n; offsets = table; end = at }
+unfolding namesOf onwards offsetsFrom endFrom
 done table i at n before s h l =
     let k : n - i ≡ 0 = omega arith in
     let j : i + 0 ≡ n = omega arith in
@@ -80,12 +80,12 @@ module _ (table : List ℕ) (i from at n : ℕ) (before s : List ℕ) (h : i < n
       rw (← b, k, t .read, d, t .value, t .rest, ← t .size) (one-more table i at (t .name .value) (namesOf (n - (i + 1)) (t .name .value) (t .name .rest)))
 
 abbrev Inv-loop : tie.InvT-loop
-Inv-loop bytes n places₀ from₀ at₀ i₀ places from at i =
+Inv-loop bytes n offsets₀ from₀ at₀ i₀ offsets from at i =
     (from ≤ at) × (at ≤ length bytes) × (i ≤ n)
-    × (nameTable (namesOf n [] (drop 2 bytes)) ≡ onwards places i at (namesOf (n - i) (take (at - from) (drop from bytes)) (drop at bytes)))
+    × (nameTable (namesOf n [] (drop countSize bytes)) ≡ onwards offsets i at (namesOf (n - i) (take (at - from) (drop from bytes)) (drop at bytes)))
 
 abbrev μ-loop : tie.MeasureT-loop
-μ-loop bytes n places₀ from₀ at₀ i₀ places from at i = n - i
+μ-loop bytes n offsets₀ from₀ at₀ i₀ offsets from at i = n - i
 
 -- what is known where a name was read
 named : (c : tie.After-known-told Inv-loop μ-loop) →
@@ -94,7 +94,7 @@ named : (c : tie.After-known-told Inv-loop μ-loop) →
 named c = name-read _ _ _ _ (sym (c .before .before .before .name-at .ensures) ∙ c .before .size .given .1)
 
 loop-holds : tie.Need-loop-holds Inv-loop μ-loop
-unfolding noPlaces
+unfolding noOffsets
 loop-holds c = (omega arith, omega arith, omega arith, begin _ (c .before .args .bytes .now))
 
 part-requires : tie.Need-part-requires Inv-loop μ-loop
@@ -106,14 +106,14 @@ name-at-requires c κs = omega arith
 enum-known-size : tie.Need-enum-known-size Inv-loop μ-loop
 enum-known-size c = search needs
 
-cast-places : tie.Need-cast-places Inv-loop μ-loop
-cast-places c = omega arith
+cast-offsets : tie.Need-cast-offsets Inv-loop μ-loop
+cast-offsets c = omega arith
 
-mul-places : tie.Need-mul-places Inv-loop μ-loop
-mul-places c = search needs
+mul-offsets : tie.Need-mul-offsets Inv-loop μ-loop
+mul-offsets c = search needs
 
-array-write-places : tie.Need-array-write-places Inv-loop μ-loop
-array-write-places c = search needs
+array-write-offsets : tie.Need-array-write-offsets Inv-loop μ-loop
+array-write-offsets c = search needs
 
 add-from : tie.Need-add-from Inv-loop μ-loop
 add-from c = omega arith
@@ -165,9 +165,9 @@ read-names-spec =
     part-requires
     name-at-requires
     enum-known-size
-    cast-places
-    mul-places
-    array-write-places
+    cast-offsets
+    mul-offsets
+    array-write-offsets
     add-from
     add-at
     enum-known-refusal

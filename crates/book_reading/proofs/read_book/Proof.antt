@@ -2,6 +2,7 @@
 -- Assumes nothing.
 use Prim.Native.Nat.{ℕ, _+_, _≤_, _<_}
 use mathlib.Core.Path.{_≡_, refl, sym, _∙_, ap}
+use mathlib.Core.Bool.{false≢true}
 use mathlib.Core.List.{List}
 use native.Mathlib.Omega.{arith}
 use lib.ListN.{length, drop}
@@ -12,9 +13,9 @@ use Rattle.refusal.specs.declared.Outcome.the-variants.{Done, Refused}
 use Rattle.refusal.specs.Answer.{Answer, given, refused}
 use Rattle.book_names.specs.declared.NameTable.{NameTable}
 use Rattle.book_blocks.specs.declared.BlockCount.the-variants.{Blocks, Stopped}
-use Rattle.book.specs.Field.{Field}
+use Rattle.book.specs.Field.{Field, countSize}
 use Rattle.book.specs.Book.{Block, nameSection, blockSection, bookOf, longestBook}
-use Rattle.book.specs.Layout.{readingOf, noReading, layoutOf, placeTable, endFrom}
+use Rattle.book.specs.Layout.{readingOf, noReading, layoutOf, offsetTable, endFrom}
 use Rattle.book_names.specs.Tables.{nameTable}
 use Rattle.book_blocks.specs.Tables.{blockCount}
 use Rattle.book_names.proofs.Table.{TableTold, table-told, table-refused}
@@ -33,8 +34,8 @@ too-long s h = rw (lt-ltb longestBook (length s) h)
 
 laid-out : (s : List ℕ) → length s ≤ longestBook → (f : Field (List (List ℕ))) → nameSection s ≡ given f →
     (bs : List Block) → blockSection (length (f .value)) (f .rest) ≡ given bs →
-    (n : ℕ) (p : List ℕ) (end m : ℕ) → n ≡ length (f .value) → p ≡ placeTable (f .value) → end ≡ endFrom 2 (f .value) → m ≡ length bs →
-    record { outcome = Done; layout = record { names = n; places = p; body = end + 2; blocks = m } } ≡ readingOf (bookOf s)
+    (n : ℕ) (p : List ℕ) (end m : ℕ) → n ≡ length (f .value) → p ≡ offsetTable (f .value) → end ≡ endFrom countSize (f .value) → m ≡ length bs →
+    record { outcome = Done; layout = record { names = n; offsets = p; body = end + countSize; blocks = m } } ≡ readingOf (bookOf s)
 unfolding readingOf bookOf layoutOf
 laid-out s h f a bs b n p end m en ep ee em = rw (le-ltb longestBook (length s) h, a, b, en, ep, ee, em)
 
@@ -52,24 +53,24 @@ module _ (s : List ℕ) (h : length s ≤ longestBook) (t : NameTable) (e : t �
     no-blocks r q = go (blockSection (t .names) (drop (t .end) s)) refl q
       where
         go : (a : Answer (List Block)) → blockSection (t .names) (drop (t .end) s) ≡ a → blockCount a ≡ Stopped r → noReading r ≡ readingOf (bookOf s)
-        go (given bs) k q = absurd (let z : _≡_ {A = ℕ} 0 1 = cc in omega arith)
+        go (given bs) k q = absurd (false≢true cc)
         go (refused r') k q =
             let z : r' ≡ r = cc in
             let b : blockSection (length (named .names .value)) (named .names .rest) ≡ refused r = rw (← named .many, ← named .rest) (k ∙ ap refused z) in
             rw (le-ltb longestBook (length s) h, named .read, b)
 
     whole : (m : ℕ) → blockCount (blockSection (t .names) (drop (t .end) s)) ≡ Blocks m →
-        record { outcome = Done; layout = record { names = t .names; places = t .places; body = t .end + 2; blocks = m } } ≡ readingOf (bookOf s)
+        record { outcome = Done; layout = record { names = t .names; offsets = t .offsets; body = t .end + countSize; blocks = m } } ≡ readingOf (bookOf s)
     unfolding blockCount
     whole m q = go (blockSection (t .names) (drop (t .end) s)) refl q
       where
         go : (a : Answer (List Block)) → blockSection (t .names) (drop (t .end) s) ≡ a → blockCount a ≡ Blocks m →
-            record { outcome = Done; layout = record { names = t .names; places = t .places; body = t .end + 2; blocks = m } } ≡ readingOf (bookOf s)
+            record { outcome = Done; layout = record { names = t .names; offsets = t .offsets; body = t .end + countSize; blocks = m } } ≡ readingOf (bookOf s)
         go (given bs) k q =
             let z : length bs ≡ m = cc in
             let b : blockSection (length (named .names .value)) (named .names .rest) ≡ given bs = rw (← named .many, ← named .rest) k in
-            laid-out s h (named .names) (named .read) bs b (t .names) (t .places) (t .end) m (named .many) (named .placed) (named .end) (sym z)
-        go (refused r) k q = absurd (let z : _≡_ {A = ℕ} 0 1 = cc in omega arith)
+            laid-out s h (named .names) (named .read) bs b (t .names) (t .offsets) (t .end) m (named .many) (named .placed) (named .end) (sym z)
+        go (refused r) k q = absurd (false≢true cc)
 
 refused-requires : tie.Need-refused-requires
 refused-requires c κs = search needs

@@ -1,14 +1,14 @@
 -- `refused` meets its contract.
 -- Assumes nothing.
 use mathlib.Core.Path.{refl}
-use Rattle.book.specs.Layout.{noPlaces, noLayout, noReading}
+use Rattle.book.specs.Layout.{noOffsets, noLayout, noReading}
 use Rattle.book_reading.proofs.refused.Statement.{statement}
 use Rattle.book_reading.proofs.refused.Tie as tie
 use Rattle.book_reading.proofs.refused.Reads as reads
 use Rattle.book_reading.proofs.refused.Lts as lts
 
 returns : tie.Need-returns
-unfolding noPlaces noLayout noReading
+unfolding noOffsets noLayout noReading
 returns c = refl
 
 pub refused-spec : {M : Type 1} → statement M

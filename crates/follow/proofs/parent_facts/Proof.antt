@@ -11,7 +11,7 @@ use borrow.Author.Needs.{needs}
 use Rattle.nameset.specs.Places.{places}
 use Rattle.book.specs.Book.{allBelow}
 use Rattle.follow.specs.Adding.{noRows}
-use Rattle.follow.proofs.Walk.{Walk, Turn, word-added, none-added, walk-begin, walk-turn, walk-done, to-is, part-fits, word-below, own-turn, other-turn}
+use Rattle.follow.proofs.Walk.{Walk, word-added, none-added, walk-begin, walk-done, turn, goes-on, part-fits, word-below, own-turn, other-turn}
 use Rattle.follow.proofs.parent_facts.Statement.{statement}
 use Rattle.follow.proofs.parent_facts.Tie as tie
 
@@ -23,17 +23,10 @@ abbrev μ-loop : tie.MeasureT-loop
 μ-loop bytes parent starts₀ ends₀ rows₀ empty₀ blocks₀ at₀ left₀ starts ends rows empty blocks at left =
     left
 
--- the block at which the walk stands
-turned : (c : tie.In-loop Inv-loop μ-loop) →
-    Turn (c .before .before .before .before .before .args .bytes .now) (c .before .before .before .before .before .args .parent)
-    (record { starts = c .before .loop .starts; ends = c .before .loop .ends; follows = c .before .loop .rows; empty = c .before .loop .empty })
-    (c .before .loop .blocks) (c .before .loop .at) (c .before .loop .left)
-turned c = walk-turn _ _ _ _ _ _ (c .before .loop .inv .0) (c .loop-test .taken)
-
 below : (c : tie.After-part Inv-loop μ-loop) → allBelow places (c .part .result .now) ≡ true
 below c =
     let b = c .before .before .before in
-    word-below _ _ _ _ _ _ (turned (b .before)) _ (b .block-at-place .ensures) _ (c .part .ensures)
+    word-below _ _ _ _ _ _ (b .before .before .loop .inv .0) (b .before .loop-test .taken) _ (b .block-at-place .ensures) _ (c .part .ensures)
 
 empty-requires : tie.Need-empty-requires Inv-loop μ-loop
 empty-requires c κs = search needs
@@ -47,12 +40,12 @@ loop-holds c =
     (walk-begin _ _ _ _ _ (c .before .before .before .pre) (c .before .empty .ensures .same) (c .empty2 .ensures .same), length-replicate {A = ℕ} places 0, omega arith)
 
 block-at-place-requires : tie.Need-block-at-place-requires Inv-loop μ-loop
-block-at-place-requires c κs = turned c .fits
+block-at-place-requires c κs = turn _ _ _ _ _ _ (c .before .loop .inv .0) (c .loop-test .taken) .fits
 
 part-requires : tie.Need-part-requires Inv-loop μ-loop
 part-requires c κs =
     let b = c .before .before in
-    part-fits _ _ _ _ _ _ (turned (b .before)) _ (b .block-at-place .ensures)
+    part-fits _ _ _ _ _ _ (b .before .before .loop .inv .0) (b .before .loop-test .taken) _ (b .block-at-place .ensures)
 
 with-first-requires : tie.Need-with-first-requires Inv-loop μ-loop
 with-first-requires c κs = below c
@@ -74,7 +67,7 @@ or-empty-requires c κs = search needs
 add-blocks : tie.Need-add-blocks Inv-loop μ-loop
 add-blocks c =
     let t = c .before .before .before .before .before .before .before .before .before .before in
-    omega (arith, turned t .fits .head, t .before .loop .inv .2, t .before .before .before .before .before .good)
+    omega (arith, turn _ _ _ _ _ _ (t .before .loop .inv .0) (t .loop-test .taken) .fits .head, t .before .loop .inv .2, t .before .before .before .before .before .good)
 
 sub-left : tie.Need-sub-left Inv-loop μ-loop
 sub-left c = omega arith
@@ -85,20 +78,21 @@ loop-less c = omega arith
 loop-again : tie.Need-loop-again Inv-loop μ-loop
 loop-again c =
     let b = c .before .before in
-    let t = turned (b .before) in
+    let more = b .before .loop-test .taken in
     let found = b .block-at-place .ensures in
     let inv = b .before .before .loop .inv in
+    let on = goes-on _ _ _ _ _ _ (inv .0) more _ found in
     ⊎-elim
     (λ w. (
-      own-turn _ _ _ _ _ _ t _ found _ _ _ (w .0 .taken) (w .1 .ensures)
+      own-turn _ _ _ _ _ _ (inv .0) more _ found _ (w .1 .ensures) _ _ (w .0 .taken)
           (word-added _ _ _ _ _ _ (w .8 ∙ w .2 .ensures) (w .9 ∙ w .3 .ensures) (w .10 ∙ w .5 .ensures .0) (w .11 ∙ w .7 .ensures)) (w .12),
       ap (λ (l : List ℕ). length l) (w .10) ∙ w .5 .ensures .1,
-      omega (arith, w .12, inv .2, to-is _ _ _ _ _ _ t _ found),
+      omega (arith, w .12, inv .2, on),
     ))
     (λ w. (
-      other-turn _ _ _ _ _ _ t _ found _ _ (w .0 .left) (none-added _ _ _ _ _ (w .1) (w .2) (w .3) (w .4)) (w .5),
+      other-turn _ _ _ _ _ _ (inv .0) more _ found _ _ (w .0 .left) (none-added _ _ _ _ _ (w .1) (w .2) (w .3) (w .4)) (w .5),
       ap (λ (l : List ℕ). length l) (w .3) ∙ inv .1,
-      omega (arith, w .5, inv .2, to-is _ _ _ _ _ _ t _ found),
+      omega (arith, w .5, inv .2, on),
     ))
     (c .if1 .came)
 

@@ -5,9 +5,9 @@ use mathlib.Core.Path.{_≡_, refl}
 use native.Mathlib.Omega.{arith}
 use lib.ListN.{length, length-replicate}
 use borrow.Author.Needs.{needs}
-use Rattle.follow.proofs.Walk.{Turn, parent-named, part-fits, word-below}
+use Rattle.follow.proofs.Walk.{Walk, turn, parent-named, part-fits, word-below}
 use Rattle.follow_table.specs.Table.{tableSize, rowOf, factsIn, countIn}
-use Rattle.follow_table.proofs.Walks.{Walks, turn-of, count-room, walks-begin, walks-on, walks-done}
+use Rattle.follow_table.proofs.Walks.{Walks, count-room, walks-begin, walks-on, walks-done}
 use Rattle.follow_table.proofs.gather_facts.Statement.{statement}
 use Rattle.follow_table.proofs.gather_facts.Tie as tie
 
@@ -20,19 +20,19 @@ abbrev μ-loop : tie.MeasureT-loop
 more : (c : tie.In-loop Inv-loop μ-loop) → 0 < c .before .loop .left
 more c = omega (arith, c .loop-test .taken)
 
--- the block at which the walk stands, as parent 0 meets it
-turned : (c : tie.In-loop Inv-loop μ-loop) →
-    Turn (c .before .before .before .args .bytes .now) 0 (factsIn (rowOf (c .before .loop .table) 0)) (countIn (rowOf (c .before .loop .table) 0)) (c .before .loop .at) (c .before .loop .left)
-turned c = turn-of _ _ _ _ _ (c .before .loop .inv .1 0 (omega arith)) (more c)
+-- the walk, as parent 0 meets it
+walk : (c : tie.In-loop Inv-loop μ-loop) →
+    Walk (c .before .before .before .args .bytes .now) 0 (factsIn (rowOf (c .before .loop .table) 0)) (countIn (rowOf (c .before .loop .table) 0)) (c .before .loop .at) (c .before .loop .left)
+walk c = c .before .loop .inv .1 0 (omega arith) .walk
 
 loop-holds : tie.Need-loop-holds Inv-loop μ-loop
 loop-holds c = (length-replicate {A = ℕ} tableSize 0, walks-begin _ _ tableSize refl (c .before .pre))
 
 block-at-place-requires : tie.Need-block-at-place-requires Inv-loop μ-loop
-block-at-place-requires c κs = turned c .fits
+block-at-place-requires c κs = turn _ _ _ _ _ _ (walk c) (more c) .fits
 
 part-requires : tie.Need-part-requires Inv-loop μ-loop
-part-requires c κs = part-fits _ _ _ _ _ _ (turned (c .before)) _ (c .block-at-place .ensures)
+part-requires c κs = part-fits _ _ _ _ _ _ (walk (c .before)) (more (c .before)) _ (c .block-at-place .ensures)
 
 slice-aggregate-add-to-table : tie.Need-slice-aggregate-add-to-table Inv-loop μ-loop
 slice-aggregate-add-to-table c = search needs
@@ -41,13 +41,13 @@ add-to-table-requires : tie.Need-add-to-table-requires Inv-loop μ-loop
 add-to-table-requires c κs =
     let b = c .before .before in
     let inv = b .before .before .loop .inv in
-    let t = turned (b .before) in
+    let i = b .before in
     let found = b .block-at-place .ensures in
-    let named = parent-named _ _ _ _ _ _ t _ found in (
+    let named = parent-named _ _ _ _ _ _ (walk i) (more i) _ found in (
       inv .0,
       omega (arith, named),
-      word-below _ _ _ _ _ _ t _ found _ (c .before .part .ensures),
-      count-room _ _ _ _ _ (inv .1) (omega (arith, named)) (omega (arith, t .fits .head, b .before .before .before .before .good)),
+      word-below _ _ _ _ _ _ (walk i) (more i) _ found _ (c .before .part .ensures),
+      count-room _ _ _ _ _ (inv .1) (omega (arith, named)) (omega (arith, turn _ _ _ _ _ _ (walk i) (more i) .fits .head, i .before .before .before .good)),
     )
 
 sub-left : tie.Need-sub-left Inv-loop μ-loop
