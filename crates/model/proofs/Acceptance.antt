@@ -3,22 +3,23 @@
 -- Assumes nothing.
 use Prim.Native.Nat.{ℕ, zero, suc, _+_, _-_, _≤_, _<_}
 use mathlib.Core.Path.{_≡_, refl, sym, _∙_, ap}
-use mathlib.Core.Bool.{Bool, true, false, false≢true}
+use mathlib.Core.Bool.{Bool, true, false, _&&_, and-false, false≢true}
 use mathlib.Core.List.{List, [], _∷_, _++_}
 use mathlib.Core.Logic.{_⊎_, inl, inr, _↔_}
 use native.Mathlib.Omega.{arith}
 use native.Mathlib.Numerals.{add-one}
-use borrow.Author.Tests.{eqb-true, eq-eqb, ne-eqb}
-use lib.Dec.{eqb}
+use native.Mathlib.Decide.{decLt}
+use borrow.Author.Tests.{eqb-true, eq-eqb, ne-eqb, lt-ltb, le-ltb}
+use lib.Dec.{eqb, ltb}
 use Rattle.model.specs.declared.Model.{Model}
 use Rattle.model.specs.declared.Turn.{Turn}
 use Rattle.model.specs.declared.Turn.the-variants.{Take, Leave, Refuse}
 use Rattle.model.specs.declared.Moved.the-variants.{To}
 use Rattle.model.specs.Record.{factorOf, modeOf}
 use Rattle.model.specs.Accept.{Many, Part, Joined, none, part, Accepts}
-use Rattle.model.specs.Run.{either, turnOf, state, after, ifLeft, move, run, mayEnd, accepts}
+use Rattle.model.specs.Run.{either, turnOf, state, after, goesTo, move, run, mayEnd, accepts}
 use Rattle.model.proofs.Tests.{never}
-use Rattle.model.proofs.Turns.{step-turn, step-past, end-turn, end-past}
+use Rattle.model.proofs.Turns.{leave≢take, refuse≢take, take≢leave, refuse≢leave, goes-turn, goes-past}
 use Rattle.model.proofs.Words.{run-nowhere}
 
 -- From factor i, of which a name was taken or not, the word w leads to the end.
@@ -34,51 +35,77 @@ turn-leave : (f : ℕ) (t h : Bool) → turnOf f t h ≡ Leave → turnOf f t fa
 unfolding turnOf either
 turn-leave f t false e = e
 turn-leave zero true true e = e
-turn-leave zero false true e = absurd (never (cc))
+turn-leave zero false true e = absurd (take≢leave e)
 turn-leave (suc zero) true true e = e
-turn-leave (suc zero) false true e = absurd (never (cc))
-turn-leave (suc (suc zero)) t true e = absurd (never (cc))
+turn-leave (suc zero) false true e = absurd (take≢leave e)
+turn-leave (suc (suc zero)) t true e = absurd (take≢leave e)
 turn-leave (suc (suc (suc zero))) t true e = refl
 turn-leave (suc (suc (suc (suc f)))) t true e = e
 
 -- A factor takes names of its own only.
 turn-take : (f : ℕ) (t : Bool) → turnOf f t false ≡ Take → ⊥
 unfolding turnOf either
-turn-take zero true e = never (cc)
-turn-take zero false e = never (cc)
-turn-take (suc zero) true e = never (cc)
-turn-take (suc zero) false e = never (cc)
-turn-take (suc (suc zero)) true e = never (cc)
-turn-take (suc (suc zero)) false e = never (cc)
-turn-take (suc (suc (suc zero))) t e = never (cc)
-turn-take (suc (suc (suc (suc f)))) t e = never (cc)
+turn-take zero true e = leave≢take e
+turn-take zero false e = refuse≢take e
+turn-take (suc zero) true e = leave≢take e
+turn-take (suc zero) false e = leave≢take e
+turn-take (suc (suc zero)) true e = leave≢take e
+turn-take (suc (suc zero)) false e = refuse≢take e
+turn-take (suc (suc (suc zero))) t e = leave≢take e
+turn-take (suc (suc (suc (suc f)))) t e = refuse≢take e
 
 -- ---- the test and the turns
 
 -- Whether w leads to the end from factor i, by the test.
-abbrev Goes : Model → ℕ → Bool → List ℕ → Bool
+abbrev pub Goes : Model → ℕ → Bool → List ℕ → Bool
 Goes m i t w = mayEnd m (run m (To (state i t)) w)
 
+-- The factor behind the last one holds no name.
+no-name-behind : (own count i : ℕ) → i ≡ count → (ltb own count && eqb own i) ≡ false
+no-name-behind own count i e = go (decLt own count)
+  where
+    go : Dec (own < count) → (ltb own count && eqb own i) ≡ false
+    go (yes l) = rw (lt-ltb own count l) (ne-eqb own i (λ q. omega arith))
+    go (no l) = rw (le-ltb own count (omega arith))
+
 module _ (m : Model) (i : ℕ) (t : Bool) where
-  goes-end : (u : Turn) → i < m .count → turnOf (modeOf m i) t false ≡ u → Goes m i t [] ≡ ifLeft u (Goes m (suc i) false [])
+  -- At the end of the word it is factor i's turn with no name of its own.
+  pub goes-end : (u : Turn) → i < m .count → turnOf (modeOf m i) t false ≡ u → Goes m i t [] ≡ after u true (Goes m (suc i) false [])
   unfolding run mayEnd modeOf
-  goes-end u l e = rw (← add-one i) (end-turn (m .mode) (m .count) i t l refl refl e)
+  goes-end u l e = rw (← add-one i) (goes-turn (m .mode) (m .count) i t (m .count) l refl refl (rw (ne-eqb (m .count) i (λ q. omega arith)) e))
 
-  goes-name : (x : ℕ) (w : List ℕ) (u : Turn) → i < m .count → turnOf (modeOf m i) t (eqb (factorOf m x) i) ≡ u
-      → Goes m i t (x ∷ w) ≡ mayEnd m (run m (after u i (move m (To (state (suc i) false)) x)) w)
-  unfolding run move modeOf
-  goes-name x w u l e = rw (← add-one i, step-turn (m .mode) (m .count) i t l refl (factorOf m x) refl e)
+  onward : (x : ℕ) (u : Turn) → i < m .count → turnOf (modeOf m i) t (eqb (factorOf m x) i) ≡ u
+      → goesTo (m .count) (m .mode) (factorOf m x) (state i t) ≡ after u true (goesTo (m .count) (m .mode) (factorOf m x) (state (suc i) false))
+  unfolding modeOf
+  onward x u l e = rw (← add-one i) (goes-turn (m .mode) (m .count) i t (factorOf m x) l refl refl e)
 
-  past-end : i ≡ m .count → Goes m i t [] ≡ true
+  -- At a name x it is factor i's turn: it takes x and the rest leads on from there, it is left and x comes to the next
+  -- factor, or the word is not accepted.
+  pub goes-name : (x : ℕ) (w : List ℕ) (u : Turn) → i < m .count → turnOf (modeOf m i) t (eqb (factorOf m x) i) ≡ u
+      → Goes m i t (x ∷ w) ≡ after u (Goes m i true w) (Goes m (suc i) false (x ∷ w))
+  unfolding run move after mayEnd
+  goes-name x w Take l e = go (eqb (factorOf m x) i) refl
+    where
+      go : (h : Bool) → eqb (factorOf m x) i ≡ h → Goes m i t (x ∷ w) ≡ Goes m i true w
+      go true q =
+          let p : factorOf m x ≡ i = eqb-true (factorOf m x) i q in
+          rw (onward x Take l e, lt-ltb (factorOf m x) (m .count) (rw p l), p)
+      go false q = absurd (turn-take (modeOf m i) t (rw q at e))
+  goes-name x w Leave l e = rw (onward x Leave l e)
+  goes-name x w Refuse l e = rw (onward x Refuse l e, and-false (ltb (factorOf m x) (m .count)), run-nowhere m w)
+
+  -- Behind the last factor the word may end.
+  pub past-end : i ≡ m .count → Goes m i t [] ≡ true
   unfolding run mayEnd
-  past-end e = end-past (m .mode) (m .count) i t (omega arith)
+  past-end e = goes-past (m .mode) (m .count) i t (m .count) (omega arith) ∙ eq-eqb (m .count) i (sym e)
 
-  past-name : (x : ℕ) (w : List ℕ) → i ≡ m .count → Goes m i t (x ∷ w) ≡ false
+  -- Behind the last factor no name is accepted.
+  pub past-name : (x : ℕ) (w : List ℕ) → i ≡ m .count → Goes m i t (x ∷ w) ≡ false
   unfolding run move mayEnd
-  past-name x w e = rw (step-past (m .mode) (m .count) i t (omega arith) (factorOf m x), run-nowhere m w)
+  past-name x w e = rw (goes-past (m .mode) (m .count) i t (factorOf m x) (omega arith), no-name-behind (factorOf m x) (m .count) i e, run-nowhere m w)
 
 found : (m : Model) (w : List ℕ) (left i : ℕ) (t : Bool) → i + left ≡ m .count → Goes m i t w ≡ true → Run m i t w
-unfolding run mayEnd after ifLeft
+unfolding run mayEnd after
 found m [] zero i t n e = let z : i ≡ m .count = omega arith in done z refl
 found m (x ∷ w) zero i t n e = absurd (false≢true (sym (past-name m i t x w (omega arith)) ∙ e))
 found m [] (suc left) i t n e = go (turnOf (modeOf m i) t false) refl (λ g. found m [] left (suc i) false (omega arith) g)
@@ -102,7 +129,7 @@ found m (x ∷ w) (suc left) i t n e =
     go true q Take p f g = take l (eqb-true (factorOf m x) i q) (rw q at p) (f (sym (goes-name m i t x w Take l p) ∙ e))
     go false q Take p f g = absurd (turn-take (modeOf m i) t (rw q at p))
     go h q Leave p f g = leave l (turn-leave (modeOf m i) t (eqb (factorOf m x) i) p) (g (sym (goes-name m i t x w Leave l p) ∙ e))
-    go h q Refuse p f g = absurd (false≢true (sym (goes-name m i t x w Refuse l p ∙ ap (mayEnd m) (run-nowhere m w)) ∙ e))
+    go h q Refuse p f g = absurd (false≢true (sym (goes-name m i t x w Refuse l p) ∙ e))
 
 -- The first name of a run is in the factor where the run stands, or in a later one.
 ahead : {m : Model} {i x : ℕ} {t : Bool} {w : List ℕ} → Run m i t (x ∷ w) → i ≤ factorOf m x
@@ -111,7 +138,7 @@ ahead (leave l e r) = omega (arith, ahead r)
 ahead (take l e f r) = omega arith
 
 tested : {m : Model} {i : ℕ} {t : Bool} {w : List ℕ} → Run m i t w → Goes m i t w ≡ true
-unfolding run after ifLeft
+unfolding run after
 tested {m} {i} {t} (done e f) = rw f (past-end m i t e)
 tested {m} {i} {t} {w} (leave l e r) = go w r (tested r)
   where
@@ -134,27 +161,27 @@ Left (suc (suc (suc (suc f)))) true m i u = ⊥
 left-none : (f : ℕ) (t : Bool) (m : Model) (i : ℕ) → turnOf f t false ≡ Leave → Left f t m i []
 unfolding turnOf either
 left-none zero true m i e = refl
-left-none zero false m i e = absurd (never (cc))
+left-none zero false m i e = absurd (refuse≢leave e)
 left-none (suc zero) true m i e = refl
 left-none (suc zero) false m i e = inl refl
 left-none (suc (suc zero)) true m i e = tt
-left-none (suc (suc zero)) false m i e = absurd (never (cc))
+left-none (suc (suc zero)) false m i e = absurd (refuse≢leave e)
 left-none (suc (suc (suc zero))) true m i e = tt
 left-none (suc (suc (suc zero))) false m i e = tt
-left-none (suc (suc (suc (suc f)))) true m i e = never (cc)
-left-none (suc (suc (suc (suc f)))) false m i e = never (cc)
+left-none (suc (suc (suc (suc f)))) true m i e = refuse≢leave e
+left-none (suc (suc (suc (suc f)))) false m i e = refuse≢leave e
 
 left-some : (f : ℕ) (t : Bool) (m : Model) (i x : ℕ) (u : List ℕ) → turnOf f t true ≡ Take → factorOf m x ≡ i → Left f true m i u → Left f t m i (x ∷ u)
 unfolding turnOf either
-left-some zero true m i x u e h k = absurd (never (cc))
+left-some zero true m i x u e h k = absurd (leave≢take e)
 left-some zero false m i x u e h k = (x, ap (λ (v : List ℕ). x ∷ v) k, h)
-left-some (suc zero) true m i x u e h k = absurd (never (cc))
+left-some (suc zero) true m i x u e h k = absurd (leave≢take e)
 left-some (suc zero) false m i x u e h k = inr (x, ap (λ (v : List ℕ). x ∷ v) k, h)
 left-some (suc (suc zero)) true m i x u e h k = (h, k)
 left-some (suc (suc zero)) false m i x u e h k = ((h, k), λ p. never (cc))
 left-some (suc (suc (suc zero))) true m i x u e h k = (h, k)
 left-some (suc (suc (suc zero))) false m i x u e h k = (h, k)
-left-some (suc (suc (suc (suc f)))) t m i x u e h k = absurd (never (cc))
+left-some (suc (suc (suc (suc f)))) t m i x u e h k = absurd (refuse≢take e)
 
 -- And the other way round: nothing, or a name and what may follow it.
 abbrev View : ℕ → Bool → Model → ℕ → List ℕ → Type 0

@@ -1,4 +1,4 @@
--- Steps and ends, one factor at a time.
+-- Where a run goes, one factor at a time.
 -- Assumes nothing.
 use Prim.Native.Nat.{ℕ, suc, _+_, _-_, _≤_, _<_}
 use mathlib.Core.Path.{_≡_}
@@ -8,27 +8,34 @@ use native.Mathlib.Omega.{arith}
 use lib.Dec.{eqb}
 use lib.ListN.{getD}
 use Rattle.model.specs.declared.Turn.{Turn}
-use Rattle.model.specs.declared.Moved.the-variants.{Nowhere}
-use Rattle.model.specs.Run.{turnOf, state, after, stepFrom, ifLeft, endFrom}
+use Rattle.model.specs.declared.Turn.the-variants.{Take, Leave, Refuse}
+use Rattle.model.specs.Run.{turnOf, state, after, goesFrom, goesTo}
+use Rattle.model.proofs.Tests.{never}
 
--- The state stands in factor i < count, and f is that factor's mode.
-module _ (modes : List ℕ) (count i : ℕ) (t : Bool) {f : ℕ} (l : i < count) (e : f ≡ getD modes i 0) where
-  pub step-turn : (own : ℕ) {r u : Turn} → r ≡ turnOf f t (eqb own i) → r ≡ u
-      → stepFrom modes own (count - i) (state i t) ≡ after u i (stepFrom modes own (count - (i + 1)) (state (i + 1) false))
-  unfolding stepFrom
-  step-turn own g h = let n : count - i ≡ suc (count - (i + 1)) = omega arith in rw (n, ← e, ← g, h)
+-- ---- two turns are not equal
 
-  pub end-turn : {r u : Turn} → r ≡ turnOf f t false → r ≡ u
-      → endFrom modes (count - i) (state i t) ≡ ifLeft u (endFrom modes (count - (i + 1)) (state (i + 1) false))
-  unfolding endFrom
-  end-turn g h = let n : count - i ≡ suc (count - (i + 1)) = omega arith in rw (n, ← e, ← g, h)
+pub leave≢take : Leave ≡ Take → ⊥
+leave≢take e = never (cc)
 
--- The state stands behind the last factor.
-module _ (modes : List ℕ) (count i : ℕ) (t : Bool) (l : count ≤ i) where
-  pub step-past : (own : ℕ) → stepFrom modes own (count - i) (state i t) ≡ Nowhere
-  unfolding stepFrom
-  step-past own = let n : count - i ≡ 0 = omega arith in rw n
+pub refuse≢take : Refuse ≡ Take → ⊥
+refuse≢take e = never (cc)
 
-  pub end-past : endFrom modes (count - i) (state i t) ≡ true
-  unfolding endFrom
-  end-past = let n : count - i ≡ 0 = omega arith in rw n
+pub take≢leave : Take ≡ Leave → ⊥
+take≢leave e = never (cc)
+
+pub refuse≢leave : Refuse ≡ Leave → ⊥
+refuse≢leave e = never (cc)
+
+-- ---- one turn
+
+module _ (modes : List ℕ) (count i : ℕ) (t : Bool) (own : ℕ) where
+  -- The state stands in factor i < count, f is that factor's mode, and u its turn.
+  pub goes-turn : {f : ℕ} {r u : Turn} → i < count → f ≡ getD modes i 0 → r ≡ turnOf f t (eqb own i) → r ≡ u
+      → goesTo count modes own (state i t) ≡ after u true (goesTo count modes own (state (i + 1) false))
+  unfolding goesTo goesFrom
+  goes-turn l e g h = let n : count - i ≡ suc (count - (i + 1)) = omega arith in rw (n, ← e, ← g, h)
+
+  -- The state stands behind the last factor.
+  pub goes-past : count ≤ i → goesTo count modes own (state i t) ≡ eqb own i
+  unfolding goesTo goesFrom
+  goes-past l = let n : count - i ≡ 0 = omega arith in rw n

@@ -2,9 +2,9 @@
 -- state is the factor that the word is in, and whether a name of it was taken; it does not depend on the word's length.
 -- Assumes nothing.
 use Prim.Native.Nat.{ℕ, zero, suc, _+_, _-_}
-use mathlib.Core.Bool.{Bool, true, false}
+use mathlib.Core.Bool.{Bool, true, false, cond, _&&_}
 use mathlib.Core.List.{List, [], _∷_}
-use lib.Dec.{eqb}
+use lib.Dec.{eqb, ltb}
 use lib.ListN.{getD}
 use Rattle.model.specs.declared.Model.{Model}
 use Rattle.model.specs.declared.State.{State}
@@ -32,32 +32,26 @@ turnOf (suc (suc (suc (suc f)))) taken here = Refuse
 abbrev pub state : ℕ → Bool → State
 state i taken = record { factor = i; taken = taken }
 
--- Where factor i's turn leads, if `onward` is what the next factor does.
-unfoldable pub after : Turn → ℕ → Moved → Moved
-after Take i onward = To (state i true)
-after Leave i onward = onward
-after Refuse i onward = Nowhere
+-- What follows from a factor's turn: one answer if it takes the name, another if it is left, no if it refuses.
+unfoldable pub after : Turn → Bool → Bool → Bool
+after Take there onward = there
+after Leave there onward = onward
+after Refuse there onward = false
 
--- The state after a name of factor `own`. The state s has `left` factors from its own on.
-unfoldable pub stepFrom : List ℕ → ℕ → ℕ → State → Moved
-stepFrom modes own zero s = Nowhere
-stepFrom modes own (suc left) s =
-    after (turnOf (getD modes (s .factor) 0) (s .taken) (eqb own (s .factor))) (s .factor) (stepFrom modes own left (state (s .factor + 1) false))
+-- Whether a run goes on from the state s to factor `own`: the factors before that one are left, and it takes a name.
+-- The state has `left` factors from its own on; the number behind the last factor is that of the word's end.
+unfoldable pub goesFrom : List ℕ → ℕ → ℕ → State → Bool
+goesFrom modes own zero s = eqb own (s .factor)
+goesFrom modes own (suc left) s =
+    after (turnOf (getD modes (s .factor) 0) (s .taken) (eqb own (s .factor))) true (goesFrom modes own left (state (s .factor + 1) false))
 
--- If the factor is left then b, else no.
-unfoldable pub ifLeft : Turn → Bool → Bool
-ifLeft Take b = false
-ifLeft Leave b = b
-ifLeft Refuse b = false
+-- The same, with the number of all factors.
+unfoldable pub goesTo : ℕ → List ℕ → ℕ → State → Bool
+goesTo count modes own s = goesFrom modes own (count - s .factor) s
 
--- Whether the word may end: each of the `left` factors from the state's own on can be left.
-unfoldable pub endFrom : List ℕ → ℕ → State → Bool
-endFrom modes zero s = true
-endFrom modes (suc left) s = ifLeft (turnOf (getD modes (s .factor) 0) (s .taken) false) (endFrom modes left (state (s .factor + 1) false))
-
--- One more name x.
+-- One more name x: to the factor that holds it, if the record has that factor and the run goes there.
 unfoldable pub move : Model → Moved → ℕ → Moved
-move m (To s) x = stepFrom (m .mode) (factorOf m x) (m .count - s .factor) s
+move m (To s) x = cond (ltb (factorOf m x) (m .count) && goesTo (m .count) (m .mode) (factorOf m x) s) (To (state (factorOf m x) true)) Nowhere
 move m Nowhere x = Nowhere
 
 -- All names of w.
@@ -67,7 +61,7 @@ run m s (x ∷ w) = run m (move m s x) w
 
 -- Whether the word may end there.
 unfoldable pub mayEnd : Model → Moved → Bool
-mayEnd m (To s) = endFrom (m .mode) (m .count - s .factor) s
+mayEnd m (To s) = goesTo (m .count) (m .mode) (m .count) s
 mayEnd m Nowhere = false
 
 -- m accepts the word w: it starts before factor 0's names.

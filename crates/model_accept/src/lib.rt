@@ -1,7 +1,10 @@
 // Which words a model record accepts, by a run through the word from left to right.
-ghost use Prim.Native.Nat.{_-_};
+ghost use Prim.Native.Nat.{ℕ};
 ghost use mathlib.Core.Path.{_≡_};
-ghost use Rattle.model.specs.Run.{turnOf, stepFrom, endFrom, accepts};
+ghost use mathlib.Core.List.{List};
+ghost use Rattle.model.specs.declared.Moved.the-variants.{To};
+ghost use Rattle.model.specs.Record.{ofRows};
+ghost use Rattle.model.specs.Run.{turnOf, goesTo, move, mayEnd, accepts};
 use model::Model;
 use model::Moved;
 use model::NONE;
@@ -41,66 +44,65 @@ pub fn next_turn(mode: u8, taken: bool, here: bool) -> Turn
     }
 }
 
-// The state after a name of the factor `own`: factors are left until one takes it.
-pub fn step(count: usize, mode: &[u8], own: u8, from: State) -> Moved
-    ensures { λ r. ⌜ r ≡ stepFrom (now (mode .entry)) own (count - from .factor) from ⌝ }
+// Whether a run goes on from a state to the factor `own`: factors are left until one takes the name or refuses. At the
+// end of a word no factor has the name, and `own` is the number behind the last one, `count`.
+fn goes_to(count: usize, mode: &[u8], own: usize, from: State) -> bool
+    ensures { λ r. ⌜ r ≡ goesTo count (now (mode .entry)) own from ⌝ }
 {
     let mut factor = from.factor;
     let mut taken = from.taken;
     while factor < count {
-        match next_turn(entry(mode, factor, 0), taken, own as usize == factor) {
+        match next_turn(entry(mode, factor, 0), taken, own == factor) {
             Turn::Take => {
-                return Moved::To(State {
-                    factor,
-                    taken: true,
-                });
+                return true;
             }
             Turn::Refuse => {
-                return Moved::Nowhere;
+                return false;
             }
             Turn::Leave => {}
         }
         factor += 1;
         taken = false;
     }
-    Moved::Nowhere
+    own == factor
+}
+
+// The state after the name x: the factor that holds it has taken a name.
+pub fn step(count: usize, factor: &[u8], mode: &[u8], x: u8, from: State) -> Moved
+    ensures { λ r. ⌜ r ≡ move (ofRows count (now (factor .entry)) (now (mode .entry))) (To from) x ⌝ }
+{
+    let own = entry(factor, x as usize, NONE) as usize;
+    if count <= own {
+        return Moved::Nowhere;
+    }
+    if goes_to(count, mode, own, from) {
+        Moved::To(State {
+            factor: own,
+            taken: true,
+        })
+    } else {
+        Moved::Nowhere
+    }
 }
 
 // Whether a word may end at a state: all factors from there on can be left.
 pub fn may_end(count: usize, mode: &[u8], from: State) -> bool
-    ensures { λ r. ⌜ r ≡ endFrom (now (mode .entry)) (count - from .factor) from ⌝ }
+    ensures { λ r. ⌜ ((factors : List ℕ) → r ≡ mayEnd (ofRows count factors (now (mode .entry))) (To from)) ⌝ }
 {
-    let mut factor = from.factor;
-    let mut taken = from.taken;
-    while factor < count {
-        match next_turn(entry(mode, factor, 0), taken, false) {
-            Turn::Take => {
-                return false;
-            }
-            Turn::Refuse => {
-                return false;
-            }
-            Turn::Leave => {}
-        }
-        factor += 1;
-        taken = false;
-    }
-    true
+    goes_to(count, mode, count, from)
 }
 
-// Whether the record accepts the word: from left to right, one step for each name.
-pub fn accepted(m: Model, word: &[u8]) -> bool
-    ensures { λ r. ⌜ r ≡ accepts m (now (word .entry)) ⌝ }
+// Whether the record of these rows accepts the word: from left to right, one step for each name.
+pub fn rows_accept<'a>(count: usize, factor: &'a [u8], mode: &'a [u8], word: &[u8]) -> bool
+    ensures { λ r. ⌜ r ≡ accepts (ofRows count (now (factor .entry)) (now (mode .entry))) (now (word .entry)) ⌝ }
 {
-    let count = m.count;
     let mut state = State {
         factor: 0,
         taken: false,
     };
     let mut i = 0;
     while i < word.len() {
-        let own = entry(&m.factor, word[i] as usize, NONE);
-        match step(count, &m.mode, own, state) {
+        match step(count, factor, mode, word[i], state) {
             Moved::To(next) => {
                 state = next;
             }
@@ -110,5 +112,12 @@ pub fn accepted(m: Model, word: &[u8]) -> bool
         }
         i += 1;
     }
-    may_end(count, &m.mode, state)
+    may_end(count, mode, state)
+}
+
+// Whether the record accepts the word.
+pub fn accepted(m: Model, word: &[u8]) -> bool
+    ensures { λ r. ⌜ r ≡ accepts m (now (word .entry)) ⌝ }
+{
+    rows_accept(m.count, &m.factor, &m.mode, word)
 }

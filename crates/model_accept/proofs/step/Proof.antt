@@ -1,88 +1,60 @@
--- `acceptance::step` meets its contract. The loop keeps what the state leads to.
+-- `model_accept::step` meets its contract.
 -- Assumes nothing.
-use Prim.Native.Nat.{_-_}
-use mathlib.Core.Path.{_≡_, refl, sym, _∙_}
+use Prim.Native.Nat.{ℕ, _≤_, _<_}
+use mathlib.Core.Path.{_≡_}
+use mathlib.Core.Bool.{Bool, true, false}
+use mathlib.Core.List.{List}
 use borrow.Author.Needs.{needs}
-use Rattle.model.specs.Run.{state, after, stepFrom}
-use Rattle.model.proofs.Turns.{step-turn, step-past}
+use borrow.Author.Tests.{lt-ltb, le-ltb}
+use lib.ListN.{getD}
+use Rattle.model.specs.declared.State.{State}
+use Rattle.model.specs.declared.Moved.the-variants.{To, Nowhere}
+use Rattle.model.specs.Record.{none, ofRows, factorOf}
+use Rattle.model.specs.Run.{state, goesTo, move}
 use Rattle.model_accept.proofs.step.Statement.{statement}
 use Rattle.model_accept.proofs.step.Tie as tie
 
-abbrev Inv-loop : tie.InvT-loop
-Inv-loop count mode own factor₀ taken₀ factor taken = stepFrom mode own (count - factor) (state factor taken) ≡ stepFrom mode own (count - factor₀) (state factor₀ taken₀)
+-- `own` is the factor of the name x.
+module _ (count : ℕ) (factors modes : List ℕ) (x : ℕ) (s : State) {own : ℕ} (e : own ≡ getD factors x none) where
+  no-factor : count ≤ own → Nowhere ≡ move (ofRows count factors modes) (To s) x
+  unfolding move factorOf
+  no-factor l = rw (← e, le-ltb own count l)
 
-abbrev μ-loop : tie.MeasureT-loop
-μ-loop count mode own factor₀ taken₀ factor taken = count - factor
+  module _ (l : own < count) {r : Bool} (g : r ≡ goesTo count modes own s) where
+    there : r ≡ true → To (state own true) ≡ move (ofRows count factors modes) (To s) x
+    unfolding move factorOf
+    there h = rw (← e, lt-ltb own count l, ← g, h)
 
-loop-holds : tie.Need-loop-holds Inv-loop μ-loop
-loop-holds c = refl
+    not-there : r ≡ false → Nowhere ≡ move (ofRows count factors modes) (To s) x
+    unfolding move factorOf
+    not-there h = rw (← e, lt-ltb own count l, ← g, h)
 
-entry-requires : tie.Need-entry-requires Inv-loop μ-loop
+entry-requires : tie.Need-entry-requires
 entry-requires c κs = search needs
 
-next-turn-requires : tie.Need-next-turn-requires Inv-loop μ-loop
-next-turn-requires c κs = search needs
+cast-own : tie.Need-cast-own
+cast-own c = search needs
 
-enum-told : tie.Need-enum-told Inv-loop μ-loop
-enum-told c = search needs
-
-returns : tie.Need-returns Inv-loop μ-loop
-unfolding after
+returns : tie.Need-returns
 returns c =
-    let t = c .before .before .before .before in
-    let l = t .before .loop in
-    let a = t .before .before .before .args in
-    sym (sym (l .inv) ∙ step-turn (a .mode .now) (a .count) (l .factor) (l .taken) (t .loop-test .taken) (c .before .before .before .entry .ensures) (a .own) (c .before .before .next-turn .ensures) (c .enum-told .given .1))
+    let e = c .before in
+    let a = e .before .before .before .args in
+    no-factor (a .count) (a .factor .now) (a .mode .now) (a .x) (a .from) (e .entry .ensures) (c .if1 .taken)
 
-enum-told-2 : tie.Need-enum-told-2 Inv-loop μ-loop
-enum-told-2 c = search needs
+goes-to-requires : tie.Need-goes-to-requires
+goes-to-requires c κs = search needs
 
-returns-2 : tie.Need-returns-2 Inv-loop μ-loop
-unfolding after
+returns-2 : tie.Need-returns-2
 returns-2 c =
-    let t = c .before .before .before .before in
-    let l = t .before .loop in
-    let a = t .before .before .before .args in
-    sym (sym (l .inv) ∙ step-turn (a .mode .now) (a .count) (l .factor) (l .taken) (t .loop-test .taken) (c .before .before .before .entry .ensures) (a .own) (c .before .before .next-turn .ensures) (c .enum-told2 .given .1))
+    let o = c .before .before in
+    let a = o .before .before .before .before .args in
+    there (a .count) (a .factor .now) (a .mode .now) (a .x) (a .from) (o .before .entry .ensures) (o .if1 .left) (c .before .goes-to .ensures) (c .if2 .taken)
 
-enum-told-3 : tie.Need-enum-told-3 Inv-loop μ-loop
-enum-told-3 c = search needs
-
-add-factor : tie.Need-add-factor Inv-loop μ-loop
-add-factor c = search needs
-
-loop-less : tie.Need-loop-less Inv-loop μ-loop
-loop-less c = search needs
-
-loop-again : tie.Need-loop-again Inv-loop μ-loop
-unfolding after
-loop-again c =
-    let t = c .before .before .before .before in
-    let l = t .before .loop in
-    let a = t .before .before .before .args in
-    sym (step-turn (a .mode .now) (a .count) (l .factor) (l .taken) (t .loop-test .taken) (c .before .before .before .entry .ensures) (a .own) (c .before .before .next-turn .ensures) (c .enum-told3 .given .1)) ∙ l .inv
-
-returns-3 : tie.Need-returns-3 Inv-loop μ-loop
+returns-3 : tie.Need-returns-3
 returns-3 c =
-    let a = c .before .before .before .args in
-    let l = c .before .loop in
-    sym (sym (l .inv) ∙ step-past (a .mode .now) (a .count) (l .factor) (l .taken) (c .loop-test .left) (a .own))
+    let o = c .before .before in
+    let a = o .before .before .before .before .args in
+    not-there (a .count) (a .factor .now) (a .mode .now) (a .x) (a .from) (o .before .entry .ensures) (o .if1 .left) (c .before .goes-to .ensures) (c .if2 .left)
 
 pub step-spec : {M : Type 1} → statement M
-step-spec =
-    tie.close
-    (tie.spec
-    Inv-loop
-    μ-loop
-    loop-holds
-    entry-requires
-    next-turn-requires
-    enum-told
-    returns
-    enum-told-2
-    returns-2
-    enum-told-3
-    add-factor
-    loop-less
-    loop-again
-    returns-3)
+step-spec = tie.close (tie.spec entry-requires cast-own returns goes-to-requires returns-2 returns-3)

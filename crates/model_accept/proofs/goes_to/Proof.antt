@@ -1,0 +1,89 @@
+-- `model_accept::goes_to` meets its contract. The loop keeps whether the run goes there.
+-- Assumes nothing.
+use Prim.Native.Nat.{_+_, _-_}
+use mathlib.Core.Path.{_≡_, refl, sym, _∙_}
+use mathlib.Core.Bool.{true, false}
+use borrow.Author.Needs.{needs}
+use Rattle.model.specs.declared.Turn.{Turn}
+use Rattle.model.specs.Run.{state, after, goesTo}
+use Rattle.model.proofs.Turns.{goes-turn, goes-past}
+use Rattle.model_accept.proofs.goes_to.Statement.{statement}
+use Rattle.model_accept.proofs.goes_to.Tie as tie
+
+abbrev Inv-loop : tie.InvT-loop
+Inv-loop count mode own factor₀ taken₀ factor taken = goesTo count mode own (state factor taken) ≡ goesTo count mode own (state factor₀ taken₀)
+
+abbrev μ-loop : tie.MeasureT-loop
+μ-loop count mode own factor₀ taken₀ factor taken = count - factor
+
+loop-holds : tie.Need-loop-holds Inv-loop μ-loop
+loop-holds c = refl
+
+entry-requires : tie.Need-entry-requires Inv-loop μ-loop
+entry-requires c κs = search needs
+
+next-turn-requires : tie.Need-next-turn-requires Inv-loop μ-loop
+next-turn-requires c κs = search needs
+
+-- What follows from the turn u of the factor that the loop has come to.
+turned : (c : tie.After-next-turn Inv-loop μ-loop) → {u : Turn} → c .next-turn .result ≡ u →
+    let l = c .before .before .before in
+    let a = l .before .before .args in
+    after u true (goesTo (a .count) (a .mode .now) (a .own) (state (l .loop .factor + 1) false)) ≡ goesTo (a .count) (a .mode .now) (a .own) (a .from)
+turned c e =
+    let t = c .before .before in
+    let l = t .before .loop in
+    let a = t .before .before .before .args in
+    sym (goes-turn (a .mode .now) (a .count) (l .factor) (l .taken) (a .own) (t .loop-test .taken) (c .before .entry .ensures) (c .next-turn .ensures) e) ∙ l .inv
+
+enum-told : tie.Need-enum-told Inv-loop μ-loop
+enum-told c = search needs
+
+returns : tie.Need-returns Inv-loop μ-loop
+unfolding after
+returns c = turned (c .before .before) (c .enum-told .given .1)
+
+enum-told-2 : tie.Need-enum-told-2 Inv-loop μ-loop
+enum-told-2 c = search needs
+
+returns-2 : tie.Need-returns-2 Inv-loop μ-loop
+unfolding after
+returns-2 c = turned (c .before .before) (c .enum-told2 .given .1)
+
+enum-told-3 : tie.Need-enum-told-3 Inv-loop μ-loop
+enum-told-3 c = search needs
+
+add-factor : tie.Need-add-factor Inv-loop μ-loop
+add-factor c = search needs
+
+loop-less : tie.Need-loop-less Inv-loop μ-loop
+loop-less c = search needs
+
+loop-again : tie.Need-loop-again Inv-loop μ-loop
+unfolding after
+loop-again c = turned (c .before .before) (c .enum-told3 .given .1)
+
+returns-3 : tie.Need-returns-3 Inv-loop μ-loop
+returns-3 c =
+    let a = c .before .before .before .args in
+    let l = c .before .loop in
+    sym (sym (l .inv) ∙ goes-past (a .mode .now) (a .count) (l .factor) (l .taken) (a .own) (c .loop-test .left))
+
+pub goes-to-spec : {M : Type 1} → statement M
+goes-to-spec =
+    tie.close
+    (tie.spec
+    Inv-loop
+    μ-loop
+    loop-holds
+    entry-requires
+    next-turn-requires
+    enum-told
+    returns
+    enum-told-2
+    returns-2
+    enum-told-3
+    add-factor
+    loop-less
+    loop-again
+    returns-3)
