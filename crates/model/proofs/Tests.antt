@@ -1,14 +1,13 @@
 -- Laws of the tests over all numbers below a bound.
 -- Assumes nothing.
-use Prim.Native.Nat.{ℕ, zero, suc, _+_, _≤_, _<_}
-use mathlib.Core.Path.{_≡_, refl, sym, _∙_}
-use mathlib.Core.Bool.{Bool, true, false, not, _&&_, _||_, false≢true}
+use Prim.Native.Nat.{ℕ, zero, suc, _+_, _<_}
+use mathlib.Core.Path.{_≡_, refl, sym}
+use mathlib.Core.Bool.{Bool, true, false, _&&_, _||_, false≢true}
 use mathlib.Core.Logic.{_⊎_, inl, inr, _↔_}
 use native.Mathlib.Omega.{arith}
 use native.Mathlib.Numerals.{add-one}
 use native.Mathlib.Decide.{ℕ-discrete}
-use borrow.Author.Tests.{not-true, not-false}
-use Rattle.model.specs.Check.{allBelow, anyBelow}
+use Rattle.model.specs.Check.{everyBelow, anyBelow}
 
 -- From 0 ≡ 1, which `cc` finds where two constructors are said to be equal, anything follows.
 pub never : _≡_ {A = ℕ} 0 1 → ⊥
@@ -51,12 +50,12 @@ last P n f p k l = go (ℕ-discrete k n)
     go (yes e) = rw e p
     go (no d) = f k (omega arith)
 
-pub all-law : (n : ℕ) (test : ℕ → Bool) → (allBelow n test ≡ true) ↔ ((k : ℕ) → k < n → test k ≡ true)
-unfolding allBelow
+pub all-law : (n : ℕ) (test : ℕ → Bool) → (everyBelow n test ≡ true) ↔ ((k : ℕ) → k < n → test k ≡ true)
+unfolding everyBelow
 all-law zero test = (λ e k l. absurd (omega arith), λ f. refl)
 all-law (suc n) test = (
-  λ e. last (λ k. test k ≡ true) n (all-law n test .0 (and-left (allBelow n test) (test n) e)) (and-right (allBelow n test) (test n) e),
-  λ f. both (allBelow n test) (test n) (all-law n test .1 (λ k l. f k (omega arith))) (f n (omega arith)),
+  λ e. last (λ k. test k ≡ true) n (all-law n test .0 (and-left (everyBelow n test) (test n) e)) (and-right (everyBelow n test) (test n) e),
+  λ f. both (everyBelow n test) (test n) (all-law n test .1 (λ k l. f k (omega arith))) (f n (omega arith)),
 )
 
 pub any-law : (n : ℕ) (test : ℕ → Bool) → (anyBelow n test ≡ true) ↔ ((k : ℕ) × (k < n) × (test k ≡ true))
@@ -72,21 +71,7 @@ any-law (suc n) test = (λ e. to (any-law n test .0) (or-split (anyBelow n test)
     from f k l e (yes d) = or-right (anyBelow n test) (test n) (rw d at e)
     from f k l e (no d) = rw (f (k, omega arith, e))
 
--- The same, as a loop meets them.
-pub all-start : (test : ℕ → Bool) → allBelow 0 test ≡ true
-all-start test = all-law 0 test .1 (λ k l. absurd (omega arith))
-
-pub all-more : (n : ℕ) (test : ℕ → Bool) {r : Bool} → allBelow n test ≡ true → r ≡ test n → not r ≡ false → allBelow (n + 1) test ≡ true
-unfolding allBelow
-all-more n test {r} e f h = rw (add-one, e, ← f, not-false r h)
-
-pub all-fails : (n k : ℕ) (test : ℕ → Bool) {r : Bool} → k < n → r ≡ test k → not r ≡ true → allBelow n test ≡ false
-all-fails n k test {r} l f h = go (allBelow n test) refl
-  where
-    go : (b : Bool) → allBelow n test ≡ b → b ≡ false
-    go true p = sym (all-law n test .0 p k l) ∙ sym f ∙ not-true r h
-    go false p = refl
-
+-- The same, as a loop meets it.
 pub any-start : (test : ℕ → Bool) → anyBelow 0 test ≡ false
 unfolding anyBelow
 any-start test = refl
@@ -94,6 +79,3 @@ any-start test = refl
 pub any-more : (n : ℕ) (test : ℕ → Bool) → anyBelow (n + 1) test ≡ (anyBelow n test || test n)
 unfolding anyBelow
 any-more n test = rw add-one
-
-pub all-done : (n k : ℕ) (test : ℕ → Bool) → k ≤ n → n ≤ k → allBelow k test ≡ true → allBelow n test ≡ true
-all-done n k test l h e = let q : n ≡ k = omega arith in rw q e

@@ -10,9 +10,9 @@ use Rattle.model.specs.declared.Model.{Model}
 use Rattle.model.specs.Record.{none}
 
 -- Every number below n passes the test.
-unfoldable pub allBelow : ℕ → (ℕ → Bool) → Bool
-allBelow zero test = true
-allBelow (suc n) test = allBelow n test && test n
+unfoldable pub everyBelow : ℕ → (ℕ → Bool) → Bool
+everyBelow zero test = true
+everyBelow (suc n) test = everyBelow n test && test n
 
 -- Some number below n passes the test.
 unfoldable pub anyBelow : ℕ → (ℕ → Bool) → Bool
@@ -31,15 +31,15 @@ mayBe false f = eqb f 0
 
 -- "each number below N has 255 or a value below F, all others have 255"
 unfoldable pub allPlaced : ℕ → ℕ → ℕ → List ℕ → Bool
-allPlaced size n count factors = allBelow size (λ x. mayHold count (ltb x n) (getD factors x none))
+allPlaced size n count factors = everyBelow size (λ x. mayHold count (ltb x n) (getD factors x none))
 
 -- "each factor has a name"
 unfoldable pub allNamed : ℕ → ℕ → List ℕ → Bool
-allNamed n count factors = allBelow count (λ i. anyBelow n (λ x. eqb (getD factors x none) i))
+allNamed n count factors = everyBelow count (λ i. anyBelow n (λ x. eqb (getD factors x none) i))
 
 -- "modes below F are 0 to 3, the rest are 0"
 unfoldable pub allKnown : ℕ → ℕ → List ℕ → Bool
-allKnown size count modes = allBelow size (λ i. mayBe (ltb i count) (getD modes i 0))
+allKnown size count modes = everyBelow size (λ i. mayBe (ltb i count) (getD modes i 0))
 
 -- Whether m is a chain over n names.
 unfoldable pub isChain : ℕ → ℕ → Model → Bool

@@ -1,16 +1,49 @@
--- The test `isChain` as the code makes it.
+-- The test `isChain` of rows, one answer for each check, as the code makes them.
 -- Assumes nothing.
-use Prim.Native.Nat.{ℕ}
-use mathlib.Core.Path.{_≡_}
-use mathlib.Core.Bool.{_&&_}
-use borrow.Author.Tests.{eq-eqb}
-use lib.Dec.{leb}
-use lib.ListN.{length}
-use Rattle.model.specs.declared.Model.{Model}
-use Rattle.model.specs.Check.{allPlaced, allNamed, allKnown, isChain}
+use Prim.Native.Nat.{ℕ, _≤_, _<_}
+use mathlib.Core.Path.{_≡_, _∙_}
+use mathlib.Core.Bool.{Bool, true, false, not, _&&_}
+use mathlib.Core.List.{List}
+use borrow.Author.Tests.{not-true, not-false, eq-eqb, ne-eqb, le-leb, lt-leb}
+use lib.Dec.{eqb, leb}
+use lib.ListN.{length, getD}
+use Rattle.model.specs.Record.{none, ofRows}
+use Rattle.model.specs.Check.{everyBelow, anyBelow, allPlaced, allNamed, allKnown, isChain}
+use Rattle.model_check.proofs.Factors.{used-named}
 
--- Where both rows have `size` places, the four checks are left.
-pub sized : (size n : ℕ) (m : Model) → length (m .factor) ≡ size → length (m .mode) ≡ size
-    → isChain size n m ≡ (leb (m .count) size && (allPlaced size n (m .count) (m .factor) && (allNamed n (m .count) (m .factor) && allKnown size (m .count) (m .mode))))
-unfolding isChain
-sized size n m p q = rw (eq-eqb (length (m .factor)) size p, eq-eqb (length (m .mode)) size q)
+module _ (size n count : ℕ) (factors modes : List ℕ) where
+  pub factors-unfit : ¬ (length factors ≡ size) → isChain size n (ofRows count factors modes) ≡ false
+  unfolding isChain
+  factors-unfit d = rw (ne-eqb (length factors) size d)
+
+  module _ (f : length factors ≡ size) where
+    pub modes-unfit : ¬ (length modes ≡ size) → isChain size n (ofRows count factors modes) ≡ false
+    unfolding isChain
+    modes-unfit d = rw (eq-eqb (length factors) size f, ne-eqb (length modes) size d)
+
+    module _ (g : length modes ≡ size) where
+      -- Where both rows have `size` places, the four checks are left.
+      sized : isChain size n (ofRows count factors modes) ≡ (leb count size && (allPlaced size n count factors && (allNamed n count factors && allKnown size count modes)))
+      unfolding isChain
+      sized = rw (eq-eqb (length factors) size f, eq-eqb (length modes) size g)
+
+      pub too-many : size < count → isChain size n (ofRows count factors modes) ≡ false
+      too-many l = rw (sized, lt-leb count size l)
+
+      module _ (l : count ≤ size) {r : Bool} (e : r ≡ allPlaced (length factors) n count factors) where
+        pub misplaced : not r ≡ true → isChain size n (ofRows count factors modes) ≡ false
+        misplaced h = rw (sized, le-leb count size l, ← f, ← e, not-true r h)
+
+        module _ (h : not r ≡ false) {used : ℕ → Bool} (u : (i : ℕ) → i < count → used i ≡ anyBelow n (λ x. eqb (getD factors x none) i))
+            {t : Bool} (d : t ≡ everyBelow count used) where
+          all : allPlaced size n count factors ≡ true
+          all = rw (← f, ← e, not-false r h)
+
+          names : t ≡ allNamed n count factors
+          names = d ∙ used-named n count factors used u
+
+          pub unnamed : not t ≡ true → isChain size n (ofRows count factors modes) ≡ false
+          unnamed k = rw (sized, le-leb count size l, all, ← names, not-true t k)
+
+          pub by-modes : not t ≡ false → {s : Bool} → s ≡ allKnown (length modes) count modes → isChain size n (ofRows count factors modes) ≡ s
+          by-modes k q = rw (sized, le-leb count size l, all, ← names, not-false t k, ← g, q)

@@ -11,36 +11,36 @@ use borrow.Author.Tests.{eq-eqb, ne-eqb, lt-ltb, le-ltb, le-leb, lt-leb}
 use lib.Dec.{eqb, ltb, leb}
 use lib.ListN.{length, getD, List·getD-eq-default}
 use Rattle.model.specs.Record.{none}
-use Rattle.model.specs.Check.{allBelow, anyBelow, mayHold, allPlaced, allNamed}
+use Rattle.model.specs.Check.{everyBelow, anyBelow, mayHold, allPlaced, allNamed}
 use Rattle.model.proofs.Tests.{both, and-left, and-right, same-test, all-law}
 use Rattle.model.proofs.Chain.{name-law}
 
 -- ---- tests over all numbers below a bound
 
-all-same : (n : ℕ) (f g : ℕ → Bool) → ((k : ℕ) → k < n → f k ≡ g k) → allBelow n f ≡ allBelow n g
+all-same : (n : ℕ) (f g : ℕ → Bool) → ((k : ℕ) → k < n → f k ≡ g k) → everyBelow n f ≡ everyBelow n g
 all-same n f g h =
-    same-test (allBelow n f) (allBelow n g) (λ e. all-law n g .1 (λ k l. sym (h k l) ∙ all-law n f .0 e k l))
+    same-test (everyBelow n f) (everyBelow n g) (λ e. all-law n g .1 (λ k l. sym (h k l) ∙ all-law n f .0 e k l))
     (λ e. all-law n f .1 (λ k l. h k l ∙ all-law n g .0 e k l))
 
 -- Numbers that pass anyway need no test.
-all-past : (n k : ℕ) (f : ℕ → Bool) → n ≤ k → ((x : ℕ) → n ≤ x → f x ≡ true) → allBelow k f ≡ allBelow n f
+all-past : (n k : ℕ) (f : ℕ → Bool) → n ≤ k → ((x : ℕ) → n ≤ x → f x ≡ true) → everyBelow k f ≡ everyBelow n f
 all-past n k f l h =
-    same-test (allBelow k f) (allBelow n f) (λ e. all-law n f .1 (λ x d. all-law k f .0 e x (omega arith)))
+    same-test (everyBelow k f) (everyBelow n f) (λ e. all-law n f .1 (λ x d. all-law k f .0 e x (omega arith)))
     (λ e. all-law k f .1 (λ x d. at e x (decLt x n)))
   where
-    at : allBelow n f ≡ true → (x : ℕ) → Dec (x < n) → f x ≡ true
+    at : everyBelow n f ≡ true → (x : ℕ) → Dec (x < n) → f x ≡ true
     at e x (yes d) = all-law n f .0 e x d
     at e x (no d) = h x (omega arith)
 
-all-both : (n : ℕ) (f g : ℕ → Bool) → allBelow n (λ k. f k && g k) ≡ (allBelow n f && allBelow n g)
+all-both : (n : ℕ) (f g : ℕ → Bool) → everyBelow n (λ k. f k && g k) ≡ (everyBelow n f && everyBelow n g)
 all-both n f g =
-    same-test (allBelow n (λ k. f k && g k)) (allBelow n f && allBelow n g)
-    (λ e. both (allBelow n f) (allBelow n g)
+    same-test (everyBelow n (λ k. f k && g k)) (everyBelow n f && everyBelow n g)
+    (λ e. both (everyBelow n f) (everyBelow n g)
     (all-law n f .1 (λ k l. and-left (f k) (g k) (all-law n (λ k. f k && g k) .0 e k l)))
     (all-law n g .1 (λ k l. and-right (f k) (g k) (all-law n (λ k. f k && g k) .0 e k l))))
     (λ e. all-law n (λ k. f k && g k) .1 (λ k l.
-    both (f k) (g k) (all-law n f .0 (and-left (allBelow n f) (allBelow n g) e) k l)
-    (all-law n g .0 (and-right (allBelow n f) (allBelow n g) e) k l)))
+    both (f k) (g k) (all-law n f .0 (and-left (everyBelow n f) (everyBelow n g) e) k l)
+    (all-law n g .0 (and-right (everyBelow n f) (everyBelow n g) e) k l)))
 
 -- ---- an entry counted from 1
 
@@ -71,15 +71,15 @@ module _ (count : ℕ) (factor : List ℕ) (from : ℕ) where
   abbrev pub among : ℕ → Bool
   among x = ltb x from || mayHold count true (getD factor x none)
 
-  pub among-start : leb 0 count ≡ allBelow from among
+  pub among-start : leb 0 count ≡ everyBelow from among
   among-start = le-leb 0 count (omega arith) ∙ sym (all-law from among .1 (λ x l. rw (lt-ltb x from l)))
 
-  pub among-more : (x top v : ℕ) → from ≤ x → leb top count ≡ allBelow x among → leb v count ≡ mayHold count true (getD factor x none)
-      → leb (max top v) count ≡ allBelow (x + 1) among
-  unfolding allBelow
+  pub among-more : (x top v : ℕ) → from ≤ x → leb top count ≡ everyBelow x among → leb v count ≡ mayHold count true (getD factor x none)
+      → leb (max top v) count ≡ everyBelow (x + 1) among
+  unfolding everyBelow
   among-more x top v h p q = rw (add-one x, both-most top v count, p, q, le-ltb x from h)
 
-  pub among-done : (x top : ℕ) → length factor ≤ x → leb top count ≡ allBelow x among → leb top count ≡ allBelow (length factor) among
+  pub among-done : (x top : ℕ) → length factor ≤ x → leb top count ≡ everyBelow x among → leb top count ≡ everyBelow (length factor) among
   unfolding mayHold
   among-done x top h p = p ∙ all-past (length factor) x among h (λ y l. past y l (ltb y from))
     where
@@ -103,7 +103,7 @@ entry-split n count x v = go (ltb x n)
     go false = rw (le-ltb x 0 (omega arith), le-ltb v 0 (omega arith)) (other (eqb v none) (ltb v count))
 
 module _ (n count : ℕ) (factor : List ℕ) where
-  placed : allPlaced (length factor) n count factor ≡ (allBelow (length factor) (among count factor 0) && allBelow (length factor) (among 0 factor n))
+  placed : allPlaced (length factor) n count factor ≡ (everyBelow (length factor) (among count factor 0) && everyBelow (length factor) (among 0 factor n))
   unfolding allPlaced
   placed =
       all-same (length factor) (λ x. mayHold count (ltb x n) (getD factor x none)) (λ x. among count factor 0 x && among 0 factor n x)
@@ -111,8 +111,8 @@ module _ (n count : ℕ) (factor : List ℕ) where
       ∙ all-both (length factor) (among count factor 0) (among 0 factor n)
 
   -- The same, as the code finds it.
-  module _ {b : Bool} (e : b ≡ allBelow (length factor) (among count factor 0)) where
-    pub all-placed : b ≡ true → {r : Bool} → r ≡ allBelow (length factor) (among 0 factor n) → r ≡ allPlaced (length factor) n count factor
+  module _ {b : Bool} (e : b ≡ everyBelow (length factor) (among count factor 0)) where
+    pub all-placed : b ≡ true → {r : Bool} → r ≡ everyBelow (length factor) (among 0 factor n) → r ≡ allPlaced (length factor) n count factor
     all-placed t f = rw (placed, ← e, t) f
 
     pub one-misplaced : b ≡ false → false ≡ allPlaced (length factor) n count factor
@@ -132,6 +132,6 @@ named-within n factor i h =
     within x l e (no b) = absurd (omega (arith, List·getD-eq-default factor none {n = x} (omega arith)))
 
 pub used-named : (n count : ℕ) (factor : List ℕ) (used : ℕ → Bool)
-    → ((i : ℕ) → i < count → used i ≡ anyBelow n (λ x. eqb (getD factor x none) i)) → allBelow count used ≡ allNamed n count factor
+    → ((i : ℕ) → i < count → used i ≡ anyBelow n (λ x. eqb (getD factor x none) i)) → everyBelow count used ≡ allNamed n count factor
 unfolding allNamed
 used-named n count factor used u = all-same count used (λ i. anyBelow n (λ x. eqb (getD factor x none) i)) u

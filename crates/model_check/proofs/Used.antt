@@ -12,7 +12,7 @@ use Rattle.nameset.specs.Places.{places}
 use Rattle.nameset.specs.Set.{member, isEmpty}
 use Rattle.nameset.specs.Promise.{Smallest}
 use Rattle.nameset.proofs.Laws.{first-none}
-use Rattle.model.specs.Check.{allBelow}
+use Rattle.model.specs.Check.{everyBelow}
 use Rattle.model.proofs.Tests.{same-test, all-law}
 
 -- `rest` has the numbers that are not in `used`, and r is its first.
@@ -35,7 +35,7 @@ module _ (count : ℕ) (used full rest : NameSet) (r : ℕ) (l : count ≤ place
       let k : r < count = omega arith in
       absurd (false≢true (rw (f r k) at (sym (left r (omega arith)) ∙ none k (isEmpty rest) refl)))
 
-  pub used-law : leb count r ≡ allBelow count (member used)
+  pub used-law : leb count r ≡ everyBelow count (member used)
   used-law =
-      same-test (leb count r) (allBelow count (member used)) (λ e. all-law count (member used) .1 (within (leb-true count r e)))
+      same-test (leb count r) (everyBelow count (member used)) (λ e. all-law count (member used) .1 (within (leb-true count r e)))
       (λ e. le-leb count r (beyond (all-law count (member used) .0 e) (decLe count r)))

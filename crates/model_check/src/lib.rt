@@ -6,8 +6,8 @@ ghost use lib.Dec.{eqb, ltb, leb};
 ghost use lib.ListN.{length, getD};
 ghost use Rattle.nameset.specs.Places.{places};
 ghost use Rattle.nameset.specs.Set.{member};
-ghost use Rattle.model.specs.Record.{none};
-ghost use Rattle.model.specs.Check.{allBelow, anyBelow, mayHold, mayBe, allPlaced, allKnown, isChain};
+ghost use Rattle.model.specs.Record.{none, ofRows};
+ghost use Rattle.model.specs.Check.{everyBelow, anyBelow, mayHold, mayBe, allPlaced, allKnown, isChain};
 use byte_row::larger;
 use byte_row::largest_from;
 use model::Model;
@@ -26,7 +26,7 @@ fn counted(v: u8) -> u8
 // Whether each number from a place on is in one of the first `count` factors or in none. No early end: the loop runs
 // over many entries at once.
 fn all_among(count: usize, factor: &[u8], from: usize) -> bool
-    ensures { λ r. ⌜ r ≡ allBelow (length (now (factor .entry))) (λ x. ltb x from || mayHold count true (getD (now (factor .entry)) x none)) ⌝ }
+    ensures { λ r. ⌜ r ≡ everyBelow (length (now (factor .entry))) (λ x. ltb x from || mayHold count true (getD (now (factor .entry)) x none)) ⌝ }
 {
     let mut top: u8 = 0;
     let mut x = from;
@@ -85,7 +85,7 @@ fn used_factors(n: usize, count: usize, factor: &[u8]) -> NameSet
 // Whether every factor is in the set: the first number that is not in it is no factor's.
 fn all_used(count: usize, used: NameSet) -> bool
     requires { ⌜ count ≤ places ⌝ }
-    ensures { λ r. ⌜ r ≡ allBelow count (member used) ⌝ }
+    ensures { λ r. ⌜ r ≡ everyBelow count (member used) ⌝ }
 {
     count <= NameSet::full().minus(used).first()
 }
@@ -112,19 +112,31 @@ fn all_known(count: usize, mode: &[u8]) -> bool
     }
 }
 
+// Whether the record of these rows is a chain over n names.
+pub fn rows_are_chain<'a>(n: usize, count: usize, factor: &'a [u8], mode: &'a [u8]) -> bool
+    ensures { λ r. ⌜ r ≡ isChain places n (ofRows count (now (factor .entry)) (now (mode .entry))) ⌝ }
+{
+    if factor.len() != PLACES {
+        return false;
+    }
+    if mode.len() != PLACES {
+        return false;
+    }
+    if PLACES < count {
+        return false;
+    }
+    if !all_placed(n, count, factor) {
+        return false;
+    }
+    if !all_used(count, used_factors(n, count, factor)) {
+        return false;
+    }
+    all_known(count, mode)
+}
+
 // Whether the record is a chain over n names.
 pub fn is_chain(n: usize, m: Model) -> bool
     ensures { λ r. ⌜ r ≡ isChain places n m ⌝ }
 {
-    let count = m.count;
-    if PLACES < count {
-        return false;
-    }
-    if !all_placed(n, count, &m.factor) {
-        return false;
-    }
-    if !all_used(count, used_factors(n, count, &m.factor)) {
-        return false;
-    }
-    all_known(count, &m.mode)
+    rows_are_chain(n, m.count, &m.factor, &m.mode)
 }

@@ -9,13 +9,13 @@ use borrow.Author.Needs.{needs}
 use lib.Dec.{leb}
 use lib.ListN.{length, getD}
 use Rattle.model.specs.Record.{none}
-use Rattle.model.specs.Check.{allBelow, mayHold}
+use Rattle.model.specs.Check.{everyBelow, mayHold}
 use Rattle.model_check.proofs.Factors.{among, among-start, among-more, among-done}
 use Rattle.model_check.proofs.all_among.Statement.{statement}
 use Rattle.model_check.proofs.all_among.Tie as tie
 
 abbrev Inv-loop : tie.InvT-loop
-Inv-loop count factor from top₀ x₀ top x = (from ≤ x) × (top < 256) × (leb top count ≡ allBelow x (among count factor from))
+Inv-loop count factor from top₀ x₀ top x = (from ≤ x) × (top < 256) × (leb top count ≡ everyBelow x (among count factor from))
 
 abbrev μ-loop : tie.MeasureT-loop
 μ-loop count factor from top₀ x₀ top x = length factor - x
@@ -42,8 +42,9 @@ loop-less c = search needs
 
 loop-again : tie.Need-loop-again Inv-loop μ-loop
 loop-again c =
-    let a = c .before .before .before .before .before .before .args in
-    let l = c .before .before .before .before .loop in
+    let t = c .before .before .before .before in
+    let l = t .loop in
+    let a = t .before .before .args in
     let v : leb (c .before .counted .result) (a .count) ≡ mayHold (a .count) true (getD (a .factor .now) (l .x) none) =
     c .before .counted .ensures (a .count) ∙ ap (mayHold (a .count) true) (c .before .before .entry .ensures) in
     (omega arith, search needs, rw (c .larger .ensures) (among-more (a .count) (a .factor .now) (a .from) (l .x) (l .top) (c .before .counted .result) (l .inv .0) (l .inv .2) v))

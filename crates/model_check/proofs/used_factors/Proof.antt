@@ -49,8 +49,9 @@ loop-less c = search needs
 
 loop-again : tie.Need-loop-again Inv-loop μ-loop
 loop-again c =
-    let l = c .before .before .before .loop in
-    let f = c .before .before .before .before .before .before .before .args .factor .now in
+    let t = c .before .before .before in
+    let l = t .loop in
+    let f = t .before .before .before .before .args .factor .now in
     let here : (i : ℕ) → eqb (c .before .entry .result) i ≡ holds f i (l .x) = λ i. ap (λ (v : ℕ). eqb v i) (c .before .entry .ensures) in
     (omega arith, λ i h. c .with-factor .ensures i h ∙ ap₂ _||_ (l .inv .1 i h) (here i) ∙ sym (any-more (l .x) (holds f i)))
 
