@@ -52,6 +52,7 @@ module _ (f : Follow) where
       go true p = (p, omega (arith, number-loop x p))
       go false p = absurd (omega (arith, number-single x p))
 
+  -- The smallest name of a name's loop group is in that group.
   pub least-in : (x : ℕ) → loops f x ≡ true → sameGroup f x (least x) ≡ true
   least-in x e = first-is (f .names) (sameGroup f x) x (group-below f x x (loops-group f x e)) (loops-group f x e)
 

@@ -11,7 +11,7 @@ use Rattle.model.specs.Record.{factorOf, modeOf, IsChain}
 use Rattle.model.proofs.Tests.{same-test}
 use Rattle.model_language.specs.Word.{Point, start, name, end}
 use Rattle.model_language.specs.Reach.{one}
-use Rattle.model_language.specs.Step.{optional, repeats, place, Held, Over, Within, Step, Includes, Ahead}
+use Rattle.model_language.specs.Step.{optional, repeats, place, Held, Over, Repeat, Step, Includes, Ahead}
 use Rattle.model_language.proofs.Walk.{stay}
 use Rattle.model_language.proofs.Shown.{point}
 use Rattle.model_language.proofs.Reach.{reach-wider, reach-ahead}
@@ -32,7 +32,7 @@ ahead-both m x y (inr a) b = a
 crosses : (m : Model) (u v : Point) (i : ℕ) → Step m u v → place m u < suc i → suc i < place m v → optional (modeOf m i) ≡ true
 crosses m u v i s h k = go (s .way)
   where
-    go : Over m u v ⊎ Within m u v → optional (modeOf m i) ≡ true
+    go : Over m u v ⊎ Repeat m u v → optional (modeOf m i) ≡ true
     go (inl o) = o .free i (omega arith) k
     go (inr t) = absurd (omega arith)
 
@@ -57,8 +57,8 @@ module _ (size n : ℕ) (m : Model) (c : IsChain size n m) where
       go (yes l) = c .known i l
       go (no l) = omega (arith, c .rest i (omega arith))
 
--- A mode is known by whether it is optional and whether it repeats.
-mode-of : (k : ℕ) → k ≤ 3 → cond (repeats k) (cond (optional k) 3 2) (cond (optional k) 1 0) ≡ k
+-- A mode is known by whether it is optional and whether it repeats:
+pub mode-of : (k : ℕ) → k ≤ 3 → cond (repeats k) (cond (optional k) 3 2) (cond (optional k) 1 0) ≡ k
 unfolding optional repeats
 mode-of zero h = refl
 mode-of (suc zero) h = refl
@@ -66,7 +66,8 @@ mode-of (suc (suc zero)) h = refl
 mode-of (suc (suc (suc zero))) h = refl
 mode-of (suc (suc (suc (suc k)))) h = absurd (omega arith)
 
-mode-same : (j k : ℕ) → j ≤ 3 → k ≤ 3 → optional j ≡ optional k → repeats j ≡ repeats k → j ≡ k
+-- two modes that agree in both are equal.
+pub mode-same : (j k : ℕ) → j ≤ 3 → k ≤ 3 → optional j ≡ optional k → repeats j ≡ repeats k → j ≡ k
 mode-same j k p q o r = sym (mode-of j p) ∙ ap₂ (λ (a b : Bool). cond a (cond b 3 2) (cond b 1 0)) r o ∙ mode-of k q
 
 -- ---- the theorem

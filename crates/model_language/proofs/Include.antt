@@ -11,7 +11,7 @@ use Rattle.model.specs.declared.Model.{Model}
 use Rattle.model.specs.Record.{none, factorOf, modeOf}
 use Rattle.model.specs.Accept.{Names}
 use Rattle.model_language.specs.Word.{Point, start, name, end}
-use Rattle.model_language.specs.Step.{optional, repeats, place, Held, Over, Within, Step, Includes}
+use Rattle.model_language.specs.Step.{optional, repeats, place, Held, Over, Repeat, Step, Includes}
 use Rattle.model_language.proofs.Walk.{Walk}
 
 -- ---- a finite search
@@ -77,27 +77,27 @@ over? m u v = go (decLt (place m u) (place m v)) (below (place m v) Free Shut (�
     go (yes l) (inl f) = yes record { rises = l; free = λ i p q. f i (omega arith) p q }
     go (yes l) (inr (i, (p, q, e))) = no (λ o. false≢true (sym e ∙ o .free i p q))
 
-within? : (m : Model) (u v : Point) → Dec (Within m u v)
-within? m u v = go (place m u) refl (ℕ-discrete (place m v) (place m u))
+repeat? : (m : Model) (u v : Point) → Dec (Repeat m u v)
+repeat? m u v = go (place m u) refl (ℕ-discrete (place m v) (place m u))
   where
-    loop? : (i : ℕ) → place m u ≡ suc i → place m v ≡ suc i → Dec (i < m .count) → (b : Bool) → repeats (modeOf m i) ≡ b → Dec (Within m u v)
+    loop? : (i : ℕ) → place m u ≡ suc i → place m v ≡ suc i → Dec (i < m .count) → (b : Bool) → repeats (modeOf m i) ≡ b → Dec (Repeat m u v)
     loop? i e f (no h) b l = no (λ t. h (omega (arith, t .one, t .left)))
     loop? i e f (yes h) true l = yes record { factor = i; one = h; left = e; right = f; loop = l }
     loop? i e f (yes h) false l = no (λ t. let q : i ≡ t .factor = omega arith in false≢true (sym l ∙ rw q (t .loop)))
 
-    go : (p : ℕ) → place m u ≡ p → Dec (place m v ≡ place m u) → Dec (Within m u v)
+    go : (p : ℕ) → place m u ≡ p → Dec (place m v ≡ place m u) → Dec (Repeat m u v)
     go zero e d = no (λ t. omega arith)
     go (suc i) e (no d) = no (λ t. d (omega arith))
     go (suc i) e (yes d) = loop? i e (omega arith) (decLt i (m .count)) (repeats (modeOf m i)) refl
 
 step? : (m : Model) (u v : Point) → Dec (Step m u v)
-step? m u v = go (held? m u) (held? m v) (over? m u v) (within? m u v)
+step? m u v = go (held? m u) (held? m v) (over? m u v) (repeat? m u v)
   where
-    neither : ¬ Over m u v → ¬ Within m u v → ¬ (Over m u v ⊎ Within m u v)
+    neither : ¬ Over m u v → ¬ Repeat m u v → ¬ (Over m u v ⊎ Repeat m u v)
     neither a b (inl o) = a o
     neither a b (inr t) = b t
 
-    go : Dec (Held m u) → Dec (Held m v) → Dec (Over m u v) → Dec (Within m u v) → Dec (Step m u v)
+    go : Dec (Held m u) → Dec (Held m v) → Dec (Over m u v) → Dec (Repeat m u v) → Dec (Step m u v)
     go (no h) k o t = no (λ s. h (s .leaves))
     go (yes h) (no k) o t = no (λ s. k (s .meets))
     go (yes h) (yes k) (yes o) t = yes record { leaves = h; meets = k; way = inl o }

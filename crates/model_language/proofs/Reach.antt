@@ -8,7 +8,7 @@ use Rattle.model.specs.declared.Model.{Model}
 use Rattle.model.specs.Record.{factorOf}
 use Rattle.model_language.specs.Word.{Point, name}
 use Rattle.model_language.specs.Reach.{Reach, one, more}
-use Rattle.model_language.specs.Step.{Over, Within, Step, Ahead}
+use Rattle.model_language.specs.Step.{Over, Repeat, Step, Ahead}
 use Rattle.model_language.proofs.Walk.{stay}
 use Rattle.model_language.proofs.Shown.{step-up}
 
@@ -19,7 +19,7 @@ reach-wider h (more g r) = more (h _ _ g) (reach-wider h r)
 step-ahead : (m : Model) (x y : ℕ) → Step m (name x) (name y) → Ahead m x y
 step-ahead m x y s = go (s .way)
   where
-    go : Over m (name x) (name y) ⊎ Within m (name x) (name y) → Ahead m x y
+    go : Over m (name x) (name y) ⊎ Repeat m (name x) (name y) → Ahead m x y
     go (inl o) = inl (omega (arith, o .rises))
     go (inr t) = let e : factorOf m x ≡ t .factor = omega arith in inr (omega arith, rw e (t .loop))
 

@@ -10,7 +10,7 @@ use lib.ListN.{length}
 use Rattle.model.specs.declared.Model.{Model}
 use Rattle.model.specs.Record.{factorOf}
 use Rattle.model_language.specs.Word.{Point, start, name, end, Beside, Shows}
-use Rattle.model_language.specs.Step.{place, Held, Over, Within, Step}
+use Rattle.model_language.specs.Step.{place, Held, Over, Repeat, Step}
 use Rattle.model_language.proofs.Walk.{Walk, next-to, enter, finish}
 
 held-low : (m : Model) (u : Point) → Held m u → place m u ≤ suc (m .count)
@@ -22,7 +22,7 @@ held-low m end k = omega arith
 step-rises : (m : Model) (u v : Point) → Step m u v → (place m u ≤ place m v) × (0 < place m v) × (place m u ≤ m .count)
 step-rises m u v s = go (s .way)
   where
-    go : Over m u v ⊎ Within m u v → (place m u ≤ place m v) × (0 < place m v) × (place m u ≤ m .count)
+    go : Over m u v ⊎ Repeat m u v → (place m u ≤ place m v) × (0 < place m v) × (place m u ≤ m .count)
     go (inl o) = omega (arith, held-low m v (s .meets), o .rises)
     go (inr t) = omega arith
 

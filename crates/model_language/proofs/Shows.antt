@@ -33,6 +33,7 @@ behind : (p : Point) (a : List ℕ) (x : ℕ) (b : List ℕ) (u v : Point) → n
 behind p [] x b u v e f = inr (at-first (name x) b u v e f)
 behind p (y ∷ a) x b u v e f = inr (behind (name y) a x b u v e f)
 
+-- For readers: the steps of a word, in the words above.
 pub shows-law : (w : List ℕ) (u v : Point) → Shows w u v ↔ (((start ≡ u) × (first w ≡ v)) ⊎ Inside w u v)
 shows-law w u v = (to start w u v, from)
   where

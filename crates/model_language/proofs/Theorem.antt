@@ -24,7 +24,8 @@ module _ (size n : ℕ) (m : Model) (c : IsChain size n m) where
   named : (i : ℕ) → i < m .count → (x : ℕ) × (factorOf m x ≡ i)
   named i l = let q = c .named i l in (q .0, q .2)
 
-  accepts-walk : (w : List ℕ) → Accepts m w ↔ Walk m start w
+  -- A word is accepted exactly when the way from the start over its names to the end goes by steps of the record.
+  pub accepts-walk : (w : List ℕ) → Accepts m w ↔ Walk m start w
   accepts-walk w = (λ a. run-walk (accepts-run m w .0 a) start tt (next-to m start tt), λ p. accepts-run m w .1 (walk-run m (c .known) w p))
 
   -- A. A word is accepted exactly when every step that it shows is a step of the record.

@@ -11,10 +11,10 @@ use Rattle.model.specs.declared.Model.{Model}
 use Rattle.model.specs.declared.Turn.the-variants.{Take, Leave}
 use Rattle.model.specs.Record.{factorOf, modeOf}
 use Rattle.model.specs.Run.{either, turnOf}
-use Rattle.model.proofs.Tests.{never}
+use Rattle.model.proofs.Turns.{leave≢take, refuse≢take, refuse≢leave}
 use Rattle.model.proofs.Acceptance.{Run, done, leave, take}
 use Rattle.model_language.specs.Word.{Point, start, name, end, Beside}
-use Rattle.model_language.specs.Step.{optional, repeats, place, Held, Over, Within, Step}
+use Rattle.model_language.specs.Step.{optional, repeats, place, Held, Over, Repeat, Step}
 
 -- Every step on the way from u over w to the end is a step of m.
 abbrev pub Walk : Model → Point → List ℕ → Type 0
@@ -37,19 +37,19 @@ walk-steps m p w = (to p w, from p w)
 
 optional-turn : (f : ℕ) → (turnOf f false false ≡ Leave) ↔ (optional f ≡ true)
 unfolding turnOf either optional
-optional-turn zero = (λ e. absurd (never (cc)), λ e. absurd (false≢true e))
+optional-turn zero = (λ e. absurd (refuse≢leave e), λ e. absurd (false≢true e))
 optional-turn (suc zero) = (λ e. refl, λ e. refl)
-optional-turn (suc (suc zero)) = (λ e. absurd (never (cc)), λ e. absurd (false≢true e))
+optional-turn (suc (suc zero)) = (λ e. absurd (refuse≢leave e), λ e. absurd (false≢true e))
 optional-turn (suc (suc (suc zero))) = (λ e. refl, λ e. refl)
-optional-turn (suc (suc (suc (suc f)))) = (λ e. absurd (never (cc)), λ e. absurd (false≢true e))
+optional-turn (suc (suc (suc (suc f)))) = (λ e. absurd (refuse≢leave e), λ e. absurd (false≢true e))
 
 repeats-turn : (f : ℕ) → (turnOf f true true ≡ Take) ↔ (repeats f ≡ true)
 unfolding turnOf either repeats
-repeats-turn zero = (λ e. absurd (never (cc)), λ e. absurd (false≢true e))
-repeats-turn (suc zero) = (λ e. absurd (never (cc)), λ e. absurd (false≢true e))
+repeats-turn zero = (λ e. absurd (leave≢take e), λ e. absurd (false≢true e))
+repeats-turn (suc zero) = (λ e. absurd (leave≢take e), λ e. absurd (false≢true e))
 repeats-turn (suc (suc zero)) = (λ e. refl, λ e. refl)
 repeats-turn (suc (suc (suc zero))) = (λ e. refl, λ e. refl)
-repeats-turn (suc (suc (suc (suc f)))) = (λ e. absurd (never (cc)), λ e. absurd (false≢true e))
+repeats-turn (suc (suc (suc (suc f)))) = (λ e. absurd (refuse≢take e), λ e. absurd (false≢true e))
 
 -- Every factor takes a first name, and is left after it.
 first-turn : (f : ℕ) → f ≤ 3 → (turnOf f false true ≡ Take) × (turnOf f true false ≡ Leave)
@@ -132,12 +132,12 @@ module _ (m : Model) (known : (i : ℕ) → i < m .count → modeOf m i ≤ 3) w
   name-run : (x : ℕ) (w : List ℕ) → Walk m (name x) w → Run m (factorOf m x) true w
   name-run x [] s = go (s .way)
     where
-      go : Over m (name x) end ⊎ Within m (name x) end → Run m (factorOf m x) true []
+      go : Over m (name x) end ⊎ Repeat m (name x) end → Run m (factorOf m x) true []
       go (inl o) = behind x [] (s .leaves) (over-end (name x) o)
       go (inr t) = absurd (omega arith)
   name-run x (y ∷ w) (s, p) = go (s .way) (name-run y w p)
     where
-      go : Over m (name x) (name y) ⊎ Within m (name x) (name y) → Run m (factorOf m y) true w → Run m (factorOf m x) true (y ∷ w)
+      go : Over m (name x) (name y) ⊎ Repeat m (name x) (name y) → Run m (factorOf m y) true w → Run m (factorOf m x) true (y ∷ w)
       go (inl o) r = behind x (y ∷ w) (s .leaves) (over-name (name x) y w o (s .meets) r)
       go (inr t) r =
           let e : factorOf m y ≡ factorOf m x = omega arith in
@@ -147,11 +147,11 @@ module _ (m : Model) (known : (i : ℕ) → i < m .count → modeOf m i ≤ 3) w
   pub walk-run : (w : List ℕ) → Walk m start w → Run m 0 false w
   walk-run [] s = go (s .way)
     where
-      go : Over m start end ⊎ Within m start end → Run m 0 false []
+      go : Over m start end ⊎ Repeat m start end → Run m 0 false []
       go (inl o) = over-end start o
       go (inr t) = absurd (omega arith)
   walk-run (y ∷ w) (s, p) = go (s .way)
     where
-      go : Over m start (name y) ⊎ Within m start (name y) → Run m 0 false (y ∷ w)
+      go : Over m start (name y) ⊎ Repeat m start (name y) → Run m 0 false (y ∷ w)
       go (inl o) = over-name start y w o (s .meets) (name-run y w p)
       go (inr t) = absurd (omega arith)

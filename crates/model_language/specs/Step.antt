@@ -42,7 +42,7 @@ pub record Over (m : Model) (u v : Point) : Type 0 where
   pub free : (i : ℕ) → place m u ≤ i → suc i < place m v → optional (modeOf m i) ≡ true
 
 -- u and v lie in one factor, and it repeats.
-pub record Within (m : Model) (u v : Point) : Type 0 where
+pub record Repeat (m : Model) (u v : Point) : Type 0 where
   pub factor : ℕ
   pub one : factor < m .count
   pub left : place m u ≡ suc factor
@@ -53,7 +53,7 @@ pub record Within (m : Model) (u v : Point) : Type 0 where
 pub record Step (m : Model) (u v : Point) : Type 0 where
   pub leaves : Held m u
   pub meets : Held m v
-  pub way : Over m u v ⊎ Within m u v
+  pub way : Over m u v ⊎ Repeat m u v
 
 -- Every step of m is a step of k.
 abbrev pub Includes : Model → Model → Type 0
