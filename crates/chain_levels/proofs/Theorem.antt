@@ -1,21 +1,18 @@
 -- Executable follow facts, reach, loop groups and levels are the specified ones. The statements to read first.
 -- Assumes nothing.
 use Prim.Native.Nat.{ℕ, _<_}
-use mathlib.Core.Path.{_≡_, ap, subst}
-use mathlib.Core.Bool.{Bool, true}
+use mathlib.Core.Path.{_≡_, subst}
+use mathlib.Core.Bool.{true}
 use mathlib.Core.List.{List, [], List·Memᴰ}
 use mathlib.Core.Logic.{_↔_}
 use native.Mathlib.Omega.{arith}
 use Rattle.model.specs.Accept.{Names}
-use Rattle.model.proofs.Tests.{same-test}
 use Rattle.model_language.specs.Word.{Point, start, name, end, Fact}
 use Rattle.model_language.specs.Reach.{Reach}
-use Rattle.follow.specs.Follow.{Follow, someWord, beginsWith, endsWith, hasPair, isEmpty, followOf, steps}
+use Rattle.follow.specs.Follow.{Follow, followOf, steps}
 use Rattle.chain_levels.specs.Reach.{reaches, sameGroup, occurs}
 use Rattle.chain_levels.specs.Level.{Occurs, OneGroup, IsLevel, Skipped}
 use Rattle.chain_levels.specs.Rank.{levelOf, lastLevel, skipped}
-use Rattle.chain_levels.specs.Chain.{chainOf}
-use Rattle.follow.proofs.Laws.{some-word}
 use Rattle.chain_levels.proofs.Facts.{occurs-in, steps-facts}
 use Rattle.chain_levels.proofs.Reach.{reaches-is, group-reach}
 use Rattle.chain_levels.proofs.Carry.{one-level, carry-reach, carry-occurs, carry-group, carry-level, carry-skipped}
@@ -81,27 +78,3 @@ module _ (n : ℕ) (words : List (List ℕ)) (names : (w : List ℕ) → List·M
     skipped-law l =
         let q = over-skipped f (sampled n words names some) l in
         (λ e. carry-skipped follow-law l (q .0 (skipped-is f l .0 e)), λ p. skipped-is f l .1 (q .1 (carry-skipped back l p)))
-
--- ---- the set of words decides
-
--- Two lists with the same words, in whatever order and however often.
-module _ (v w : List (List ℕ)) (same : (x : List ℕ) → List·Memᴰ x v ↔ List·Memᴰ x w) where
-  same-some : (test : List ℕ → Bool) → someWord test v ≡ someWord test w
-  same-some test =
-      same-test (someWord test v) (someWord test w)
-      (λ e. let p = some-word test v .0 e in some-word test w .1 (p .0, same (p .0) .0 (p .1), p .2))
-      (λ e. let p = some-word test w .0 e in some-word test v .1 (p .0, same (p .0) .1 (p .1), p .2))
-
-  -- They have the same follow facts,
-  pub same-follow : (n : ℕ) → followOf n v ≡ followOf n w
-  same-follow n = λ i. record {
-    names = n;
-    starts = λ a. same-some (beginsWith a) i;
-    ends = λ a. same-some (endsWith a) i;
-    follows = λ a b. same-some (hasPair a b) i;
-    empty = same-some isEmpty i;
-  }
-
-  -- and the same chain.
-  pub same-chain : (size n : ℕ) → chainOf size (followOf n v) ≡ chainOf size (followOf n w)
-  same-chain size n = ap (chainOf size) (same-follow n)

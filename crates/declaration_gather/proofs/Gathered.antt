@@ -7,13 +7,13 @@ use mathlib.Core.List.{List, [], _∷_, _++_}
 use mathlib.Core.Option.{Option, none, some}
 use native.Mathlib.Omega.{arith}
 use native.Mathlib.Nat.{zero-add}
-use lib.ListN.{length, getD, replicate, length-replicate, getD-replicate, drop, List·getD-eq-default}
-use native.Mathlib.Decide.{decLt}
+use lib.ListN.{length, replicate, length-replicate, drop}
 use Rattle.refusal.specs.declared.Refusal.the-variants.{NotADeclaration, UnknownName, NameTwice}
 use Rattle.refusal.specs.Answer.{Answer, given, onward, refuseIf}
 use Rattle.name.specs.Rule.{isName}
 use Rattle.model.specs.declared.Model.{Model}
 use Rattle.model.specs.Record.{none as noFactor, emptyModel}
+use Rattle.model.proofs.Empty.{replicate-at}
 use Rattle.declaration_spelling.specs.Token.{word, lpar}
 use Rattle.declaration_spelling.specs.House.{Factor, opening}
 use Rattle.declaration_spelling.specs.Spelled.{factorTokens, othersTokens, bodyTokens}
@@ -36,22 +36,14 @@ use Rattle.declaration_gather.proofs.Rows.{placeFactor, placeOthers, ro
 use Rattle.declaration_gather.proofs.Factors.{mark, Filled, all-filled, all-place}
 use Rattle.declaration_gather.proofs.Tokens.{byNumber, model-taken, model-known}
 
--- ---- the rows at the start
+-- ---- the record that is filled
 
-all-same : (n i v : ℕ) → getD (replicate n v) i v ≡ v
-all-same n i v = go (decLt i n)
-  where
-    go : Dec (i < n) → getD (replicate n v) i v ≡ v
-    go (yes l) = getD-replicate n i v v l
-    go (no l) = List·getD-eq-default (replicate n v) v (omega (arith, length-replicate {A = ℕ} n v))
-
--- the record that is filled
 module _ (size : ℕ) (fs : List (Factor ℕ)) (k : Rows) (F : Filled 0 fs (replicate size noFactor) (replicate size 0) k) where
   factor-at : (x : ℕ) → placeFrom 0 fs x ≡ row (k .factor) x
   factor-at x = go (total x fs) refl
     where
       go : (t : ℕ) → total x fs ≡ t → placeFrom 0 fs x ≡ row (k .factor) x
-      go zero e = place-none 0 x fs e ∙ sym (all-same size x noFactor) ∙ sym (F .kept x e)
+      go zero e = place-none 0 x fs e ∙ sym (replicate-at size x noFactor) ∙ sym (F .kept x e)
       go (suc t) e = sym (F .held x (omega arith))
 
   mode-at : (i : ℕ) → modeAt fs i ≡ mark (k .mode) i
@@ -74,13 +66,13 @@ module _ (size n : ℕ) (fits : size ≤ 255) (some-place : 0 < size) (few : n �
   unfolding startRows
   filled k e =
       all-filled size n fits few f fs record { index = 0; factor = replicate size noFactor; mode = replicate size 0 } k refl some-place
-      (length-replicate {A = ℕ} size noFactor, length-replicate {A = ℕ} size 0) low (λ j. all-same size j 0) e
+      (length-replicate {A = ℕ} size noFactor, length-replicate {A = ℕ} size 0) low (λ j. replicate-at size j 0) e
 
   place : ((y : ℕ) → total y (f ∷ fs) ≤ 1) → length fs < size → (k : Rows) × (andThen (placeFactor f (startRows size)) (placeOthers size fs) ≡ some k)
   unfolding startRows
   place o l =
       all-place size n fits few f fs record { index = 0; factor = replicate size noFactor; mode = replicate size 0 } (omega arith)
-      (length-replicate {A = ℕ} size noFactor, length-replicate {A = ℕ} size 0) low o (λ y h. all-same size y noFactor)
+      (length-replicate {A = ℕ} size noFactor, length-replicate {A = ℕ} size 0) low o (λ y h. replicate-at size y noFactor)
 
   pub placed-answer : (p : ℕ) → onward (orRefuse NameTwice (andThen (placeFactor f (startRows size)) (placeOthers size fs))) (λ g. given (declared p (modelOf g)))
       ≡ refuseIf (not (noneTwice n (f ∷ fs))) NameTwice (given (declared p (recordOf size (f ∷ fs))))
@@ -105,8 +97,8 @@ empty-record : (size : ℕ) → recordOf size [] ≡ emptyModel size
 unfolding emptyModel placeFrom modeAt
 empty-record size =
     let q : valuesFrom 0 size (placeFrom 0 []) ≡ replicate size noFactor
-    = values-is 0 size (placeFrom 0 []) noFactor (replicate size noFactor) (length-replicate {A = ℕ} size noFactor) (λ x h. sym (all-same size x noFactor)) in
-    let s : valuesFrom 0 size (modeAt []) ≡ replicate size 0 = values-is 0 size (modeAt []) 0 (replicate size 0) (length-replicate {A = ℕ} size 0) (λ x h. sym (all-same size x 0)) in
+    = values-is 0 size (placeFrom 0 []) noFactor (replicate size noFactor) (length-replicate {A = ℕ} size noFactor) (λ x h. sym (replicate-at size x noFactor)) in
+    let s : valuesFrom 0 size (modeAt []) ≡ replicate size 0 = values-is 0 size (modeAt []) 0 (replicate size 0) (length-replicate {A = ℕ} size 0) (λ x h. sym (replicate-at size x 0)) in
     λ i. record { count = 0; factor = q i; mode = s i }
 
 module _ (size : ℕ) (names : List (List ℕ)) (fits : size ≤ 255) (some-place : 0 < size) (few : length names ≤ size) where

@@ -1,7 +1,7 @@
 -- The struct that a sample gives holds the facts that the sample shows, and no others; order and repeats of words do
 -- not matter.
 -- Assumes nothing.
-use Prim.Native.Nat.{ℕ, zero, suc, _≤_, _<_}
+use Prim.Native.Nat.{ℕ, _≤_, _<_}
 use mathlib.Core.Path.{_≡_, refl, sym, _∙_, ap}
 use mathlib.Core.Bool.{Bool, true, false, _&&_, _||_, cond, or-false, or-assoc, false≢true}
 use mathlib.Core.List.{List, [], _∷_, List·Memᴰ, List·Memᴰ·head, List·Memᴰ·tail, List·Memᴰ·not-nil, List·Memᴰ·cases-cons}
@@ -9,7 +9,7 @@ use mathlib.Core.Logic.{_⊎_, inl, inr, _↔_}
 use native.Mathlib.Nat.{lt-of-lt-of-le}
 use native.Mathlib.Decide.{ℕ-discrete}
 use lib.Dec.{eqb, ltb}
-use lib.ListN.{length, getD, replicate, length-set, length-replicate}
+use lib.ListN.{length, getD, length-set, length-replicate}
 use lib.Seq.{getD-set-same, getD-set-other}
 use borrow.Author.Tests.{eqb-true, eq-eqb, ne-eqb, ltb-true}
 use Rattle.nameset.specs.Places.{places}
@@ -22,6 +22,7 @@ use Rattle.book.specs.Access.{LaidOut}
 use Rattle.book.specs.Stops.{BlocksBelow}
 use Rattle.book.proofs.Laws.{few-names, blocks-within}
 use Rattle.model.specs.Accept.{Names}
+use Rattle.model.proofs.Empty.{replicate-at}
 use Rattle.model.proofs.Tests.{and-left, and-right, or-split, or-right, same-test}
 use Rattle.follow.specs.declared.Facts.{Facts}
 use Rattle.follow.specs.Follow.{someWord, beginsWith, endsWith, hasPair, isEmpty, followOf}
@@ -146,14 +147,9 @@ module _ (fact : Facts → Bool) (test : List ℕ → Bool)
       ∙ ap (λ (t : Bool). t || someWord test ws) (step facts w l (h .0))
       ∙ or-assoc (fact facts) (test w) (someWord test ws)
 
-zeros : (n a : ℕ) → getD (replicate {A = ℕ} n 0) a 0 ≡ 0
-zeros zero a = refl
-zeros (suc n) zero = refl
-zeros (suc n) (suc a) = zeros n a
-
 no-row : (a b : ℕ) → inRow noRows a b ≡ false
 unfolding inRow noRows
-no-row a b = ap (λ (row : ℕ). member (ofWord row) b) (zeros places a) ∙ ap (λ (s : NameSet). member s b) of-zero ∙ member-empty b
+no-row a b = ap (λ (row : ℕ). member (ofWord row) b) (replicate-at places a 0) ∙ ap (λ (s : NameSet). member s b) of-zero ∙ member-empty b
 
 length-none : length (noFacts .follows) ≡ places
 unfolding noFacts noRows

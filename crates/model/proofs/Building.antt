@@ -21,7 +21,7 @@ use Rattle.model.proofs.Tests.{and-left}
 
 -- ---- entriesWith, entry by entry
 
-entries-length : (holds : ℕ → Bool) (v x : ℕ) (es : List ℕ) → length (entriesWith holds v x es) ≡ length es
+pub entries-length : (holds : ℕ → Bool) (v x : ℕ) (es : List ℕ) → length (entriesWith holds v x es) ≡ length es
 unfolding entriesWith
 entries-length holds v x [] = refl
 entries-length holds v x (e ∷ es) = ap suc (entries-length holds v (suc x) es)

@@ -10,24 +10,27 @@ use Rattle.model.specs.declared.Model.{Model}
 use Rattle.model.specs.Record.{none, factorOf, modeOf, IsChain, emptyModel}
 use Rattle.model.specs.Accept.{Joined, none as no-factor, part, Accepts}
 
-same : (n i a : ℕ) → getD (replicate n a) i a ≡ a
-same zero i a = refl
-same (suc n) zero a = refl
-same (suc n) (suc i) a = same n i a
+-- A row of one value has it at each place, and past its end where it is the default.
+pub replicate-at : (n i a : ℕ) → getD (replicate n a) i a ≡ a
+replicate-at zero i a = refl
+replicate-at (suc n) zero a = refl
+replicate-at (suc n) (suc i) a = replicate-at n i a
 
+-- For readers: the empty model is a chain,
 pub empty-chain : (size n : ℕ) → IsChain size n (emptyModel size)
 unfolding emptyModel factorOf modeOf
 empty-chain size n = record {
   factors = length-replicate size none;
   modes = length-replicate size 0;
   few = omega arith;
-  placed = λ x l. inl (same size x none);
-  others = λ x l. same size x none;
+  placed = λ x l. inl (replicate-at size x none);
+  others = λ x l. replicate-at size x none;
   named = λ i l. absurd (omega arith);
   known = λ i l. absurd (omega arith);
-  rest = λ i l. same size i 0;
+  rest = λ i l. replicate-at size i 0;
 }
 
+-- and its only word is the empty one.
 pub empty-words : (m : Model) (w : List ℕ) → m .count ≡ 0 → Accepts m w ↔ (w ≡ [])
 empty-words m w e = (go, λ f. no-factor (sym e) f)
   where
