@@ -8,18 +8,10 @@ ghost use Prim.Native.Nat.{_≤_, _<_};
 ghost use lib.ListN.{length};
 ghost use Rattle.book.specs.Access.{LaidOut};
 
-const OUT: i32 = 1;
-
-fn print_number(n: usize) {
-    io::print_decimal(OUT, n as u64);
-}
-
 fn print_found(found: Found) {
     match found {
-        Found::At(i) => print_number(i),
-        Found::Nothing => {
-            io::write_all(OUT, b"-");
-        }
+        Found::At(i) => test_lines::print_number(i),
+        Found::Nothing => test_lines::print(b"-"),
     }
 }
 
@@ -38,22 +30,20 @@ fn print_blocks(bytes: &[u8], layout: Layout)
 }
 
 fn print_block(parent: usize, from: usize, to: usize) {
-    io::write_all(OUT, b" ");
-    print_number(parent);
-    io::write_all(OUT, b":");
+    test_lines::print(b" ");
+    test_lines::print_number(parent);
+    test_lines::print(b":");
     if from <= to {
-        print_number(to - from);
+        test_lines::print_number(to - from);
     }
 }
 
 fn print_head(label: &[u8], refusal: u8, names: usize, blocks: usize) {
-    io::write_all(OUT, label);
-    io::write_all(OUT, b": ");
-    io::print_decimal(OUT, refusal as u64);
-    io::write_all(OUT, b" ");
-    print_number(names);
-    io::write_all(OUT, b" ");
-    print_number(blocks);
+    test_lines::print(label);
+    test_lines::print(b": ");
+    test_lines::print_field(refusal as usize);
+    test_lines::print_field(names);
+    test_lines::print_number(blocks);
 }
 
 fn print_case(label: &[u8], bytes: &[u8], text: &[u8]) {
@@ -69,13 +59,13 @@ fn print_case(label: &[u8], bytes: &[u8], text: &[u8]) {
     if let Outcome::Done = outcome {
         print_rest(bytes, layout, text);
     }
-    io::write_all(OUT, b"\n");
+    test_lines::print(b"\n");
 }
 
 fn print_rest(bytes: &[u8], layout: Layout, text: &[u8])
     requires { ⌜ LaidOut (now bytes) layout ⌝ }
 {
-    io::write_all(OUT, b" ");
+    test_lines::print(b" ");
     print_found(book_access::find_name(bytes, layout, text));
     print_blocks(bytes, layout);
 }

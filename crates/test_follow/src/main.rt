@@ -7,9 +7,9 @@ ghost use Rattle.book.specs.Access.{LaidOut};
 
 // A set of names below 8, one bit for each name.
 fn print_set(label: &[u8], names: NameSet) {
-    io::write_all(1, label);
+    test_lines::print(label);
     io::print_hex(1, names.word(), 2);
-    io::write_all(1, b"\n");
+    test_lines::print(b"\n");
 }
 
 fn print_facts(facts: Facts) {
@@ -20,7 +20,7 @@ fn print_facts(facts: Facts) {
     print_set(b"after 2 ", NameSet::of_word(rows[2]));
     print_set(b"after 3 ", NameSet::of_word(rows[3]));
     if facts.empty {
-        io::write_all(1, b"empty\n");
+        test_lines::print(b"empty\n");
     }
 }
 
@@ -29,9 +29,9 @@ fn print_parent(bytes: &[u8], layout: Layout, parent: usize)
 {
     let found = follow::parent_facts(bytes, layout, parent);
     let facts = found.facts;
-    io::write_all(1, b"blocks ");
-    io::print_decimal(1, found.blocks as u64);
-    io::write_all(1, b"\n");
+    test_lines::print(b"blocks ");
+    test_lines::print_number(found.blocks);
+    test_lines::print(b"\n");
     print_facts(facts);
 }
 

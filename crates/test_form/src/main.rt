@@ -5,48 +5,18 @@
 // brackets that lack a neighbour; texts that end early; other words where the model stands; the rule for names; spaces
 // in each place where they may stand; spaces where none may stand, or where one is missing; other white space, and
 // bytes behind `>`; the longest declaration, and the same with a name of 33 bytes.
-ghost use Prim.Native.Nat.{_≤_};
-ghost use lib.ListN.{length};
 
 // One line.
 fn tell(text: &[u8]) {
-    if declaration_form::has_form(text) {
-        io::write_all(1, b"yes [");
-    } else {
-        io::write_all(1, b"no [");
-    }
-    io::write_all(1, text);
-    io::write_all(1, b"]\n");
-}
-
-// The first place from `at` on that holds a line feed, or the end of the text.
-fn line_end(text: &[u8], at: usize) -> usize
-    requires { ⌜ at ≤ length (now text) ⌝ }
-    ensures { λ r. ⌜ (at ≤ r) × (r ≤ length (now (text .entry))) ⌝ }
-{
-    let mut i = at;
-    while i < text.len() {
-        if text[i] == b'\n' {
-            return i;
-        }
-        i += 1;
-    }
-    i
-}
-
-// The bytes from one place up to another.
-fn part(text: &[u8], from: usize, to: usize) -> &[u8]
-    requires { ⌜ (from ≤ to) × (to ≤ length (now text)) ⌝ }
-{
-    &text[from..to]
+    test_lines::print_answer(declaration_form::has_form(text));
+    test_lines::print_text(text);
 }
 
 fn tell_lines(text: &[u8]) {
     let mut i = 0;
     while i < text.len() {
-        let end = line_end(text, i);
-        tell(part(text, i, end));
-        i = end + 1;
+        tell(test_lines::line_at(text, i));
+        i = test_lines::next_line(text, i);
     }
 }
 

@@ -2,8 +2,6 @@
 // with the whole book. Each line of output has the refusal's number, the parent's number, the count of factors, the
 // factor of each of the five names, the mode of each of the first five factors, and the text between `[` and `]`.
 // `tests/reading_cases.py` has the texts and what is due of each.
-ghost use Prim.Native.Nat.{_≤_};
-ghost use lib.ListN.{length};
 use declaration_reading::Declaration;
 
 // How many names the book has.
@@ -19,38 +17,17 @@ fn cut_book() -> [u8; 17] {
     [5, 0, 5, b'E', b'M', b'P', b'T', b'Y', 1, b'a', 1, b'b', 1, b'c', 1, b'd', 0]
 }
 
-// One entry of a row.
-fn tell_entry(entry: u8) {
-    io::print_decimal(1, entry as u64);
-    io::write_all(1, b" ");
-}
-
-// The entries of the first five places.
-fn tell_row(row: &[u8]) {
-    let mut i = 0;
-    while i < NAMES {
-        if i < row.len() {
-            tell_entry(row[i]);
-        }
-        i += 1;
-    }
-}
-
 // One line.
 fn tell(read: Declaration, text: &[u8]) {
     let outcome = read.outcome;
-    io::print_decimal(1, refusal::outcome_number(outcome) as u64);
-    io::write_all(1, b" ");
-    io::print_decimal(1, read.parent as u64);
-    io::write_all(1, b" ");
-    io::print_decimal(1, read.model.count as u64);
-    io::write_all(1, b" | ");
-    tell_row(&read.model.factor);
-    io::write_all(1, b"| ");
-    tell_row(&read.model.mode);
-    io::write_all(1, b"[");
-    io::write_all(1, text);
-    io::write_all(1, b"]\n");
+    test_lines::print_field(refusal::outcome_number(outcome) as usize);
+    test_lines::print_field(read.parent);
+    test_lines::print_field(read.model.count);
+    test_lines::print(b"| ");
+    test_lines::print_row(&read.model.factor, NAMES);
+    test_lines::print(b"| ");
+    test_lines::print_row(&read.model.mode, NAMES);
+    test_lines::print_text(text);
 }
 
 fn tell_cut(text: &[u8]) {
@@ -63,27 +40,11 @@ fn tell_text(text: &[u8]) {
     tell(declaration_reading::read_declaration(&book, text), text);
 }
 
-// The first place from `at` on that holds a line feed, or the end of the text.
-fn line_end(text: &[u8], at: usize) -> usize
-    requires { ⌜ at ≤ length (now text) ⌝ }
-    ensures { λ r. ⌜ (at ≤ r) × (r ≤ length (now (text .entry))) ⌝ }
-{
-    let mut i = at;
-    while i < text.len() {
-        if text[i] == b'\n' {
-            return i;
-        }
-        i += 1;
-    }
-    i
-}
-
 fn tell_lines(text: &[u8]) {
     let mut i = 0;
     while i < text.len() {
-        let end = line_end(text, i);
-        tell_text(book::part(text, i, end));
-        i = end + 1;
+        tell_text(test_lines::line_at(text, i));
+        i = test_lines::next_line(text, i);
     }
 }
 

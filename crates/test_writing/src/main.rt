@@ -71,12 +71,10 @@ fn pairs() -> Model {
 // One line: how the call ended, and the whole buffer.
 fn report(written: Written, buffer: &[u8]) {
     let outcome = written.outcome;
-    io::print_decimal(1, refusal::outcome_number(outcome) as u64);
-    io::write_all(1, b" ");
-    io::print_decimal(1, written.length as u64);
-    io::write_all(1, b" ");
-    io::write_all(1, buffer);
-    io::write_all(1, b"\n");
+    test_lines::print_field(refusal::outcome_number(outcome) as usize);
+    test_lines::print_field(written.length);
+    test_lines::print(buffer);
+    test_lines::print(b"\n");
 }
 
 fn in_40(book: &[u8], parent: usize, m: Model) {

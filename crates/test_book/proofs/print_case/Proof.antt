@@ -9,7 +9,6 @@ use Rattle.test_book.proofs.print_case.Lts as lts
 use Rattle.book_reading.proofs.read_book.Reads as read-book-reads
 use Rattle.test_book.proofs.print_head.Reads as print-head-reads
 use Rattle.test_book.proofs.print_rest.Reads as print-rest-reads
-use Rattle.io.proofs.write_all.Reads as write-all-reads
 use Rattle.refusal.proofs.outcome_number.Reads as outcome-number-reads
 
 read-book-requires : tie.Need-read-book-requires
@@ -30,11 +29,11 @@ print-rest-requires c κs = laid-out _ _ (c .before .before .before .before .bef
 enum-told-2 : tie.Need-enum-told-2
 enum-told-2 c = search needs
 
-slice-aggregate-write-all : tie.Need-slice-aggregate-write-all
-slice-aggregate-write-all c = search needs
+slice-aggregate-print : tie.Need-slice-aggregate-print
+slice-aggregate-print c = search needs
 
-write-all-requires : tie.Need-write-all-requires
-write-all-requires c κs = search needs
+print-requires : tie.Need-print-requires
+print-requires c κs = search needs
 
 returns : tie.Need-returns
 returns c = search needs
@@ -49,6 +48,6 @@ print-case-spec =
     enum-told
     print-rest-requires
     enum-told-2
-    slice-aggregate-write-all
-    write-all-requires
+    slice-aggregate-print
+    print-requires
     returns)
