@@ -14,10 +14,10 @@ import book as tool  # noqa: E402
 import book_cases  # noqa: E402
 
 
-def run(*arguments, fed=b"", redirected=""):
-    """Status, output and messages of the tool; `redirected` is put behind the command, as in a shell."""
+def run(*arguments, fed=b"", redirected="", folder=None):
+    """Status, output and messages of the tool, in a folder; `redirected` is put behind the command, as in a shell."""
     command = ["sh", "-c", f'"$@" {redirected}', "sh", sys.executable, str(TOOL), *map(str, arguments)]
-    done = subprocess.run(command, input=fed, capture_output=True)
+    done = subprocess.run(command, input=fed, capture_output=True, cwd=folder)
     return done.returncode, done.stdout, done.stderr.decode()
 
 
@@ -223,6 +223,11 @@ class Commands(unittest.TestCase):
             self.assertEqual(book.read_bytes(), b"\1\0\1e\1\0\0\0")
             status, _, said = run("make", "-o", folder, "-", fed=b"<e/>")
             self.assertEqual(status, 1)
+
+    def test_a_dash_is_standard_output(self):
+        with tempfile.TemporaryDirectory() as folder:
+            self.assertEqual(run("make", "-o", "-", "-", fed=b"<e/>", folder=folder), (0, b"\1\0\1e\1\0\0\0", ""))
+            self.assertEqual(list(pathlib.Path(folder).iterdir()), [])
 
     def test_output_that_cannot_be_written(self):
         for command in (("make", "-"), ("show", ROOT / "samples" / "feed.book")):

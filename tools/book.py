@@ -1,8 +1,10 @@
 #!/usr/bin/env python3
 """Sample books from feeds, and books as lines of text.
 
-  book.py make [--distinct] [-o BOOK] FILE..    a book from XML documents or from lines; '-' is standard input
+  book.py make [--distinct] [-o BOOK] FILE..    a book from XML documents or from lines
   book.py show [BOOK]                           a book as lines
+
+'-' is standard input, but behind -o standard output, as where -o is not given.
 
 A file that begins with '<' is an XML document; any other file holds lines:
 
@@ -384,7 +386,7 @@ def main(arguments=None):
     commands = parser.add_subparsers(dest="command", required=True)
     maker = commands.add_parser("make", help="a book from XML documents or from lines")
     maker.add_argument("--distinct", action="store_true", help="keep equal blocks once")
-    maker.add_argument("-o", dest="out", metavar="BOOK", help="the book's file; standard output if none is given")
+    maker.add_argument("-o", dest="out", metavar="BOOK", default="-", help="the book's file; standard output if none is given")
     maker.add_argument("files", nargs="+", metavar="FILE")
     shower = commands.add_parser("show", help="a book as lines")
     shower.add_argument("book", nargs="?", default="-", metavar="BOOK")
@@ -398,7 +400,7 @@ def main(arguments=None):
     try:
         if chosen.command == "make":
             book = make(chosen.files, chosen.distinct, say)
-            if chosen.out is not None:
+            if chosen.out != "-":
                 write_file(chosen.out, chosen.out, book)
             elif sys.stdout is not None and sys.stdout.isatty():
                 raise Bad("a book is no text: give it a file with -o BOOK, or a pipe")
