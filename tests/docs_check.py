@@ -1,8 +1,8 @@
 #!/usr/bin/env python3
 """Checks what README.md, CONTRIBUTING.md and docs/ say against the repository.
 
-  docs_check.py            all checks; where target/bin/dtd is not built, those that run it are skipped, with a note
-  docs_check.py --static   all checks but those that run target/bin/dtd
+  docs_check.py            all checks; where a program is not built, those that run it are skipped, with a note
+  docs_check.py --static   all checks but those that run the programs target/bin/dtd and target/bin/test_reading
   docs_check.py --counts   rewrites the line counts of docs/TRUST.md, and checks nothing
 
 The checks:
@@ -12,7 +12,9 @@ The checks:
 - the columns of crates in the tables of README.md have crates of crates.txt, and README.md names every crate;
 - in docs/TRUST.md, a table row with a file and a number has the file's number of lines;
 - in docs/FORMAT.md, the offsets in each code block `hex` are right, and dtd prints for its bytes the next code block
-  `dtd`; for the bytes in a table with a column "`dtd` prints" it prints what the table says.
+  `dtd`; for the bytes in a table with a column "`dtd` prints" it prints what the table says;
+- in docs/FORMAT.md, test_reading, whose book has the names EMPTY, a, b, c and d, answers for the texts in a table with
+  a column "Result" what the table says. It takes lines, so it gets no text with a line feed.
 
 Each finding is a line FILE:LINE: message. The exit status is 1 where there is one.
 """
@@ -25,6 +27,7 @@ from collections import namedtuple
 
 ROOT = pathlib.Path(__file__).resolve().parent.parent
 DTD = ROOT / "target" / "bin" / "dtd"
+READER = ROOT / "target" / "bin" / "test_reading"
 WIDEST = 120
 
 # A line of a document; `block` has the number of the first line of the code block that it is in, and what follows ```.
@@ -41,6 +44,8 @@ NAMES = r"(?P<names>`[^`\s/]+`(?:(?:, | and |, and )`[^`\s/]+`)*)"
 FILE_THEN_NAMES = re.compile(FILE + r"(?:: | the \w+ )" + NAMES)
 NAMES_THEN_FILE = re.compile(NAMES + r"(?:\s*[,|:(]\s*| in | of | from )" + FILE)
 
+# How a text of docs/FORMAT.md names a byte that is not shown.
+BYTE_NAMES = {"a space": " ", "a tab": "\t", "a line feed": "\n"}
 BYTES = r"[0-9a-f]{2}(?: [0-9a-f]{2})*"
 SUM = re.compile(r'Sum of (all rows|the rows without "read already"|the rows down to ([\w.]+)): ([\d,]+)')
 PROMISE = re.compile(r"\| `(\w+)` in (crates/\S+\.rt) \| `(\w+)` in crates/\S+\.antt \|$")
@@ -262,27 +267,54 @@ def wrong_output(line, book, said):
         yield finding(line, f"dtd prints {printed!r} for this book, and the page has {said!r}")
 
 
-def check_format(lines, run, findings):
-    """Adds what is found in docs/FORMAT.md, and returns the number of books that dtd was given."""
-    cases = list(books(lines, findings))
-    for case in cases if run else []:
+def texts_of(cell):
+    """The texts that a cell describes, such as: `x`, `y`; or: a space and `x`; or: `(X)`, X a name of 33 letters."""
+    cell, _, letters = cell.partition(", X a name of ")
+    for text in re.split(", (?=`)", cell.replace("\\|", "|")):
+        text = "".join(BYTE_NAMES.get(piece, piece.strip("`")) for piece in text.split(" and "))
+        yield text.replace("X", "X" * int(letters.split()[0])) if letters else text
+
+
+def texts(lines):
+    """Each text of the page with the number that it is read with, 0 for "read", as it is said: line, text, number."""
+    for line, row, said in rows_under("result", lines):
+        if re.fullmatch(r"read|\d+", said):
+            found = (text for text in texts_of(row[0]) if "\n" not in text)
+            yield from ((line, text, 0 if said == "read" else int(said)) for text in found)
+
+
+def wrong_readings(cases):
+    """The program prints a line of its own, then one for each text that it is given, with the number in front."""
+    given = "".join(text + "\n" for _, text, _ in cases).encode()
+    _, *printed = subprocess.run([READER], input=given, capture_output=True, timeout=60).stdout.decode().split("\n")
+    for (line, text, said), answer in zip(cases, printed + [""] * len(cases)):
+        if answer.split(" ")[0] != str(said):
+            yield finding(line, f"test_reading prints {answer!r} for {text!r}, and the page has {said or 'read'}")
+
+
+def check_format(lines, programs, findings):
+    """Adds what is found in docs/FORMAT.md, and returns the numbers of books and of texts that were given to programs."""
+    of_books, of_texts = list(books(lines, findings)), list(texts(lines))
+    for case in of_books if DTD in programs else []:
         findings += wrong_output(*case)
-    return len(cases) if run else 0
+    findings += wrong_readings(of_texts) if READER in programs else []
+    return len(of_books) * (DTD in programs), len(of_texts) * (READER in programs)
 
 
-def check(run):
-    findings, ran, names = [], 0, 0
+def check(programs):
+    findings, ran, names = [], (0, 0), 0
     for file in documents():
         lines = list(lines_of(file))
         checks = [wide_lines, missing_paths, dead_links, wrong_citations]
         checks += {"README.md": [wrong_crates], "TRUST.md": [wrong_counts, wrong_sums, wrong_promises]}.get(file.name, [])
         found = [one for each in checks for one in each(lines)]
         if file.name == "FORMAT.md":
-            ran += check_format(lines, run, found)
+            ran = check_format(lines, programs, found)
         findings += sorted(found, key=lambda one: int(one.split(":")[1]))
         names += len(list(cited(lines)))
     print(*findings, sep="\n", end="\n" if findings else "")
-    print(f"docs: {len(documents())} files, {names} citations, {ran} books given to dtd, {len(findings)} findings")
+    print(f"docs: {len(documents())} files, {names} citations, {ran[0]} books given to dtd, "
+          f"{ran[1]} texts given to test_reading, {len(findings)} findings")
     return 1 if findings else 0
 
 
@@ -291,9 +323,12 @@ def main(arguments):
         return write_counts(ROOT / "docs" / "TRUST.md")
     if arguments not in ([], ["--static"]):
         return __doc__
-    if not arguments and not DTD.exists():
-        print("docs: target/bin/dtd is not built, so that what it prints is not checked; rt check dtd builds it")
-    return check(not arguments and DTD.exists())
+    wanted = [] if arguments else [DTD, READER]
+    for program in wanted:
+        if not program.exists():
+            print(f"docs: target/bin/{program.name} is not built, so that what it prints is not checked; "
+                  f"rt check {program.name} builds it")
+    return check([program for program in wanted if program.exists()])
 
 
 if __name__ == "__main__":
