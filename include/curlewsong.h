@@ -7,17 +7,17 @@
  * refusal: 0 where the call was not refused, else one of these numbers.
  *
  *    1  the book has more than 60,000 bytes
- *    2  the book: bytes are missing for a field
+ *    2  the book ends before one of its fields is complete
  *    3  the count of names is 0 or above 64
- *    4  the book: a name has a bad length or a bad byte
- *    5  the book: a name is not above the one before it
- *    6  the book: a parent or child number is not below the count of names
- *    7  the book: bytes are left over after the last block
+ *    4  a name in the book has a length other than 1 to 32, or a byte that breaks the rule for names
+ *    5  a name in the book is not above the name before it
+ *    6  a parent or child number in the book is not below the count of names
+ *    7  the book has bytes left over after its last block
  *    8  the parent asked for is not below the count of names
- *    9  no block of the book has the parent whose model is wanted from its blocks
- *   10  the model is no chain over the names
- *   11  the word has more than 255 names, or a number not below the count of names
- *   12  the buffer is shorter than the declaration
+ *    9  no block in the book has the parent whose model is wanted from the sample
+ *   10  the model record is not a chain over the names
+ *   11  the word has more than 255 names, or a number that is not below the count of names
+ *   12  the output buffer is shorter than the declaration
  *   13  the text does not have the form of a declaration
  *   14  a name in the text, the parent's included, is not in the book
  *   15  the model in the text has a name twice

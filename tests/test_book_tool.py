@@ -197,7 +197,7 @@ class Commands(unittest.TestCase):
     def test_refused_book(self):
         status, out, said = run("show", fed=book_cases.EXAMPLE[:-1])
         self.assertEqual((status, out), (1, b""))
-        self.assertIn("refused 2: bytes are missing", said)
+        self.assertIn("refused 2: the book ends before one of its fields is complete", said)
 
     def test_missing_file(self):
         status, out, said = run("make", "no-such-file")

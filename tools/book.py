@@ -41,12 +41,12 @@ UTF_16 = (b"\xfe\xff", b"\xff\xfe")
 
 REASONS = {
     1: "the book has more than 60,000 bytes",
-    2: "bytes are missing",
+    2: "the book ends before one of its fields is complete",
     3: "the count of names is 0 or above 64",
-    4: "a name has a bad length or a bad byte",
-    5: "a name is not above the one before it",
-    6: "a number is not below the count of names",
-    7: "bytes are left over after the last block",
+    4: "a name in the book has a length other than 1 to 32, or a byte that breaks the rule for names",
+    5: "a name in the book is not above the name before it",
+    6: "a parent or child number in the book is not below the count of names",
+    7: "the book has bytes left over after its last block",
 }
 
 

@@ -3,37 +3,38 @@ ghost use mathlib.Core.Path.{_≡_};
 ghost use Rattle.refusal.specs.Table.{numberOf};
 ghost use Rattle.refusal.specs.Answer.{outcomeNumber};
 
-// One variant for each number of paper 01's table, in the table's order.
+// One variant for each number of paper 01's table, in the table's order. The comments are the refusals' texts:
+// tests/refusals_check.py compares every other place that has a number, a name or a text with this list.
 pub enum Refusal {
     // 1: the book has more than 60,000 bytes.
     BookTooLong,
-    // 2: bytes are missing for a field.
+    // 2: the book ends before one of its fields is complete.
     BytesMissing,
-    // 3: the count of names is 0 or above the number of places.
+    // 3: the count of names is 0 or above 64.
     BadNameCount,
-    // 4: a name's length or one of its bytes breaks the rule for names.
+    // 4: a name in the book has a length other than 1 to 32, or a byte that breaks the rule for names.
     BadName,
-    // 5: a name is not above the one before it.
+    // 5: a name in the book is not above the name before it.
     NameNotAbove,
-    // 6: a parent or child number in a block is not below the count of names.
+    // 6: a parent or child number in the book is not below the count of names.
     NumberNotBelow,
-    // 7: bytes are left over after the last block.
+    // 7: the book has bytes left over after its last block.
     BytesLeftOver,
     // 8: the parent asked for is not below the count of names.
     BadParent,
-    // 9: no block has the parent whose model is wanted from the sample.
+    // 9: no block in the book has the parent whose model is wanted from the sample.
     NoBlock,
-    // 10: the model record is no chain over the names.
+    // 10: the model record is not a chain over the names.
     NotAChain,
-    // 11: the word has more than 255 names, or a number not below the count of names.
+    // 11: the word has more than 255 names, or a number that is not below the count of names.
     BadWord,
     // 12: the output buffer is shorter than the declaration.
     BufferTooShort,
     // 13: the text does not have the form of a declaration.
     NotADeclaration,
-    // 14: the declaration has a name that is not in the book.
+    // 14: a name in the text, the parent's included, is not in the book.
     UnknownName,
-    // 15: the model has a name twice.
+    // 15: the model in the text has a name twice.
     NameTwice,
 }
 

@@ -53,5 +53,5 @@ fn written_and_read() {
 
 #[test]
 fn reasons() {
-    assert_eq!(Refusal(9).to_string(), "refused 9: no block of the book has the parent");
+    assert_eq!(Refusal(9).to_string(), "refused 9: no block in the book has the parent whose model is wanted from the sample");
 }
