@@ -116,6 +116,14 @@ def conditions(root):
     return {call: list(fields(record)) for call, record in CALLS.items()}
 
 
+def unknown_records(root):
+    """The records of conditions whose call is not among CALLS."""
+    for line, text in enumerate((root / CONDITIONS).read_text().splitlines(), 1):
+        record = re.match(r"pub record (\w+Conditions) ", text)
+        if record and record.group(1) not in CALLS.values():
+            yield finding(CONDITIONS, line, f"record {record.group(1)}", "in CALLS of tests/refusals_check.py")
+
+
 def numbers_in(text):
     """The numbers of a text such as `1 to 7, 8, 9`."""
     found = re.findall(r"(\d+)(?: to (\d+))?", text)
@@ -168,7 +176,7 @@ def findings(root):
     found = []
     for place in PLACES:
         found += wrong_rows(root, place, [one for one in refusals if not place.of_book or one.number in book])
-    return found + list(wrong_calls(root)) + list(wrong_givers(root))
+    return [*found, *unknown_records(root), *wrong_calls(root), *wrong_givers(root)]
 
 
 def main():

@@ -109,6 +109,11 @@ class Refusals(unittest.TestCase):
         self.assertEqual(found, f"docs/FORMAT.md:{line}: 9 is given by `model_of_parent`\n"
                                 "    should be: model_of_parent, write_from_sample")
 
+    def test_conditions_of_an_unknown_call(self):
+        place = "-- Acceptance of the word"
+        (found,), line = self.planted(checker.CONDITIONS, place, f"pub record NewConditions :\n\n{place}")
+        self.assertTrue(found.startswith(f"{checker.CONDITIONS}:{line}: record NewConditions\n    should be: in CALLS"))
+
     def test_a_new_condition_of_a_book(self):
         """Its text is asked for in the tool, too."""
         field = "  pub seven : (k ≡ 7)"
