@@ -15,6 +15,7 @@ use Rattle.refusal.specs.declared.Refusal.{Refusal}
 use Rattle.refusal.specs.declared.Refusal.the-variants.{BookTooLong}
 use Rattle.refusal.specs.declared.Outcome.the-variants.{Done, Refused}
 use Rattle.refusal.specs.Answer.{Answer, given, refused, onward}
+use Rattle.refusal.proofs.Laws.{refused-alike, Done≢Refused}
 use Rattle.refusal.proofs.Answers.{onward-given, check-given, given-same}
 use Rattle.nameset.specs.Places.{places}
 use Rattle.nameset.proofs.Count.{count-bounds}
@@ -206,26 +207,20 @@ module _ (s : List ℕ) (l : Layout) (laid : LaidOut s l) where
       ap (λ (x : Layout). getD (x .offsets) i 0) (laid .same) ∙ table-entry (laid .book .names) (laid-told .few-names) i k in
       rw (names-in, e) (name-laid-at s (getD (offsetsFrom countSize (laid .book .names)) i 0) (getD (laid .book .names) i []) (t .0) (t .1))
 
+-- what the reading of an answer tells of it: the book that was given, with its layout, or the refusal
+pub reading-done : (a : Answer Book) (r : Reading) → r ≡ readingOf a → r .outcome ≡ Done → (b : Book) × (a ≡ given b) × (r .layout ≡ layoutOf b)
+unfolding readingOf noReading
+reading-done (given b) r e d = (b, refl, ap (λ (x : Reading). x .layout) e)
+reading-done (refused f) r e d = absurd (Done≢Refused f (sym d ∙ ap (λ (x : Reading). x .outcome) e))
+
+pub reading-refused : (a : Answer Book) (r : Reading) (f : Refusal) → r ≡ readingOf a → r .outcome ≡ Refused f → a ≡ refused f
+unfolding readingOf noReading
+reading-refused (given b) r f e o = absurd (Done≢Refused f (sym (ap (λ (x : Reading). x .outcome) e) ∙ o))
+reading-refused (refused g) r f e o = ap refused (refused-alike g f (sym (ap (λ (x : Reading). x .outcome) e) ∙ o))
+
 -- a book that was read without a refusal is laid out as the answer says
 pub laid-out : (s : List ℕ) (r : Reading) → r ≡ readingOf (bookOf s) → r .outcome ≡ Done → LaidOut s (r .layout)
-unfolding readingOf noReading
-laid-out s r e d = go (bookOf s) refl e
-  where
-    go : (a : Answer Book) → bookOf s ≡ a → r ≡ readingOf a → LaidOut s (r .layout)
-    go (given b) q e = record { book = b; read = q; same = ap (λ (x : Reading). x .layout) e }
-    go (refused f) q e =
-        let o : Refused f ≡ Done = sym (ap (λ (x : Reading). x .outcome) e) ∙ d in
-        absurd (false≢true cc)
-
--- a book whose answer is a refusal is refused by its definition too
-pub book-refused : (a : Answer Book) (r : Reading) (f : Refusal) → r ≡ readingOf a → r .outcome ≡ Refused f → a ≡ refused f
-unfolding readingOf noReading
-book-refused (given b) r f e o =
-    let q : Done ≡ Refused f = sym (ap (λ (x : Reading). x .outcome) e) ∙ o in
-    absurd (false≢true cc)
-book-refused (refused g) r f e o =
-    let q : Refused g ≡ Refused f = sym (ap (λ (x : Reading). x .outcome) e) ∙ o in
-    cc
+laid-out s r e d = let (b, q, l) = reading-done (bookOf s) r e d in record { book = b; read = q; same = l }
 
 -- ---- its words
 

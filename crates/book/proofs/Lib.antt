@@ -10,4 +10,5 @@ pub mod FieldStops
 pub mod NameStops
 pub mod BlockStops
 pub mod Stops
+pub mod Taken
 pub mod Onward

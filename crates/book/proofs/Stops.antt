@@ -11,7 +11,7 @@ use lib.Dec.{ltb}
 use lib.ListN.{length}
 use borrow.Author.Tests.{lt-ltb, le-ltb, ltb-true, ltb-false, not-true, not-false}
 use Rattle.refusal.specs.declared.Refusal.{Refusal}
-use Rattle.refusal.specs.declared.Refusal.the-variants.{BookTooLong, BytesMissing, BadNameCount, BadName, NameNotAbove, NumberNotBelow, BytesLeftOver, BadParent, NoBlock, NotAChain, BadWord, BufferTooShort, NotADeclaration, UnknownName, NameTwice}
+use Rattle.refusal.specs.declared.Refusal.the-variants.{BookTooLong, BytesMissing, BadNameCount, BadName, NameNotAbove, NumberNotBelow, BytesLeftOver}
 use Rattle.refusal.specs.Table.{ofBook}
 use Rattle.refusal.specs.Answer.{Answer, given, refused, onward, refuseIf}
 use Rattle.refusal.proofs.Answers.{onward-given, check-given, given-same, given-refused, onward-refused, check-refused}
@@ -20,7 +20,7 @@ use Rattle.nameset.proofs.Count.{count-bounds, bounds-count, count-bad}
 use Rattle.book.specs.Field.{Field, field, countSize, countAt, countOf}
 use Rattle.book.specs.Book.{Block, Book, longestBook, nameOf, namesOf, blockOf, blocksOf, nameSection, blockSection, bookOf, IsBook}
 use Rattle.book.specs.Bytes.{blocksBytes}
-use Rattle.book.specs.Stops.{lastOf, BlocksBelow, NamesRead, AtName, AtSection, BlocksRead, AtBlock, AtEnd, Whole, Missing, BadCount, Stops}
+use Rattle.book.specs.Stops.{lastOf, BlocksBelow, NamesRead, AtName, AtSection, BlocksRead, AtBlock, AtEnd, Whole, Missing, BadCount, Stops, too-long, missing-bytes, bad-count, bad-name, low-name, bad-block, left-over}
 use Rattle.book.proofs.Counts.{count-missing, count-given}
 use Rattle.book.proofs.Told.{blocks-told}
 use Rattle.book.proofs.Sections.{count-told, NameSectionTold, name-section-told, block-section-told}
@@ -49,17 +49,17 @@ names-read s f short t =
 
 module _ (s : List ℕ) (r : Refusal) where
   at-name : (last rest : List ℕ) → AtName s last rest → NameStop last rest r → Stops s r
-  at-name last rest a (missing h q) = subst (Stops s) q (inr (inl (last, rest, a, h)))
-  at-name last rest a (bad h q) = subst (Stops s) q (last, rest, a, h)
-  at-name last rest a (low h q) = subst (Stops s) q (last, rest, a, h)
+  at-name last rest a (missing h q) = subst (Stops s) q (missing-bytes (inr (inl (last, rest, a, h))))
+  at-name last rest a (bad h q) = subst (Stops s) q (bad-name a h)
+  at-name last rest a (low h q) = subst (Stops s) q (low-name a h)
 
   at-block : (rest : List ℕ) → AtBlock s rest → BlockStop (countAt s 0) rest r → Stops s r
-  at-block rest a (cut h q) = subst (Stops s) q (inr (inr (inr (rest, a, h))))
-  at-block rest a (over h q) = subst (Stops s) q (rest, a, h)
+  at-block rest a (cut h q) = subst (Stops s) q (missing-bytes (inr (inr (inr (rest, a, h)))))
+  at-block rest a (over h q) = subst (Stops s) q (bad-block a h)
 
   in-names : length s ≤ longestBook → nameSection s ≡ refused r → Stops s r
   unfolding nameSection
-  in-names short e = ⊎-elim (λ h. let k = count-stop s r h in subst (Stops s) (k .1) (inl (k .0))) (λ h. counted (h .0) (h .1) (h .2)) (onward-refused (countOf s) _ r e)
+  in-names short e = ⊎-elim (λ h. let k = count-stop s r h in subst (Stops s) (k .1) (missing-bytes (inl (k .0)))) (λ h. counted (h .0) (h .1) (h .2)) (onward-refused (countOf s) _ r e)
     where
       named : (n : Field ℕ) → countOf s ≡ given n → goodCount (n .value) ≡ true → NamesStop (n .value) [] (n .rest) r → Stops s r
       named n h g u =
@@ -89,13 +89,13 @@ module _ (s : List ℕ) (r : Refusal) where
 
       counted : (n : Field ℕ) → countOf s ≡ given n → refuseIf (not (goodCount (n .value))) BadNameCount (namesOf (n .value) [] (n .rest)) ≡ refused r → Stops s r
       counted n h e =
-          ⊎-elim (λ k. subst (Stops s) (k .1) (no-count n h (not-true _ (k .0)))) (λ k. named n h (not-false _ (k .0)) (names-stop (n .value) [] (n .rest) r (k .1)))
+          ⊎-elim (λ k. subst (Stops s) (k .1) (bad-count (no-count n h (not-true _ (k .0))))) (λ k. named n h (not-false _ (k .0)) (names-stop (n .value) [] (n .rest) r (k .1)))
           (check-refused (not (goodCount (n .value))) BadNameCount _ r e)
 
   in-blocks : (rest : List ℕ) → AtSection s rest → blockSection (countAt s 0) rest ≡ refused r → Stops s r
   unfolding blockSection
   in-blocks rest a e =
-      ⊎-elim (λ h. let k = count-stop rest r h in subst (Stops s) (k .1) (inr (inr (inl (rest, a, k .0))))) (λ h. counted (h .0) (h .1) (h .2)) (onward-refused (countOf rest) _ r e)
+      ⊎-elim (λ h. let k = count-stop rest r h in subst (Stops s) (k .1) (missing-bytes (inr (inr (inl (rest, a, k .0)))))) (λ h. counted (h .0) (h .1) (h .2)) (onward-refused (countOf rest) _ r e)
     where
       so-far : (m : Field ℕ) → countOf rest ≡ given m → (bs : List Block) (after : List ℕ) → BlocksBelow (countAt s 0) bs → m .rest ≡ blocksBytes bs after → BlocksRead s (m .value) bs after
       so-far m h bs after w q =
@@ -107,7 +107,7 @@ module _ (s : List ℕ) (r : Refusal) where
       ended m h g b e =
           let t = blocks-told (countAt s 0) (m .value) (m .rest) g b in
           let d : AtEnd s (g .rest) = record { m = m .value; blocks = g .value; read = so-far m h (g .value) (g .rest) (t .within) (t .bytes); all = t .many } in
-          ⊎-elim (λ k. subst (Stops s) (k .1) (g .rest, d, ltb-true 0 (length (g .rest)) (k .0))) (λ k. absurd (given-refused _ r (k .1)))
+          ⊎-elim (λ k. subst (Stops s) (k .1) (left-over d (ltb-true 0 (length (g .rest)) (k .0)))) (λ k. absurd (given-refused _ r (k .1)))
           (check-refused (ltb 0 (length (g .rest))) BytesLeftOver _ r e)
 
       blocked : (m : Field ℕ) → countOf rest ≡ given m → BlocksStop (countAt s 0) (m .value) (m .rest) r → Stops s r
@@ -129,7 +129,7 @@ module _ (s : List ℕ) (r : Refusal) where
   refused-stops : bookOf s ≡ refused r → Stops s r
   unfolding bookOf
   refused-stops e =
-      ⊎-elim (λ h. subst (Stops s) (h .1) (ltb-true longestBook (length s) (h .0))) (λ h. read (ltb-false longestBook (length s) (h .0)) (h .1))
+      ⊎-elim (λ h. subst (Stops s) (h .1) (too-long (ltb-true longestBook (length s) (h .0)))) (λ h. read (ltb-false longestBook (length s) (h .0)) (h .1))
       (check-refused (ltb longestBook (length s)) BookTooLong _ r e)
     where
       read : length s ≤ longestBook → onward (nameSection s) behind-names ≡ refused r → Stops s r
@@ -194,21 +194,13 @@ module _ (s : List ℕ) where
 
   stops-refused : (r : Refusal) → Stops s r → bookOf s ≡ refused r
   unfolding bookOf
-  stops-refused BookTooLong h = rw (lt-ltb longestBook (length s) h)
-  stops-refused BytesMissing h = missing-refused h
-  stops-refused BadNameCount h = bad-count-refused h
-  stops-refused BadName (last, rest, a, h) = name-refused last rest a BadName (name-bad last rest h)
-  stops-refused NameNotAbove (last, rest, a, h) = name-refused last rest a NameNotAbove (name-low last rest h)
-  stops-refused NumberNotBelow (rest, a, h) = block-refused rest a NumberNotBelow (block-bad (countAt s 0) rest h)
-  stops-refused BytesLeftOver (rest, a, l) = left-over-refused rest a l
-  stops-refused BadParent h = absurd h
-  stops-refused NoBlock h = absurd h
-  stops-refused NotAChain h = absurd h
-  stops-refused BadWord h = absurd h
-  stops-refused BufferTooShort h = absurd h
-  stops-refused NotADeclaration h = absurd h
-  stops-refused UnknownName h = absurd h
-  stops-refused NameTwice h = absurd h
+  stops-refused BookTooLong (too-long h) = rw (lt-ltb longestBook (length s) h)
+  stops-refused BytesMissing (missing-bytes h) = missing-refused h
+  stops-refused BadNameCount (bad-count h) = bad-count-refused h
+  stops-refused BadName (bad-name {last} {rest} a h) = name-refused last rest a BadName (name-bad last rest h)
+  stops-refused NameNotAbove (low-name {last} {rest} a h) = name-refused last rest a NameNotAbove (name-low last rest h)
+  stops-refused NumberNotBelow (bad-block {rest} a h) = block-refused rest a NumberNotBelow (block-bad (countAt s 0) rest h)
+  stops-refused BytesLeftOver (left-over {rest} a l) = left-over-refused rest a l
 
 -- Bytes are refused by a number exactly where its condition holds.
 pub book-refused : (s : List ℕ) (r : Refusal) → (bookOf s ≡ refused r) ↔ Stops s r
@@ -256,18 +248,10 @@ pub book-stops : (s : List ℕ) (r : Refusal) → bookOf s ≡ refused r → ofB
 book-stops s r e = own r (refused-stops s r e)
   where
     own : (r : Refusal) → Stops s r → ofBook r ≡ true
-    own BookTooLong h = refl
-    own BytesMissing h = refl
-    own BadNameCount h = refl
-    own BadName h = refl
-    own NameNotAbove h = refl
-    own NumberNotBelow h = refl
-    own BytesLeftOver h = refl
-    own BadParent h = absurd h
-    own NoBlock h = absurd h
-    own NotAChain h = absurd h
-    own BadWord h = absurd h
-    own BufferTooShort h = absurd h
-    own NotADeclaration h = absurd h
-    own UnknownName h = absurd h
-    own NameTwice h = absurd h
+    own BookTooLong (too-long h) = refl
+    own BytesMissing (missing-bytes h) = refl
+    own BadNameCount (bad-count h) = refl
+    own BadName (bad-name a h) = refl
+    own NameNotAbove (low-name a h) = refl
+    own NumberNotBelow (bad-block a h) = refl
+    own BytesLeftOver (left-over a h) = refl

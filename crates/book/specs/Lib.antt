@@ -4,3 +4,4 @@ pub mod Layout
 pub mod Bytes
 pub mod Access
 pub mod Stops
+pub mod Taken

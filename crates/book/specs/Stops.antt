@@ -9,7 +9,7 @@ use mathlib.Core.List.{List, [], _∷_}
 use mathlib.Core.Logic.{_⊎_}
 use lib.ListN.{length, drop}
 use Rattle.refusal.specs.declared.Refusal.{Refusal}
-use Rattle.refusal.specs.declared.Refusal.the-variants.{BookTooLong, BytesMissing, BadNameCount, BadName, NameNotAbove, NumberNotBelow, BytesLeftOver, BadParent, NoBlock, NotAChain, BadWord, BufferTooShort, NotADeclaration, UnknownName, NameTwice}
+use Rattle.refusal.specs.declared.Refusal.the-variants.{BookTooLong, BytesMissing, BadNameCount, BadName, NameNotAbove, NumberNotBelow, BytesLeftOver}
 use Rattle.nameset.specs.Places.{places, OutOfRange}
 use Rattle.name.specs.Rule.{goodLength, goodBytes}
 use Rattle.name.specs.Order.{rises}
@@ -126,27 +126,19 @@ Missing s = (length s < countSize) ⊎ (((last rest : List ℕ) × AtName s last
 abbrev pub BadCount : List ℕ → Type 0
 BadCount s = (length s ≤ longestBook) × (countSize ≤ length s) × OutOfRange (countAt s 0)
 
--- The bytes are refused by this number, and no number above 7 is one of a book.
-abbrev pub Stops : List ℕ → Refusal → Type 0
--- 1: "above 60,000 bytes"
-Stops s BookTooLong = longestBook < length s
--- 2: "bytes missing for it, before its value"
-Stops s BytesMissing = Missing s
--- 3: "0 or above 64"
-Stops s BadNameCount = BadCount s
--- 4: "bad length or byte"
-Stops s BadName = (last rest : List ℕ) × AtName s last rest × NameBad rest
--- 5: "not above the one before"
-Stops s NameNotAbove = (last rest : List ℕ) × AtName s last rest × NameLow last rest
--- 6: "number not below N"
-Stops s NumberNotBelow = (rest : List ℕ) × AtBlock s rest × BlockBad (countAt s 0) rest
--- 7: "bytes left over"
-Stops s BytesLeftOver = (rest : List ℕ) × AtEnd s rest × (0 < length rest)
-Stops s BadParent = ⊥
-Stops s NoBlock = ⊥
-Stops s NotAChain = ⊥
-Stops s BadWord = ⊥
-Stops s BufferTooShort = ⊥
-Stops s NotADeclaration = ⊥
-Stops s UnknownName = ⊥
-Stops s NameTwice = ⊥
+-- The bytes are refused by this number. There is one line for each number of a book, and no other number is one.
+pub data Stops (s : List ℕ) : Refusal → Type 0 where
+  -- 1: "above 60,000 bytes"
+  too-long : longestBook < length s → Stops s BookTooLong
+  -- 2: "bytes missing for it, before its value"
+  missing-bytes : Missing s → Stops s BytesMissing
+  -- 3: "0 or above 64"
+  bad-count : BadCount s → Stops s BadNameCount
+  -- 4: "bad length or byte"
+  bad-name : {last rest : List ℕ} → AtName s last rest → NameBad rest → Stops s BadName
+  -- 5: "not above the one before"
+  low-name : {last rest : List ℕ} → AtName s last rest → NameLow last rest → Stops s NameNotAbove
+  -- 6: "number not below N"
+  bad-block : {rest : List ℕ} → AtBlock s rest → BlockBad (countAt s 0) rest → Stops s NumberNotBelow
+  -- 7: "bytes left over"
+  left-over : {rest : List ℕ} → AtEnd s rest → 0 < length rest → Stops s BytesLeftOver

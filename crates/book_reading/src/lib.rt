@@ -11,6 +11,7 @@ use refusal::Refusal;
 ghost use mathlib.Core.Path.{_≡_};
 ghost use Rattle.book.specs.Book.{bookOf};
 ghost use Rattle.book.specs.Layout.{readingOf, noReading};
+ghost use Rattle.book.specs.Taken.{takenBook};
 
 // The most bytes that a book has.
 pub const LONGEST: usize = 60000;
@@ -55,4 +56,11 @@ pub fn read_book(bytes: &[u8]) -> Reading
         },
         BlockCount::Stopped(refusal) => refused(refusal),
     }
+}
+
+// The book as every call takes it: read, then checked as a whole. There is nothing to check but what reading does.
+pub fn take_book(bytes: &[u8]) -> Reading
+    ensures { λ r. ⌜ r ≡ readingOf (takenBook (now (bytes .entry))) ⌝ }
+{
+    read_book(bytes)
 }

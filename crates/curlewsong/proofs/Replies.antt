@@ -8,10 +8,10 @@ use Rattle.refusal.specs.Table.{numberOf}
 use Rattle.refusal.specs.Answer.{outcomeNumber}
 use Rattle.declaration_writing.specs.declared.Written.{Written}
 use Rattle.declaration_reading.specs.declared.Declaration.{Declaration}
-use Rattle.intake.specs.declared.Acceptance.{Acceptance}
-use Rattle.intake.specs.declared.Acceptance.the-variants.{Yes, No, Refused}
-use Rattle.intake.specs.declared.Inferred.{Inferred}
-use Rattle.intake.specs.Acceptance.{acceptanceNumber, acceptanceYes}
+use Rattle.intake_word.specs.declared.Acceptance.{Acceptance}
+use Rattle.intake_word.specs.declared.Acceptance.the-variants.{Yes, No, Refused}
+use Rattle.intake_sample.specs.declared.Inferred.{Inferred}
+use Rattle.intake_word.specs.Acceptance.{acceptanceNumber, acceptanceYes}
 use Rattle.curlewsong.specs.Reply.{modelReply, verdict, lengthReply, textReply}
 
 -- ---- a verdict for each case

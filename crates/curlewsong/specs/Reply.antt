@@ -11,11 +11,11 @@ use Rattle.declaration_writing.specs.declared.Written.{Written}
 use Rattle.declaration_writing.specs.Write.{WritesDeclaration}
 use Rattle.declaration_reading.specs.declared.Declaration.{Declaration}
 use Rattle.declaration_reading.specs.Read.{ReadsDeclaration}
-use Rattle.intake.specs.declared.Acceptance.{Acceptance}
-use Rattle.intake.specs.declared.Inferred.{Inferred}
-use Rattle.intake.specs.Acceptance.{acceptanceNumber, acceptanceYes, AcceptsWord}
-use Rattle.intake.specs.Inference.{InfersModel}
-use Rattle.intake.specs.Writing.{WritesSample}
+use Rattle.intake_word.specs.declared.Acceptance.{Acceptance}
+use Rattle.intake_sample.specs.declared.Inferred.{Inferred}
+use Rattle.intake_word.specs.Acceptance.{acceptanceNumber, acceptanceYes, AcceptsWord}
+use Rattle.intake_sample.specs.Inference.{InfersModel}
+use Rattle.intake_sample.specs.Writing.{WritesSample}
 use Rattle.curlewsong.specs.declared.ModelReply.{ModelReply}
 use Rattle.curlewsong.specs.declared.Verdict.{Verdict}
 use Rattle.curlewsong.specs.declared.LengthReply.{LengthReply}

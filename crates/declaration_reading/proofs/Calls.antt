@@ -13,20 +13,20 @@ use Rattle.refusal.specs.declared.Outcome.the-variants.{Done, Refused}
 use Rattle.refusal.specs.Answer.{refused}
 use Rattle.nameset.specs.Places.{places}
 use Rattle.book.specs.declared.Reading.{Reading}
-use Rattle.book.specs.Book.{bookOf, namesIn}
+use Rattle.book.specs.Book.{namesIn}
 use Rattle.book.specs.Layout.{readingOf}
-use Rattle.book.specs.Access.{LaidOut}
-use Rattle.book.proofs.Laws.{laid-out, book-refused}
+use Rattle.book.specs.Taken.{takenBook}
+use Rattle.book.proofs.Taken as Taken
 use Rattle.declaration_spelling.specs.House.{opening}
 use Rattle.declaration_spelling.specs.Form.{strip}
 use Rattle.declaration_spelling.proofs.Tests.{strip-is}
-use Rattle.declaration_spelling.proofs.Books.{few, names-are}
+use Rattle.declaration_spelling.proofs.Books.{few}
 use Rattle.declaration_walk.specs.Walk.{acceptsRest, hasForm}
 use Rattle.declaration_gather.specs.Gather.{tokensAnswer, textAnswer}
 use Rattle.declaration_gather.proofs.Gathered.{text-answer}
 use Rattle.declaration_reading.specs.declared.Declaration.{Declaration}
 use Rattle.declaration_reading.specs.Place.{tokensAt}
-use Rattle.declaration_reading.specs.Read.{readAnswer, declarationOf, noDeclaration, ReadsDeclaration}
+use Rattle.declaration_reading.specs.Read.{readAnswer, declarationOf, ReadsDeclaration}
 
 -- a text that has the form has the nine bytes of `<!ELEMENT`
 opened : (s t : List ℕ) → s ≡ opening ++ t → 9 ≤ length s
@@ -51,25 +51,23 @@ reads s text r e = record {
   model = ap (λ (d : Declaration). d .model) e;
 }
 
-stopped : (s text : List ℕ) (r : Declaration) (f : Refusal) → readAnswer s text ≡ refused f → r ≡ declarationOf (noDeclaration f) → ReadsDeclaration s text r
-unfolding noDeclaration
+stopped : (s text : List ℕ) (r : Declaration) (f : Refusal) → readAnswer s text ≡ refused f → r ≡ declarationOf (refused f) → ReadsDeclaration s text r
 stopped s text r f q e = reads s text r (e ∙ ap declarationOf (sym q))
 
-module _ (s text : List ℕ) (b : Reading) (read : b ≡ readingOf (bookOf s)) where
-  pub stopped-book : (r : Declaration) (f : Refusal) → b .outcome ≡ Refused f → r ≡ declarationOf (noDeclaration f) → ReadsDeclaration s text r
+module _ (s text : List ℕ) (b : Reading) (read : b ≡ readingOf (takenBook s)) where
+  pub stopped-book : (r : Declaration) (f : Refusal) → b .outcome ≡ Refused f → r ≡ declarationOf (refused f) → ReadsDeclaration s text r
   unfolding readAnswer
-  stopped-book r f o e = stopped s text r f (rw (book-refused (bookOf s) b f read o)) e
+  stopped-book r f o e = stopped s text r f (Taken.take-refused s b read _ f o) e
 
   module _ (done : b .outcome ≡ Done) where
-    pub laid : LaidOut s (b .layout)
-    laid = laid-out s b read done
-
     -- the answer is the walk's
     answer-is : readAnswer s text ≡ textAnswer places (namesIn s) text
     unfolding readAnswer
-    answer-is = rw (laid .read, ← names-are s (laid .book) (laid .read)) (sym (text-answer places (namesIn s) (omega arith) (omega arith) (few s (b .layout) laid) text))
+    answer-is =
+        rw (Taken.taken s b read done, ← Taken.names-taken s b read done)
+        (sym (text-answer places (namesIn s) (omega arith) (omega arith) (few s (b .layout) (Taken.laid s b read done)) text))
 
-    pub stopped-form : (r : Declaration) (t : Bool) → t ≡ hasForm text → t ≡ false → r ≡ declarationOf (noDeclaration NotADeclaration) → ReadsDeclaration s text r
+    pub stopped-form : (r : Declaration) (t : Bool) → t ≡ hasForm text → t ≡ false → r ≡ declarationOf (refused NotADeclaration) → ReadsDeclaration s text r
     unfolding textAnswer
     stopped-form r t h q e = stopped s text r NotADeclaration (answer-is ∙ rw (← h, q)) e
 

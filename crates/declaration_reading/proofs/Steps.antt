@@ -31,7 +31,7 @@ use Rattle.declaration_spelling.proofs.Books.{few}
 use Rattle.declaration_gather.specs.Gather.{knownTokens, Rows, startRows, andThen, gatherFrom, modelOf, factorsAnswer, beginsWithWord, contentAnswer, tokensAnswer}
 use Rattle.declaration_reading.specs.declared.Declaration.{Declaration}
 use Rattle.declaration_reading.specs.Place.{tokensAt, partOf, knownKind, numberAt, kindMode, takeKind, freeAt, freeKind, factorAfter, modeAfter, indexAfter}
-use Rattle.declaration_reading.specs.Read.{parentDue, modelDue, declarationOf, noDeclaration, twiceOrUnknown}
+use Rattle.declaration_reading.specs.Read.{parentDue, modelDue, declarationOf, twiceOrUnknown}
 use Rattle.declaration_reading.proofs.Places.{tokens-over, piece-order, piece-onward, known-next, take-next, word-next, answer-next, take-rows}
 
 -- ---- names by the book
@@ -219,19 +219,19 @@ module _ (names : List (List ℕ)) (s : List ℕ) (at parent i index : ℕ) (fac
   unfolding factorsAnswer declarationOf parentDue modelDue modelOf
   factors-done h = rw (knowns ∙ sym (known-over names s i h), inv ∙ left-over names s i index factor mode h, add-one) refl
 
-  pub factors-unknown : (r : Declaration) → false ≡ knownTokens names (tokensAt s i) → r ≡ declarationOf (noDeclaration UnknownName) → r ≡ declarationOf (factorsAnswer places names parent (tokensAt s at))
-  unfolding factorsAnswer noDeclaration
+  pub factors-unknown : (r : Declaration) → false ≡ knownTokens names (tokensAt s i) → r ≡ declarationOf (refused UnknownName) → r ≡ declarationOf (factorsAnswer places names parent (tokensAt s at))
+  unfolding factorsAnswer
   factors-unknown r e q = rw (knowns ∙ sym e) q
 
-  pub factors-twice : (r : Declaration) (b : Bool) → knownTokens names (tokensAt s i) ≡ b → left names s i index factor mode ≡ none → r ≡ declarationOf (noDeclaration (twiceOrUnknown b)) → r ≡ declarationOf (factorsAnswer places names parent (tokensAt s at))
-  unfolding factorsAnswer noDeclaration twiceOrUnknown
+  pub factors-twice : (r : Declaration) (b : Bool) → knownTokens names (tokensAt s i) ≡ b → left names s i index factor mode ≡ none → r ≡ declarationOf (refused (twiceOrUnknown b)) → r ≡ declarationOf (factorsAnswer places names parent (tokensAt s at))
+  unfolding factorsAnswer twiceOrUnknown
   factors-twice r true e n q = rw (knowns ∙ e, inv ∙ n) q
   factors-twice r false e n q = rw (knowns ∙ e) q
 
 -- ---- the model
 
-pub refused-is : (f : Refusal) (m : Model) → m ≡ emptyModel places → record { outcome = Refused f; parent = 0; model = m } ≡ declarationOf (noDeclaration f)
-unfolding declarationOf noDeclaration parentDue modelDue
+pub refused-is : (f : Refusal) (m : Model) → m ≡ emptyModel places → record { outcome = Refused f; parent = 0; model = m } ≡ declarationOf (refused f)
+unfolding declarationOf parentDue modelDue
 refused-is f m e = rw e
 
 module _ (names : List (List ℕ)) (s : List ℕ) (at parent : ℕ) (p : Piece) (is : p ≡ pieceAt s at) where
@@ -255,8 +255,7 @@ module _ (names : List (List ℕ)) (s : List ℕ) (at : ℕ) (p : Piece) (is : p
       (refused NotADeclaration)
   answer-at = rw is (answer-next places names s at)
 
-  pub tokens-none : (r : Declaration) → (p .kind ≡ 1 → ⊥) → r ≡ declarationOf (noDeclaration NotADeclaration) → r ≡ declarationOf (tokensAnswer places names (tokensAt s at))
-  unfolding noDeclaration
+  pub tokens-none : (r : Declaration) → (p .kind ≡ 1 → ⊥) → r ≡ declarationOf (refused NotADeclaration) → r ≡ declarationOf (tokensAnswer places names (tokensAt s at))
   tokens-none r d q = rw (answer-at, ne-eqb (p .kind) 1 d) q
 
   module _ (e : p .kind ≡ 1) (part : List ℕ) (parts : part ≡ take (p .to - p .from) (drop (p .from) s)) (o : Found) (found : o ≡ numberIn names part) where
@@ -264,8 +263,7 @@ module _ (names : List (List ℕ)) (s : List ℕ) (at : ℕ) (p : Piece) (is : p
     unfolding partOf
     part-is = parts
 
-    pub tokens-unknown : (r : Declaration) → o ≡ Nothing → r ≡ declarationOf (noDeclaration UnknownName) → r ≡ declarationOf (tokensAnswer places names (tokensAt s at))
-    unfolding noDeclaration
+    pub tokens-unknown : (r : Declaration) → o ≡ Nothing → r ≡ declarationOf (refused UnknownName) → r ≡ declarationOf (tokensAnswer places names (tokensAt s at))
     tokens-unknown r n q = rw (answer-at, e, ← part-is, ← known-missing names part o found n) q
 
     pub tokens-model : (x : ℕ) (r : Declaration) → o ≡ At x → r ≡ declarationOf (contentAnswer places names x (tokensAt s (p .to))) → r ≡ declarationOf (tokensAnswer places names (tokensAt s at))

@@ -8,16 +8,18 @@ use mathlib.Core.Option.{Option, none, some}
 use mathlib.Core.Logic.{_↔_, _⊎_, inl, inr, ⊎-elim}
 use native.Mathlib.Omega.{arith}
 use lib.ListN.{length}
-use borrow.Author.Tests.{lt-ltb, le-ltb}
+use borrow.Author.Tests.{le-ltb}
 use Rattle.refusal.specs.declared.Refusal.{Refusal}
 use Rattle.refusal.specs.declared.Refusal.the-variants.{NotADeclaration, UnknownName, NameTwice}
 use Rattle.refusal.specs.declared.Outcome.the-variants.{Done, Refused}
 use Rattle.refusal.specs.Table.{ofBook}
 use Rattle.refusal.specs.Answer.{Answer, given, refused, onward, outcomeOf}
-use Rattle.refusal.proofs.Answers.{refused-same, given-refused, check-refused, outcome-refused}
+use Rattle.refusal.proofs.Answers.{refused-same, given-refused, check-refused, outcome-refused, outcome-given}
 use Rattle.nameset.specs.Places.{places}
-use Rattle.book.specs.Book.{Book, bookOf, IsBook}
-use Rattle.book.proofs.Onward.{book-given, book-later, book-first, book-or-later}
+use Rattle.book.specs.Book.{Book}
+use Rattle.book.specs.Taken.{takenBook, TakenAs}
+use Rattle.book.proofs.Taken.{taken-law, good-parent}
+use Rattle.book.proofs.Onward.{book-given, book-first, book-or-later, in-book}
 use Rattle.model.specs.declared.Model.{Model}
 use Rattle.model.specs.Record.{IsChain, emptyModel}
 use Rattle.model.proofs.Chain.{chain-law}
@@ -30,7 +32,7 @@ use Rattle.declaration_spelling.specs.Read.{known, numbered, noneTwice, Declare
 use Rattle.declaration_spelling.proofs.Refusals as Text
 use Rattle.declaration_spelling.proofs.Theorem as Spelling
 use Rattle.declaration_spelling.proofs.Books.{good-names, declaration-short}
-use Rattle.declaration_writing.specs.Write.{fitted, writeAnswer}
+use Rattle.declaration_writing.specs.Write.{fitted, writeIn, writeAnswer}
 use Rattle.declaration_writing.proofs.Back.{text-given}
 use Rattle.declaration_reading.specs.declared.Declaration.{Declaration}
 use Rattle.declaration_reading.specs.Read.{readAnswer, parentDue, modelDue, Reads, ReadsDeclaration}
@@ -62,40 +64,38 @@ module _ (s text : List ℕ) where
   next : Book → Answer Declared
   next b = readText places (b .names) text
 
-  -- The bytes are a book, and the condition C of its names and the text holds.
+  -- The bytes are taken as a book, and the condition C of its names and the text holds.
   abbrev Of : (List (List ℕ) → Type 0) → Type 0
-  Of C = (b : Book) × IsBook s b × C (b .names)
+  Of C = (b : Book) × TakenAs s b × C (b .names)
 
-  by-book : (f : Refusal) → ofBook f ≡ false → (C : List (List ℕ) → Type 0) → ((b : Book) → IsBook s b → (next b ≡ refused f) ↔ C (b .names)) → (readAnswer s text ≡ refused f) ↔ Of C
+  by-book : (f : Refusal) → ofBook f ≡ false → (C : List (List ℕ) → Type 0) → ((names : List (List ℕ)) → (readText places names text ≡ refused f) ↔ C names) → (readAnswer s text ≡ refused f) ↔ Of C
   unfolding readAnswer next
-  by-book f l C law =
-      let h = book-later s next f l in
-      (λ e. let (b, q, g) = h .0 e in (b, q, law b q .0 g), λ (b, q, c). h .1 (b, q, law b q .1 c))
+  by-book f l C law = in-book s next (λ b. C (b .names)) f l (λ b. law (b .names))
 
-  -- 1 to 7: the bytes are no book, for this reason.
-  pub book-refused : (f : Refusal) → ofBook f ≡ true → (readAnswer s text ≡ refused f) ↔ (bookOf s ≡ refused f)
+  -- 1 to 7: the bytes are not taken, for this reason.
+  pub book-refused : (f : Refusal) → ofBook f ≡ true → (readAnswer s text ≡ refused f) ↔ (takenBook s ≡ refused f)
   unfolding readAnswer next
   book-refused f l = book-first s next f l (λ b e. text-late f (text-only (b .names) text f e))
 
-  -- 13: the bytes are a book, and the text does not have the form of a declaration.
-  pub refused-13 : (readAnswer s text ≡ refused NotADeclaration) ↔ ((b : Book) × IsBook s b × ((d : Form) → HasForm text d → ⊥))
+  -- 13: the bytes are taken as a book, and the text does not have the form of a declaration.
+  pub refused-13 : (readAnswer s text ≡ refused NotADeclaration) ↔ ((b : Book) × TakenAs s b × ((d : Form) → HasForm text d → ⊥))
   unfolding next
-  refused-13 = by-book NotADeclaration refl (λ names. (d : Form) → HasForm text d → ⊥) (λ b q. Text.refused-13 places (b .names) text)
+  refused-13 = by-book NotADeclaration refl (λ names. (d : Form) → HasForm text d → ⊥) (λ names. Text.refused-13 places names text)
 
   -- 14: it has the form, and a name in it, the parent's included, is not in the book.
   pub refused-14 : (readAnswer s text ≡ refused UnknownName)
-      ↔ ((b : Book) × IsBook s b × ((d : Form) × HasForm text d × ((x : List ℕ) × List·Memᴰ x (formNames d) × (¬ List·Memᴰ x (b .names)))))
+      ↔ ((b : Book) × TakenAs s b × ((d : Form) × HasForm text d × ((x : List ℕ) × List·Memᴰ x (formNames d) × (¬ List·Memᴰ x (b .names)))))
   unfolding next
   refused-14 =
-      by-book UnknownName refl (λ names. (d : Form) × HasForm text d × ((x : List ℕ) × List·Memᴰ x (formNames d) × (¬ List·Memᴰ x names))) (λ b q. Text.refused-14 places (b .names) text)
+      by-book UnknownName refl (λ names. (d : Form) × HasForm text d × ((x : List ℕ) × List·Memᴰ x (formNames d) × (¬ List·Memᴰ x names))) (λ names. Text.refused-14 places names text)
 
   -- 15: it has the form, all its names are in the book, and one comes twice in the model.
   pub refused-15 : (readAnswer s text ≡ refused NameTwice)
-      ↔ ((b : Book) × IsBook s b × ((d : Form) × HasForm text d × ((x : List ℕ) → List·Memᴰ x (formNames d) → List·Memᴰ x (b .names)) × Twice (modelNames (d .factors))))
+      ↔ ((b : Book) × TakenAs s b × ((d : Form) × HasForm text d × ((x : List ℕ) → List·Memᴰ x (formNames d) → List·Memᴰ x (b .names)) × Twice (modelNames (d .factors))))
   unfolding next
   refused-15 =
       by-book NameTwice refl (λ names. (d : Form) × HasForm text d × ((x : List ℕ) → List·Memᴰ x (formNames d) → List·Memᴰ x names) × Twice (modelNames (d .factors)))
-      (λ b q. Text.refused-15 places (b .names) text)
+      (λ names. Text.refused-15 places names text)
 
   -- No refusal but 1 to 7, 13, 14 and 15 is given.
   pub refused-only : (f : Refusal) → readAnswer s text ≡ refused f → (ofBook f ≡ true) ⊎ OfText f
@@ -105,41 +105,38 @@ module _ (s text : List ℕ) where
 -- ---- demand 2, declarations
 
 -- a chain of a parent that the book has is written
-written-for : (s : List ℕ) (b : Book) → IsBook s b → (p : ℕ) (m : Model) (room : ℕ) → p < length (b .names) → IsChain places (length (b .names)) m → longestDeclaration ≤ room →
+written-for : (s : List ℕ) (b : Book) → TakenAs s b → (p : ℕ) (m : Model) (room : ℕ) → p < length (b .names) → IsChain places (length (b .names)) m → longestDeclaration ≤ room →
     writeAnswer s p m room ≡ given (declaration (b .names) p m)
-unfolding writeAnswer fitted
+unfolding writeAnswer writeIn fitted
 written-for s b q p m room l c h =
-    let k = declaration-short s b q p m l c in
-    rw (q, lt-ltb p (length (b .names)) l, chain-law places (length (b .names)) m .1 c, le-ltb room (length (declaration (b .names) p m)) (omega arith))
-
-answer-done : (a : Answer Declared) → outcomeOf a ≡ Done → a ≡ given (declared (parentDue a) (modelDue a))
-unfolding parentDue modelDue
-answer-done (given d) e = refl
-answer-done (refused r) e = absurd (let z : _≡_ {A = ℕ} 0 1 = cc in omega arith)
+    let k = declaration-short s b (taken-law s b .0 q) p m l c in
+    rw (q, good-parent b p .1 l, chain-law places (length (b .names)) m .1 c, le-ltb room (length (declaration (b .names) p m)) (omega arith))
 
 module _ (s text : List ℕ) (r : Declaration) (call : ReadsDeclaration s text r) where
   answered : (p : ℕ) (m : Model) → Reads r p m → readAnswer s text ≡ given (declared p m)
+  unfolding parentDue modelDue
   answered p m (o, a, b) =
-      answer-done (readAnswer s text) (sym (call .outcome) ∙ o)
-      ∙ ap (λ (x : ℕ). given (declared x (modelDue (readAnswer s text)))) (sym (call .parent) ∙ a)
-      ∙ ap (λ (x : Model). given (declared p x)) (sym (call .model) ∙ b)
+      let (d, e) = outcome-given (readAnswer s text) .0 (sym (call .outcome) ∙ o) in
+      let x : d .parent ≡ p = sym (call .parent ∙ ap parentDue e) ∙ a in
+      let y : d .model ≡ m = sym (call .model ∙ ap modelDue e) ∙ b in
+      e ∙ (λ i. given (declared (x i) (y i)))
 
   answers : (p : ℕ) (m : Model) → readAnswer s text ≡ given (declared p m) → Reads r p m
   unfolding parentDue modelDue
   answers p m e = (call .outcome ∙ ap outcomeOf e, call .parent ∙ ap parentDue e, call .model ∙ ap modelDue e)
 
   -- A text is read exactly when it is a spelling of the declaration that is then written for what was read.
-  pub read-exactly : (p : ℕ) (m : Model) → Reads r p m ↔ ((b : Book) × IsBook s b × Spelled places (b .names) text p m)
+  pub read-exactly : (p : ℕ) (m : Model) → Reads r p m ↔ ((b : Book) × TakenAs s b × Spelled places (b .names) text p m)
   unfolding readAnswer next
   read-exactly p m =
       let h = book-given s (next s text) (declared p m) in (
-        λ k. let (b, q, e) = h .0 (answered p m k) in (b, q, Spelling.read-exactly places (b .names) (good-names s b q) text p m .0 e),
-        λ (b, q, S). answers p m (h .1 (b, q, Spelling.read-exactly places (b .names) (good-names s b q) text p m .1 S)),
+        λ k. let (b, q, e) = h .0 (answered p m k) in (b, q, Spelling.read-exactly places (b .names) (good-names s b (taken-law s b .0 q)) text p m .0 e),
+        λ (b, q, S). answers p m (h .1 (b, q, Spelling.read-exactly places (b .names) (good-names s b (taken-law s b .0 q)) text p m .1 S)),
       )
 
   -- What was read may be written: a buffer of 2,253 bytes always has room for it.
   pub read-writes : (room : ℕ) → longestDeclaration ≤ room → r .outcome ≡ Done →
-      (b : Book) × IsBook s b × (writeAnswer s (r .parent) (r .model) room ≡ given (declaration (b .names) (r .parent) (r .model)))
+      (b : Book) × TakenAs s b × (writeAnswer s (r .parent) (r .model) room ≡ given (declaration (b .names) (r .parent) (r .model)))
   read-writes room l o =
       let (b, q, S) = read-exactly (r .parent) (r .model) .0 (o, refl, refl) in
       (b, q, written-for s b q (r .parent) (r .model) room (S .parent) (S .chain) l)
@@ -158,7 +155,7 @@ read-written s p m room text e r call =
     let g = text-given s p m room text e in
     let b = g .book in
     let back : readText places (b .names) text ≡ given (declared p m) =
-    ap (readText places (b .names)) (g .same) ∙ Spelling.read-written places (b .names) (good-names s b (g .read)) p m (g .below) (g .chain) in
+    ap (readText places (b .names)) (g .same) ∙ Spelling.read-written places (b .names) (good-names s b (taken-law s b .0 (g .read))) p m (g .below) (g .chain) in
     answers s text r call p m (book-given s (next s text) (declared p m) .1 (b, g .read, back))
 
 -- Reading, writing and reading again changes nothing.

@@ -12,7 +12,7 @@ use Rattle.refusal.specs.declared.Outcome.the-variants.{Done}
 use Rattle.refusal.specs.Table.{stoppedBy}
 use Rattle.refusal.specs.Answer.{Answer, given, refused, onward, outcomeOf}
 use Rattle.nameset.specs.Places.{places}
-use Rattle.book.specs.Book.{bookOf}
+use Rattle.book.specs.Taken.{takenBook}
 use Rattle.model.specs.declared.Model.{Model}
 use Rattle.model.specs.Record.{dueModel}
 use Rattle.declaration_spelling.specs.Read.{Declared, readText}
@@ -20,7 +20,7 @@ use Rattle.declaration_reading.specs.declared.Declaration.{Declaration}
 
 -- The answer for any bytes as the book and any text.
 unfoldable pub readAnswer : List ℕ → List ℕ → Answer Declared
-readAnswer bytes text = onward (bookOf bytes) (λ b. readText places (b .names) text)
+readAnswer bytes text = onward (takenBook bytes) (λ b. readText places (b .names) text)
 
 -- The parent's number, "a length or parent number due is 0".
 unfoldable pub parentDue : Answer Declared → ℕ
@@ -35,10 +35,6 @@ modelDue (refused r) = dueModel
 -- The answer as the code has it.
 unfoldable pub declarationOf : Answer Declared → Declaration
 declarationOf a = record { outcome = outcomeOf a; parent = parentDue a; model = modelDue a }
-
--- No declaration, for this refusal.
-unfoldable pub noDeclaration : Refusal → Answer Declared
-noDeclaration r = refused r
 
 -- Once a name came twice: 15 where every name behind it is known, else 14, which comes first.
 unfoldable pub twiceOrUnknown : Bool → Refusal

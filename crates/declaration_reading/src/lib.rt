@@ -10,12 +10,13 @@ use refusal::Refusal;
 ghost use mathlib.Core.Path.{_≡_};
 ghost use Prim.Native.Nat.{_≤_};
 ghost use lib.ListN.{length};
+ghost use Rattle.refusal.specs.Answer.{refused};
 ghost use Rattle.nameset.specs.Places.{places};
 ghost use Rattle.book.specs.Book.{namesIn};
 ghost use Rattle.book.specs.Access.{LaidOut};
 ghost use Rattle.declaration_gather.specs.Gather.{knownTokens, factorsAnswer, contentAnswer, tokensAnswer};
 ghost use Rattle.declaration_reading.specs.Place.{tokensAt};
-ghost use Rattle.declaration_reading.specs.Read.{declarationOf, noDeclaration, twiceOrUnknown, ReadsDeclaration};
+ghost use Rattle.declaration_reading.specs.Read.{declarationOf, twiceOrUnknown, ReadsDeclaration};
 
 mod lookup; // lookup.rt: names of a text by the book
 mod rows; // rows.rt: the rows of the record under way
@@ -32,7 +33,7 @@ pub struct Declaration {
 
 // The answer of a refused call.
 fn refused(refusal: Refusal) -> Declaration
-    ensures { λ r. ⌜ r ≡ declarationOf (noDeclaration refusal) ⌝ }
+    ensures { λ r. ⌜ r ≡ declarationOf (refused refusal) ⌝ }
 {
     Declaration {
         outcome: Outcome::Refused(refusal),
@@ -44,7 +45,7 @@ fn refused(refusal: Refusal) -> Declaration
 // A name came twice before a place: 14 where a name from there on is not known, else 15.
 fn twice(bytes: &[u8], layout: Layout, text: &[u8], at: usize) -> Declaration
     requires { ⌜ LaidOut (now bytes) layout × (at ≤ length (now text)) ⌝ }
-    ensures { λ r. ⌜ r ≡ declarationOf (noDeclaration (twiceOrUnknown (knownTokens (namesIn (now (bytes .entry))) (tokensAt (now (text .entry)) at)))) ⌝ }
+    ensures { λ r. ⌜ r ≡ declarationOf (refused (twiceOrUnknown (knownTokens (namesIn (now (bytes .entry))) (tokensAt (now (text .entry)) at)))) ⌝ }
 {
     if lookup::all_known(bytes, layout, text, at) {
         refused(Refusal::NameTwice)
@@ -123,7 +124,7 @@ fn read_tokens(bytes: &[u8], layout: Layout, text: &[u8], at: usize) -> Declarat
 pub fn read_declaration(bytes: &[u8], text: &[u8]) -> Declaration
     ensures { λ r. ⌜ ReadsDeclaration (now (bytes .entry)) (now (text .entry)) r ⌝ }
 {
-    let reading = book_reading::read_book(bytes);
+    let reading = book_reading::take_book(bytes);
     let outcome = reading.outcome;
     if let Outcome::Refused(refusal) = outcome {
         return refused(refusal);

@@ -14,10 +14,11 @@ use Rattle.refusal.specs.Answer.{Answer, refused}
 use Rattle.nameset.specs.Places.{places}
 use Rattle.book.specs.declared.Layout.{Layout}
 use Rattle.book.specs.declared.Reading.{Reading}
-use Rattle.book.specs.Book.{bookOf, namesIn}
-use Rattle.book.specs.Layout.{readingOf, layoutOf}
+use Rattle.book.specs.Book.{namesIn}
+use Rattle.book.specs.Layout.{readingOf}
 use Rattle.book.specs.Access.{LaidOut}
-use Rattle.book.proofs.Laws.{laid-out, book-refused, names-in}
+use Rattle.book.specs.Taken.{takenBook}
+use Rattle.book.proofs.Taken as Taken
 use Rattle.model.specs.declared.Model.{Model}
 use Rattle.model.specs.Record.{IsChain}
 use Rattle.model.specs.Check.{isChain}
@@ -28,7 +29,7 @@ use Rattle.byte_buffer.specs.Put.{wrote, Put}
 use Rattle.byte_buffer.proofs.Puts.{wrote-none, wrote-back}
 use Rattle.declaration_text.proofs.Whole.{declaration-short}
 use Rattle.declaration_writing.specs.declared.Written.{Written}
-use Rattle.declaration_writing.specs.Write.{fitted, writeAnswer, noText, written, bufferAfter}
+use Rattle.declaration_writing.specs.Write.{fitted, writeIn, writeAnswer, written, bufferAfter, Writes}
 
 -- ---- a chain of a book that was read
 
@@ -57,14 +58,14 @@ module _ (aside text : List ℕ) (size : ℕ) (filled : List ℕ) (put : Put asi
   part-fits part d e h = let k : length part ≡ length text = ap length (part-is part e) in omega (arith, size-is)
 
   module _ (d : List ℕ) where
-    pub too-short : (r : Written) → length d < size → r ≡ written (noText BufferTooShort) → (r ≡ written (fitted (length d) text)) × (d ≡ bufferAfter d (fitted (length d) text))
-    unfolding written bufferAfter fitted noText
+    pub too-short : (r : Written) → length d < size → r ≡ written (refused BufferTooShort) → Writes (fitted (length d) text) r d d
+    unfolding written bufferAfter fitted
     too-short r h e =
         let t : length d < length text = omega (arith, size-is) in
         rw (lt-ltb (length d) (length text) t) (e, sym (wrote-none d 0))
 
     pub all-put : (part : List ℕ) (n : ℕ) (f : List ℕ) → size ≤ length d → part ≡ take (size - 0) (drop 0 filled) → Put d 0 part n f →
-        (record { outcome = Done; length = size } ≡ written (fitted (length d) text)) × (f ≡ bufferAfter d (fitted (length d) text))
+        Writes (fitted (length d) text) (record { outcome = Done; length = size }) d f
     unfolding written bufferAfter fitted
     all-put part n f h e q =
         let t : length text ≤ length d = omega (arith, size-is) in
@@ -73,46 +74,39 @@ module _ (aside text : List ℕ) (size : ℕ) (filled : List ℕ) (put : Put asi
 -- ---- the checks before
 
 -- a call that stops with this refusal
-pub stopped : (d : List ℕ) (w : Written) (f : Refusal) (a : Answer (List ℕ)) → w ≡ written (noText f) → a ≡ refused f → (w ≡ written a) × (d ≡ bufferAfter d a)
-unfolding noText bufferAfter
+pub stopped : (d : List ℕ) (w : Written) (f : Refusal) (a : Answer (List ℕ)) → w ≡ written (refused f) → a ≡ refused f → Writes a w d d
+unfolding bufferAfter
 stopped d w f a e q = rw q (e, sym (wrote-none d 0))
 
-module _ (s : List ℕ) (p : ℕ) (m : Model) (d : List ℕ) (r : Reading) (read : r ≡ readingOf (bookOf s)) where
-  pub stopped-book : (w : Written) (f : Refusal) → r .outcome ≡ Refused f → w ≡ written (noText f) → (w ≡ written (writeAnswer s p m (length d))) × (d ≡ bufferAfter d (writeAnswer s p m (length d)))
+module _ (s : List ℕ) (p : ℕ) (m : Model) (d : List ℕ) (r : Reading) (read : r ≡ readingOf (takenBook s)) where
+  pub stopped-book : (w : Written) (f : Refusal) → r .outcome ≡ Refused f → w ≡ written (refused f) → Writes (writeAnswer s p m (length d)) w d d
   unfolding writeAnswer
-  stopped-book w f o e = stopped d w f (writeAnswer s p m (length d)) e (rw (book-refused (bookOf s) r f read o))
+  stopped-book w f o e = stopped d w f (writeAnswer s p m (length d)) e (Taken.take-refused s r read _ f o)
 
   module _ (done : r .outcome ≡ Done) where
-    pub laid : LaidOut s (r .layout)
-    laid = laid-out s r read done
+    book-is : r .layout .names ≡ length (Taken.book s r read done .names)
+    book-is = Taken.names-are s r read done
 
-    names-are : r .layout .names ≡ length (laid .book .names)
-    unfolding layoutOf
-    names-are = ap (λ (x : Layout). x .names) (laid .same)
-
-    pub stopped-parent : (w : Written) → r .layout .names ≤ p → w ≡ written (noText BadParent) → (w ≡ written (writeAnswer s p m (length d))) × (d ≡ bufferAfter d (writeAnswer s p m (length d)))
-    unfolding writeAnswer
-    stopped-parent w h e =
-        stopped d w BadParent (writeAnswer s p m (length d)) e (rw (laid .read, le-ltb p (length (laid .book .names)) (omega (arith, names-are))))
+    pub stopped-parent : (w : Written) → r .layout .names ≤ p → w ≡ written (refused BadParent) → Writes (writeAnswer s p m (length d)) w d d
+    unfolding writeAnswer writeIn
+    stopped-parent w h e = stopped d w BadParent (writeAnswer s p m (length d)) e (rw (Taken.taken s r read done, Taken.parent-refused s r read done p h))
 
     module _ (below : p < r .layout .names) where
-      pub stopped-chain : (w : Written) → isChain places (r .layout .names) m ≡ false → w ≡ written (noText NotAChain) →
-          (w ≡ written (writeAnswer s p m (length d))) × (d ≡ bufferAfter d (writeAnswer s p m (length d)))
-      unfolding writeAnswer
+      pub stopped-chain : (w : Written) → isChain places (r .layout .names) m ≡ false → w ≡ written (refused NotAChain) → Writes (writeAnswer s p m (length d)) w d d
+      unfolding writeAnswer writeIn
       stopped-chain w h e =
-          let k : isChain places (length (laid .book .names)) m ≡ false = subst (λ (n : ℕ). isChain places n m ≡ false) names-are h in
-          stopped d w NotAChain (writeAnswer s p m (length d)) e (rw (laid .read, lt-ltb p (length (laid .book .names)) (omega (arith, names-are)), k))
+          let k = subst (λ (n : ℕ). isChain places n m ≡ false) book-is h in
+          stopped d w NotAChain (writeAnswer s p m (length d)) e (rw (Taken.taken s r read done, Taken.parent-passed s r read done p below, k))
 
       module _ (good : isChain places (r .layout .names) m ≡ true) where
-        pub chain-is : IsChain places (r .layout .names) m
-        chain-is = chain-law places (r .layout .names) m .0 good
+        pub writable : LaidOut s (r .layout) × (p < r .layout .names) × IsChain places (r .layout .names) m
+        writable = (Taken.laid s r read done, below, chain-law places (r .layout .names) m .0 good)
 
         answer-is : writeAnswer s p m (length d) ≡ fitted (length d) (declaration (namesIn s) p m)
-        unfolding writeAnswer
+        unfolding writeAnswer writeIn
         answer-is =
-            let k : isChain places (length (laid .book .names)) m ≡ true = subst (λ (n : ℕ). isChain places n m ≡ true) names-are good in
-            rw (names-in s (r .layout) laid, laid .read, lt-ltb p (length (laid .book .names)) (omega (arith, names-are)), k)
+            let k = subst (λ (n : ℕ). isChain places n m ≡ true) book-is good in
+            rw (Taken.names-taken s r read done, Taken.taken s r read done, Taken.parent-passed s r read done p below, k)
 
-        pub all-passed : (w : Written) (f : List ℕ) → (w ≡ written (fitted (length d) (declaration (namesIn s) p m))) × (f ≡ bufferAfter d (fitted (length d) (declaration (namesIn s) p m))) →
-            (w ≡ written (writeAnswer s p m (length d))) × (f ≡ bufferAfter d (writeAnswer s p m (length d)))
+        pub all-passed : (w : Written) (f : List ℕ) → Writes (fitted (length d) (declaration (namesIn s) p m)) w d f → Writes (writeAnswer s p m (length d)) w d f
         all-passed w f h = rw answer-is h

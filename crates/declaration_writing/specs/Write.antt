@@ -7,12 +7,12 @@ use mathlib.Core.Bool.{not}
 use mathlib.Core.List.{List, []}
 use lib.Dec.{ltb}
 use lib.ListN.{length}
-use Rattle.refusal.specs.declared.Refusal.{Refusal}
 use Rattle.refusal.specs.declared.Refusal.the-variants.{BadParent, NotAChain, BufferTooShort}
 use Rattle.refusal.specs.Table.{stoppedBy}
 use Rattle.refusal.specs.Answer.{Answer, given, refused, onward, refuseIf, valueOr, outcomeOf}
 use Rattle.nameset.specs.Places.{places}
-use Rattle.book.specs.Book.{bookOf}
+use Rattle.book.specs.Book.{Book}
+use Rattle.book.specs.Taken.{takenBook, badParent}
 use Rattle.model.specs.declared.Model.{Model}
 use Rattle.model.specs.Check.{isChain}
 use Rattle.declaration_spelling.specs.House.{declaration}
@@ -23,17 +23,17 @@ use Rattle.byte_buffer.specs.Put.{wrote}
 unfoldable pub fitted : ℕ → List ℕ → Answer (List ℕ)
 fitted room text = refuseIf (ltb room (length text)) BufferTooShort (given text)
 
--- The text that is due for any bytes as the book, any parent, any record, and a buffer of so many bytes.
-unfoldable pub writeAnswer : List ℕ → ℕ → Model → ℕ → Answer (List ℕ)
-writeAnswer bytes parent m room =
-    onward (bookOf bytes) (λ b.
-    refuseIf (not (ltb parent (length (b .names)))) BadParent
+-- 8, then "10: no chain over N names", then 12, else the declaration.
+unfoldable pub writeIn : Book → ℕ → Model → ℕ → Answer (List ℕ)
+writeIn b parent m room =
+    refuseIf (badParent b parent) BadParent
     (refuseIf (not (isChain places (length (b .names)) m)) NotAChain
-    (fitted room (declaration (b .names) parent m))))
+    (fitted room (declaration (b .names) parent m)))
 
--- No text, for this refusal.
-unfoldable pub noText : Refusal → Answer (List ℕ)
-noText r = refused r
+-- The text that is due for any bytes as the book, any parent, any record, and a buffer of so many bytes: 1 to 7, then
+-- those.
+unfoldable pub writeAnswer : List ℕ → ℕ → Model → ℕ → Answer (List ℕ)
+writeAnswer bytes parent m room = onward (takenBook bytes) (λ b. writeIn b parent m room)
 
 -- The text's length; "a length or parent number due is 0".
 abbrev pub lengthDue : Answer (List ℕ) → ℕ

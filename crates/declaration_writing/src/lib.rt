@@ -8,12 +8,13 @@ use refusal::Refusal;
 ghost use mathlib.Core.Path.{_≡_};
 ghost use Prim.Native.Nat.{_<_};
 ghost use lib.ListN.{length};
+ghost use Rattle.refusal.specs.Answer.{refused};
 ghost use Rattle.nameset.specs.Places.{places};
 ghost use Rattle.book.specs.Book.{namesIn};
 ghost use Rattle.book.specs.Access.{LaidOut};
 ghost use Rattle.model.specs.Record.{IsChain};
 ghost use Rattle.declaration_spelling.specs.House.{declaration};
-ghost use Rattle.declaration_writing.specs.Write.{fitted, written, noText, Writes, WritesDeclaration};
+ghost use Rattle.declaration_writing.specs.Write.{fitted, written, Writes, WritesDeclaration};
 
 // The most bytes that a declaration has.
 const LONGEST: usize = 2253;
@@ -26,7 +27,7 @@ pub struct Written {
 
 // The answer of a refused call.
 pub fn refused(refusal: Refusal) -> Written
-    ensures { λ r. ⌜ r ≡ written (noText refusal) ⌝ }
+    ensures { λ r. ⌜ r ≡ written (refused refusal) ⌝ }
 {
     Written {
         outcome: Outcome::Refused(refusal),
@@ -62,7 +63,7 @@ pub fn write_chain(
 pub fn write_declaration(bytes: &[u8], parent: usize, m: Model, buffer: &mut [u8]) -> Written
     ensures { λ r. ⌜ WritesDeclaration (now (bytes .entry)) parent m r (now (buffer .entry)) (now (buffer .exit)) ⌝ }
 {
-    let reading = book_reading::read_book(bytes);
+    let reading = book_reading::take_book(bytes);
     let outcome = reading.outcome;
     if let Outcome::Refused(refusal) = outcome {
         return refused(refusal);

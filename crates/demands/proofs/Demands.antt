@@ -15,11 +15,14 @@ use mathlib.Core.List.{List, [], _∷_, _++_, List·Memᴰ, map}
 use mathlib.Core.Logic.{_↔_}
 use lib.ListN.{length, take}
 use Rattle.refusal.specs.Answer.{valueOr, outcomeNumber}
+use Rattle.refusal.proofs.Laws.{refused-by}
 use Rattle.refusal.proofs.Answers.{outcome-refused}
 use Rattle.nameset.specs.Places.{places}
 use Rattle.book.specs.Book.{Book, IsBook}
+use Rattle.book.specs.Taken.{TakenAs}
 use Rattle.book.specs.Stops.{Whole}
 use Rattle.book.proofs.Stops.{book-whole}
+use Rattle.book.proofs.Taken.{taken-law}
 use Rattle.model.specs.declared.Model.{Model}
 use Rattle.model.specs.Record.{factorOf, modeOf, IsChain, emptyModel, dueModel}
 use Rattle.model.specs.Accept.{Accepts, Names}
@@ -45,14 +48,14 @@ use Rattle.declaration_writing.specs.Write.{written, WritesDeclaration}
 use Rattle.declaration_reading.specs.declared.Declaration.{Declaration}
 use Rattle.declaration_reading.specs.Read.{Reads, ReadsDeclaration}
 use Rattle.declaration_reading.proofs.Theorem as Reading
-use Rattle.intake.specs.declared.Acceptance.{Acceptance}
-use Rattle.intake.specs.declared.Inferred.{Inferred}
-use Rattle.intake.specs.Acceptance.{acceptanceNumber, acceptanceYes, Passes, AcceptsWord}
-use Rattle.intake.specs.Inference.{sampleOf, chainIn, modelAnswer, inferred, InfersModel}
-use Rattle.intake.specs.Writing.{WritesSample}
-use Rattle.intake.proofs.Theorem.{yes-exactly}
-use Rattle.intake.proofs.Samples.{no-word, some-word, sample-names}
-use Rattle.intake.proofs.NoBetterModel as Model3
+use Rattle.intake_word.specs.declared.Acceptance.{Acceptance}
+use Rattle.intake_sample.specs.declared.Inferred.{Inferred}
+use Rattle.intake_word.specs.Acceptance.{acceptanceNumber, acceptanceYes, Passes, AcceptsWord}
+use Rattle.intake_sample.specs.Inference.{sampleOf, chainIn, modelAnswer, inferred, InfersModel}
+use Rattle.intake_sample.specs.Writing.{WritesSample}
+use Rattle.intake_word.proofs.Theorem.{yes-exactly}
+use Rattle.intake_sample.proofs.Samples.{no-word, some-word, sample-names}
+use Rattle.intake_sample.proofs.NoBetterModel as Model3
 use Rattle.dtd_output.specs.Output.{lineOf}
 use Rattle.demands_samples.specs.Samples.{lines, lineDeclaration, printedDeclaration}
 use Rattle.demands_samples.proofs.Samples.{marked}
@@ -108,7 +111,11 @@ pub read-refusals : (bytes text : List ℕ) (r : Declaration) (call : ReadsDecla
 read-refusals bytes text r call = subst (ReadConditions bytes text) (sym (ap outcomeNumber (call .outcome)))
     (Law.read-conditions bytes text)
 
--- Which bytes are a book, and which one, is stated of the bytes too.
+-- The calls take bytes as the book b exactly where they are the book b; and which bytes are a book, and which one, is
+-- stated of the bytes too.
+pub taken-exactly : (bytes : List ℕ) (b : Book) → TakenAs bytes b ↔ IsBook bytes b
+taken-exactly = taken-law
+
 pub book-exactly : (bytes : List ℕ) (b : Book) → IsBook bytes b ↔ Whole bytes b
 book-exactly = book-whole
 
@@ -124,7 +131,7 @@ pub model-kept : (bytes : List ℕ) (parent : ℕ) (r : Inferred) (call : Infers
     0 < outcomeNumber (r .outcome) → r .model ≡ emptyModel places
 unfolding inferred
 model-kept bytes parent r call l =
-    let (f, o) = Text.refused-by (r .outcome) l in
+    let (f, o) = refused-by (r .outcome) l in
     let e = outcome-refused (modelAnswer bytes parent) f .0 (sym (ap (λ (x : Inferred). x .outcome) call) ∙ o) in
     ap (λ (x : Inferred). x .model) call ∙ ap (valueOr dueModel) e
 
@@ -141,7 +148,7 @@ sample-kept bytes parent w before after call = Text.writes-kept _ w before after
 pub read-kept : (bytes text : List ℕ) (r : Declaration) (call : ReadsDeclaration bytes text r) →
     0 < outcomeNumber (r .outcome) →
     (r .parent ≡ 0) × (r .model ≡ emptyModel places)
-read-kept bytes text r call l = let (f, o) = Text.refused-by (r .outcome) l in Reading.refused-due bytes text r call f o
+read-kept bytes text r call l = let (f, o) = refused-by (r .outcome) l in Reading.refused-due bytes text r call f o
 
 -- ==== demand 2
 
@@ -155,12 +162,12 @@ accepted-exactly n m w r call = let h = yes-exactly n m w r call in (λ e. h .0 
 -- sample it is that of the model x which the call for the model answers.
 pub write-done : (bytes : List ℕ) (parent : ℕ) (m : Model) (w : Written) (before after : List ℕ)
     (call : WritesDeclaration bytes parent m w before after) →
-    outcomeNumber (w .outcome) ≡ 0 → (b : Book) × IsBook bytes b × Wrote (b .names) parent m (w .length) before after
+    outcomeNumber (w .outcome) ≡ 0 → (b : Book) × TakenAs bytes b × Wrote (b .names) parent m (w .length) before after
 write-done = Text.write-done
 
 pub sample-done : (bytes : List ℕ) (parent : ℕ) (w : Written) (before after : List ℕ)
     (call : WritesSample bytes parent w before after) → outcomeNumber (w .outcome) ≡ 0 →
-    (x : Inferred) → InfersModel bytes parent x → (b : Book) × IsBook bytes b × Wrote (b .names) parent (x .model)
+    (x : Inferred) → InfersModel bytes parent x → (b : Book) × TakenAs bytes b × Wrote (b .names) parent (x .model)
     (w .length) before after
 sample-done bytes parent w before after call z x asked = Text.write-done bytes parent (x .model) w before after (Text.as-written bytes parent w before after call z x asked) z
 
@@ -181,14 +188,14 @@ sample-reads-back bytes parent w before after call z x asked =
 -- "A text is read exactly when it is a spelling, allowed by document 01, of the declaration then written": it is read
 -- as the parent p and the record m exactly when it is a spelling of them, and what was read is then written.
 pub read-exactly : (bytes text : List ℕ) (r : Declaration) (call : ReadsDeclaration bytes text r) (p : ℕ) (m : Model) →
-    Reads r p m ↔ ((b : Book) × IsBook bytes b × Spelled places (b .names) text p m)
+    Reads r p m ↔ ((b : Book) × TakenAs bytes b × Spelled places (b .names) text p m)
 read-exactly = Reading.read-exactly
 
 pub read-writes : (bytes text : List ℕ) (r : Declaration) (call : ReadsDeclaration bytes text r) →
     outcomeNumber (r .outcome) ≡ 0 →
     (w : Written) (before after : List ℕ) → WritesDeclaration bytes (r .parent) (r .model) w before after →
     longestDeclaration ≤ length before →
-    (b : Book) × IsBook bytes b ×
+    (b : Book) × TakenAs bytes b ×
     ((outcomeNumber (w .outcome) ≡ 0) × Wrote (b .names) (r .parent) (r .model) (w .length) before after)
 read-writes = Text.read-writes
 
@@ -254,7 +261,7 @@ module _ (bytes : List ℕ) (parent : ℕ) (r : Inferred) (b : Book) (a : Asked 
   facts = followOf (length (b .names)) words
 
   names : (w : List ℕ) → List·Memᴰ w words → Names (length (b .names)) w
-  names = sample-names bytes b (a .read) parent
+  names = sample-names bytes b (taken-law bytes b .0 (a .read)) parent
 
   pub follow-law : (u v : Point) → steps facts u v ↔ Fact words u v
   follow-law = Levels.follow-law (length (b .names)) words names
@@ -323,12 +330,12 @@ c-word n m w r (x, call, e) =
 
 pub c-model : (bytes : List ℕ) (parent : ℕ) (r : ModelReply) (call : RepliesModel bytes parent r) →
     ModelConditions bytes parent (r .refusal) × (0 < r .refusal → r .model ≡ emptyModel places) ×
-    ((b : Book) → IsBook bytes b → ¬ (sampleOf b parent ≡ []) →
+    ((b : Book) → TakenAs bytes b → ¬ (sampleOf b parent ≡ []) →
     (r .refusal ≡ 0) × Minimal (length (b .names)) (r .model) (sampleOf b parent) × Placed (Fact (sampleOf b parent)) (r .model))
 unfolding modelReply
 c-model bytes parent r (x, call, e) =
     subst (λ (v : ModelReply). ModelConditions bytes parent (v .refusal) × (0 < v .refusal → v .model ≡ emptyModel places) ×
-    ((b : Book) → IsBook bytes b → ¬ (sampleOf b parent ≡ []) →
+    ((b : Book) → TakenAs bytes b → ¬ (sampleOf b parent ≡ []) →
     (v .refusal ≡ 0) × Minimal (length (b .names)) (v .model) (sampleOf b parent) × Placed (Fact (sampleOf b parent)) (v .model))) (sym e) (
       model-refusals bytes parent x call,
       model-kept bytes parent x call,
@@ -341,31 +348,31 @@ pub c-write : (bytes : List ℕ) (parent : ℕ) (m : Model) (r : LengthReply) (b
     (call : RepliesWritten bytes parent m r before after) →
     WriteConditions bytes parent m (length before) (r .refusal) ×
     (0 < r .refusal → (r .length ≡ 0) × (after ≡ before)) ×
-    (r .refusal ≡ 0 → (b : Book) × IsBook bytes b × Wrote (b .names) parent m (r .length) before after)
+    (r .refusal ≡ 0 → (b : Book) × TakenAs bytes b × Wrote (b .names) parent m (r .length) before after)
 unfolding lengthReply
 c-write bytes parent m r before after (x, call, e) =
     subst (λ (v : LengthReply). WriteConditions bytes parent m (length before) (v .refusal) × (0 < v .refusal → (v .length ≡ 0) × (after ≡ before)) ×
-    (v .refusal ≡ 0 → (b : Book) × IsBook bytes b × Wrote (b .names) parent m (v .length) before after)) (sym e)
+    (v .refusal ≡ 0 → (b : Book) × TakenAs bytes b × Wrote (b .names) parent m (v .length) before after)) (sym e)
     (write-refusals bytes parent m x before after call, write-kept bytes parent m x before after call, write-done bytes parent m x before after call)
 
 pub c-sample : (bytes : List ℕ) (parent : ℕ) (r : LengthReply) (before after : List ℕ)
     (call : RepliesSample bytes parent r before after) →
     SampleConditions bytes parent (length before) (r .refusal) × (0 < r .refusal → (r .length ≡ 0) × (after ≡ before)) ×
-    (r .refusal ≡ 0 → (y : Inferred) → InfersModel bytes parent y → (b : Book) × IsBook bytes b × Wrote (b .names) parent (y .model) (r .length) before after)
+    (r .refusal ≡ 0 → (y : Inferred) → InfersModel bytes parent y → (b : Book) × TakenAs bytes b × Wrote (b .names) parent (y .model) (r .length) before after)
 unfolding lengthReply
 c-sample bytes parent r before after (x, call, e) =
     subst (λ (v : LengthReply). SampleConditions bytes parent (length before) (v .refusal) × (0 < v .refusal → (v .length ≡ 0) × (after ≡ before)) ×
-    (v .refusal ≡ 0 → (y : Inferred) → InfersModel bytes parent y → (b : Book) × IsBook bytes b × Wrote (b .names) parent (y .model) (v .length) before after)) (sym e)
+    (v .refusal ≡ 0 → (y : Inferred) → InfersModel bytes parent y → (b : Book) × TakenAs bytes b × Wrote (b .names) parent (y .model) (v .length) before after)) (sym e)
     (sample-refusals bytes parent x before after call, sample-kept bytes parent x before after call, sample-done bytes parent x before after call)
 
 pub c-read : (bytes text : List ℕ) (r : TextReply) (call : RepliesText bytes text r) →
     ReadConditions bytes text (r .refusal) × (0 < r .refusal → (r .parent ≡ 0) × (r .model ≡ emptyModel places)) ×
     ((p : ℕ) (m : Model) → ((r .refusal ≡ 0) × (r .parent ≡ p) × (r .model ≡ m)) ↔
-    ((b : Book) × IsBook bytes b × Spelled places (b .names) text p m))
+    ((b : Book) × TakenAs bytes b × Spelled places (b .names) text p m))
 unfolding textReply
 c-read bytes text r (x, call, e) =
     subst (λ (v : TextReply). ReadConditions bytes text (v .refusal) ×
     (0 < v .refusal → (v .parent ≡ 0) × (v .model ≡ emptyModel places)) ×
     ((p : ℕ) (m : Model) → ((v .refusal ≡ 0) × (v .parent ≡ p) × (v .model ≡ m)) ↔
-    ((b : Book) × IsBook bytes b × Spelled places (b .names) text p m))) (sym e)
+    ((b : Book) × TakenAs bytes b × Spelled places (b .names) text p m))) (sym e)
     (read-refusals bytes text x call, read-kept bytes text x call, λ p m. Text.read-number bytes text x call p m)

@@ -1,4 +1,3 @@
-pub mod Checks
 pub mod Refusals
 pub mod Texts
 pub mod Demands

@@ -3,7 +3,7 @@
 -- Assumes nothing.
 use Prim.Native.Nat.{ℕ, _≤_, _<_}
 use mathlib.Core.Path.{_≡_, refl, sym, _∙_, ap, subst}
-use mathlib.Core.Bool.{Bool, true, false, not}
+use mathlib.Core.Bool.{Bool, true, false, not, false≢true}
 use mathlib.Core.List.{List, []}
 use mathlib.Core.Logic.{_↔_, _⊎_, inl, inr, ⊎-elim}
 use lib.Dec.{ltb}
@@ -13,12 +13,15 @@ use Rattle.refusal.specs.declared.Refusal.{Refusal}
 use Rattle.refusal.specs.declared.Refusal.the-variants.{BookTooLong, BytesMissing, BadNameCount, BadName, NameNotAbove, NumberNotBelow, BytesLeftOver, BadParent, NoBlock, NotAChain, BadWord, BufferTooShort, NotADeclaration, UnknownName, NameTwice}
 use Rattle.refusal.specs.Table.{numberOf, ofBook}
 use Rattle.refusal.specs.Answer.{Answer, given, refused, onward, refuseIf, answerNumber}
+use Rattle.refusal.proofs.Answers.{given-refused}
+use Rattle.refusal.proofs.Checks.{other, own-check, next-check, pass-check, last-check, avoids, own, own-or-next, row, row-0, number-only}
 use Rattle.nameset.specs.Places.{places, goodCount}
 use Rattle.nameset.proofs.Count.{count-bounds, bounds-count, count-bad}
-use Rattle.book.specs.Book.{Book, bookOf, IsBook}
+use Rattle.book.specs.Book.{Book}
 use Rattle.book.specs.Stops.{Stops}
-use Rattle.book.proofs.Stops.{book-refused}
-use Rattle.book.proofs.Onward.{book-given, book-first, book-or-later}
+use Rattle.book.specs.Taken.{takenBook, TakenAs, badParent}
+use Rattle.book.proofs.Taken.{taken-law, taken-refused, bad-parent, good-parent}
+use Rattle.book.proofs.Onward.{book-first, book-or-later, in-book, in-given}
 use Rattle.model.specs.declared.Model.{Model}
 use Rattle.model.specs.Record.{IsChain}
 use Rattle.model.specs.Check.{isChain}
@@ -30,16 +33,15 @@ use Rattle.declaration_spelling.specs.Spelled.{Spelled}
 use Rattle.declaration_spelling.specs.Read.{Declared, declared, readText}
 use Rattle.declaration_spelling.proofs.Books.{good-names}
 use Rattle.declaration_spelling.proofs.Theorem as Spelling
-use Rattle.declaration_writing.specs.Write.{fitted, writeAnswer}
+use Rattle.declaration_writing.specs.Write.{fitted, writeIn, writeAnswer}
 use Rattle.declaration_reading.specs.Read.{readAnswer}
 use Rattle.declaration_reading.proofs.Theorem as Reading
-use Rattle.intake.specs.Acceptance.{badModel, longestWord, badWord, answerOf, Passes}
-use Rattle.intake.specs.Inference.{sampleOf, noWord, badParent, chainIn, modelIn, modelAnswer}
-use Rattle.intake.specs.Writing.{sampleText}
-use Rattle.intake.proofs.Theorem.{good-word, word-good, bad-word}
-use Rattle.intake.proofs.Samples.{no-word, some-word}
+use Rattle.intake_word.specs.Acceptance.{badModel, longestWord, badWord, answerOf, Passes}
+use Rattle.intake_word.proofs.Theorem.{good-word, word-good, bad-word}
+use Rattle.intake_sample.specs.Inference.{sampleOf, noWord, chainIn, modelIn, modelAnswer}
+use Rattle.intake_sample.specs.Writing.{sampleText}
+use Rattle.intake_sample.proofs.Samples.{no-word, some-word}
 use Rattle.demands.specs.Conditions.{OfBook, InRange, BookConditions, WordConditions, ModelConditions, WriteConditions, sampleDeclaration, SampleConditions, ReadConditions}
-use Rattle.demands.proofs.Checks.{other, own-check, next-check, pass-check, last-check, avoids, own, own-or-next, no-refusal, in-book, in-given, row, row-0, number-only, fails}
 
 -- ---- what the tests mean
 
@@ -49,18 +51,16 @@ below-law p n = (ltb-true p n, lt-ltb p n)
 at-most-law : (p n : ℕ) → (ltb p n ≡ false) ↔ (n ≤ p)
 at-most-law p n = (ltb-false p n, le-ltb p n)
 
--- a test turned round
+-- a test that fails, and a test turned round
+fails : {P : Type 0} (t : Bool) → (t ≡ true) ↔ P → (t ≡ false) ↔ (¬ P)
+fails true h = (λ e. absurd (false≢true (sym e)), λ n. absurd (n (h .0 refl)))
+fails false h = (λ e p. absurd (false≢true (h .1 p)), λ n. refl)
+
 turned : {P : Type 0} (t : Bool) → (t ≡ false) ↔ P → (not t ≡ true) ↔ P
 turned t h = (λ e. h .0 (not-true t e), λ p. ap not (h .1 p))
 
 turned-back : {P : Type 0} (t : Bool) → (t ≡ true) ↔ P → (not t ≡ false) ↔ P
 turned-back t h = (λ e. h .0 (not-false t e), λ p. ap not (h .1 p))
-
-no-parent : (p n : ℕ) → (not (ltb p n) ≡ true) ↔ (n ≤ p)
-no-parent p n = turned (ltb p n) (at-most-law p n)
-
-has-parent : (p n : ℕ) → (not (ltb p n) ≡ false) ↔ (p < n)
-has-parent p n = turned-back (ltb p n) (below-law p n)
 
 not-chain : (n : ℕ) (m : Model) → (not (isChain places n m) ≡ true) ↔ (¬ IsChain places n m)
 not-chain n m = turned (isChain places n m) (fails (isChain places n m) (chain-law places n m))
@@ -73,7 +73,7 @@ count-law n = (count-bounds n, λ h. bounds-count n (h .0) (h .1))
 
 -- ---- 1 to 7
 
-book-rows : {A : Type 0} (bytes : List ℕ) (a : Answer A) → ((f : Refusal) → ofBook f ≡ true → (a ≡ refused f) ↔ (bookOf bytes ≡ refused f)) → BookConditions bytes (answerNumber a)
+book-rows : {A : Type 0} (bytes : List ℕ) (a : Answer A) → ((f : Refusal) → ofBook f ≡ true → (a ≡ refused f) ↔ (takenBook bytes ≡ refused f)) → BookConditions bytes (answerNumber a)
 book-rows bytes a law =
     record {
       one = at BookTooLong refl;
@@ -86,7 +86,7 @@ book-rows bytes a law =
     }
   where
     at : (f : Refusal) → ofBook f ≡ true → (answerNumber a ≡ numberOf f) ↔ Stops bytes f
-    at f l = row a f (λ e. book-refused bytes f .0 (law f l .0 e), λ h. law f l .1 (book-refused bytes f .1 h))
+    at f l = let h = taken-refused bytes f in row a f (λ e. h .0 (law f l .0 e), λ c. law f l .1 (h .1 c))
 
 -- ---- acceptance of a word
 
@@ -121,67 +121,62 @@ module _ (n : ℕ) (m : Model) (w : List ℕ) where
         three =
             row a BadNameCount
             (own-check t₁ BadNameCount a₁ (turned (goodCount n) (count-bad n))
-            (avoids t₂ NotAChain a₂ BadNameCount (other NotAChain BadNameCount refl) (avoids t₃ BadWord a₃ BadNameCount (other BadWord BadNameCount refl) (no-refusal _ _))));
+            (avoids t₂ NotAChain a₂ BadNameCount (other NotAChain BadNameCount refl) (avoids t₃ BadWord a₃ BadNameCount (other BadWord BadNameCount refl) (given-refused _ _))));
         ten =
             row a NotAChain
             (next-check t₁ BadNameCount a₁ NotAChain (other BadNameCount NotAChain refl) some-names
-            (own-check t₂ NotAChain a₂ (not-chain n m) (avoids t₃ BadWord a₃ NotAChain (other BadWord NotAChain refl) (no-refusal _ _))));
+            (own-check t₂ NotAChain a₂ (not-chain n m) (avoids t₃ BadWord a₃ NotAChain (other BadWord NotAChain refl) (given-refused _ _))));
         eleven =
             row a BadWord
             (next-check t₁ BadNameCount a₁ BadWord (other BadNameCount BadWord refl) some-names
-            (next-check t₂ NotAChain a₂ BadWord (other NotAChain BadWord refl) (is-chain n m) (own-check t₃ BadWord a₃ (bad-word n w) (no-refusal _ _))));
+            (next-check t₂ NotAChain a₂ BadWord (other NotAChain BadWord refl) (is-chain n m) (own-check t₃ BadWord a₃ (bad-word n w) (given-refused _ _))));
         none =
             passes (row-0 a
             (pass-check t₁ BadNameCount a₁ some-names (pass-check t₂ NotAChain a₂ (is-chain n m) (last-check t₃ BadWord _ (good-word n w, word-good n w)))));
         no-other = number-only (λ k. (k ≡ 0) ⊎ ((k ≡ 3) ⊎ ((k ≡ 10) ⊎ (k ≡ 11)))) a (inl refl) (λ f e. inr (word-only f e));
       }
 
--- ---- the model of a parent
+-- ---- a call that takes a book
 
 -- a refusal of a book, or one of what is done with it
 no-other : {A : Type 0} (P : ℕ → Type 0) (bytes : List ℕ) (next : Book → Answer A) → ((b : Book) (f : Refusal) → next b ≡ refused f → P (numberOf f)) →
-    (answerNumber (onward (bookOf bytes) next) ≡ 0) ⊎ (OfBook (answerNumber (onward (bookOf bytes) next)) ⊎ P (answerNumber (onward (bookOf bytes) next)))
+    (answerNumber (onward (takenBook bytes) next) ≡ 0) ⊎ (OfBook (answerNumber (onward (takenBook bytes) next)) ⊎ P (answerNumber (onward (takenBook bytes) next)))
 no-other P bytes next each =
-    number-only (λ k. (k ≡ 0) ⊎ (OfBook k ⊎ P k)) (onward (bookOf bytes) next) (inl refl)
+    number-only (λ k. (k ≡ 0) ⊎ (OfBook k ⊎ P k)) (onward (takenBook bytes) next) (inl refl)
     (λ f e. inr (⊎-elim (λ l. inl (f, l, refl)) (λ (b, q). inr (each b f q)) (book-or-later bytes next f e)))
 
-module _ (bytes : List ℕ) (parent : ℕ) where
-  -- its two tests, and what is behind the first
-  abbrev t₁ : Book → Bool
-  t₁ b = not (ltb parent (length (b .names)))
+-- ---- the model of a parent
 
+module _ (bytes : List ℕ) (parent : ℕ) where
+  -- its second test, and what is behind the first
   abbrev t₂ : Book → Bool
   t₂ b = noWord (sampleOf b parent)
 
   abbrev a₁ : Book → Answer Model
   a₁ b = refuseIf (t₂ b) NoBlock (given (chainIn b parent))
 
-  model-only : (b : Book) (f : Refusal) → modelIn b parent ≡ refused f → (numberOf f ≡ 8) ⊎ (numberOf f ≡ 9)
+  -- its two refusals, each with what P says of it
+  model-each : (P : Refusal → Type 0) → P BadParent → P NoBlock → (b : Book) (f : Refusal) → modelIn b parent ≡ refused f → P f
   unfolding modelIn
-  model-only b f e =
-      ⊎-elim (λ z. inl (ap numberOf (sym z))) (λ h. inr (ap numberOf (sym (own (noWord (sampleOf b parent)) NoBlock _ f h)))) (own-or-next (badParent b parent) BadParent _ f e)
-
-  model-late : (b : Book) (f : Refusal) → modelIn b parent ≡ refused f → ofBook f ≡ false
-  unfolding modelIn
-  model-late b f e =
-      ⊎-elim (λ z. ap ofBook (sym z)) (λ h. ap ofBook (sym (own (noWord (sampleOf b parent)) NoBlock _ f h))) (own-or-next (badParent b parent) BadParent _ f e)
+  model-each P p₁ p₂ b f e = ⊎-elim (λ z. subst P z p₁) (λ h. subst P (own (t₂ b) NoBlock _ f h) p₂) (own-or-next (badParent b parent) BadParent _ f e)
 
   pub model-conditions : ModelConditions bytes parent (answerNumber (modelAnswer bytes parent))
-  unfolding modelAnswer modelIn badParent
+  unfolding modelAnswer modelIn
   model-conditions =
       let a = modelAnswer bytes parent in
+      let next : Book → Answer Model = λ b. modelIn b parent in
       record {
-        book = book-rows bytes a (λ f l. book-first bytes (λ b. modelIn b parent) f l (λ b. model-late b f));
+        book = book-rows bytes a (λ f l. book-first bytes next f l (λ b. model-each (λ r. ofBook r ≡ false) refl refl b f));
         eight =
-            row a BadParent (in-book bytes (λ b. modelIn b parent) (λ b. length (b .names) ≤ parent) BadParent refl
-            (λ b. own-check (t₁ b) BadParent (a₁ b) (no-parent parent (length (b .names))) (avoids (t₂ b) NoBlock _ BadParent (other NoBlock BadParent refl) (no-refusal _ _))));
+            row a BadParent (in-book bytes next (λ b. length (b .names) ≤ parent) BadParent refl
+            (λ b. own-check (badParent b parent) BadParent (a₁ b) (bad-parent b parent) (avoids (t₂ b) NoBlock _ BadParent (other NoBlock BadParent refl) (given-refused _ _))));
         nine =
-            row a NoBlock (in-book bytes (λ b. modelIn b parent) (λ b. (parent < length (b .names)) × (sampleOf b parent ≡ [])) NoBlock refl
-            (λ b. next-check (t₁ b) BadParent (a₁ b) NoBlock (other BadParent NoBlock refl) (has-parent parent (length (b .names))) (own-check (t₂ b) NoBlock _ (no-word (sampleOf b parent)) (no-refusal _ _))));
+            row a NoBlock (in-book bytes next (λ b. (parent < length (b .names)) × (sampleOf b parent ≡ [])) NoBlock refl
+            (λ b. next-check (badParent b parent) BadParent (a₁ b) NoBlock (other BadParent NoBlock refl) (good-parent b parent) (own-check (t₂ b) NoBlock _ (no-word (sampleOf b parent)) (given-refused _ _))));
         none =
-            row-0 a (in-given bytes (λ b. modelIn b parent) (λ b. (parent < length (b .names)) × (¬ (sampleOf b parent ≡ [])))
-            (λ b. pass-check (t₁ b) BadParent (a₁ b) (has-parent parent (length (b .names))) (last-check (t₂ b) NoBlock _ (some-word (sampleOf b parent)))));
-        no-other = no-other (λ k. (k ≡ 8) ⊎ (k ≡ 9)) bytes (λ b. modelIn b parent) model-only;
+            row-0 a (in-given bytes next (λ b. (parent < length (b .names)) × (¬ (sampleOf b parent ≡ [])))
+            (λ b q. pass-check (badParent b parent) BadParent (a₁ b) (good-parent b parent) (last-check (t₂ b) NoBlock _ (some-word (sampleOf b parent)))));
+        no-other = no-other (λ k. (k ≡ 8) ⊎ (k ≡ 9)) bytes next (model-each (λ f. (numberOf f ≡ 8) ⊎ (numberOf f ≡ 9)) (inl refl) (inr refl));
       }
 
 -- ---- a declaration written
@@ -189,7 +184,7 @@ module _ (bytes : List ℕ) (parent : ℕ) where
 -- the last check of both ways to write, and what is behind it
 short-law : (room : ℕ) (text : List ℕ) → (fitted room text ≡ refused BufferTooShort) ↔ (room < length text)
 unfolding fitted
-short-law room text = own-check (ltb room (length text)) BufferTooShort _ (below-law room (length text)) (no-refusal _ _)
+short-law room text = own-check (ltb room (length text)) BufferTooShort _ (below-law room (length text)) (given-refused _ _)
 
 fits-law : (room : ℕ) (text : List ℕ) → ((x : List ℕ) × (fitted room text ≡ given x)) ↔ (length text ≤ room)
 unfolding fitted
@@ -199,55 +194,72 @@ fitted-only : (room : ℕ) (text : List ℕ) (f : Refusal) → fitted room text 
 unfolding fitted
 fitted-only room text f e = own (ltb room (length text)) BufferTooShort text f e
 
-module _ (bytes : List ℕ) (parent : ℕ) (m : Model) (room : ℕ) where
-  -- the text of a book, its tests and what is behind them
-  abbrev text : Book → List ℕ
-  text b = declaration (b .names) parent m
+-- Both ways to write: 8, then the number of r where P holds and not Q, then 12 for the text, else the text.
+record WritingRows (bytes : List ℕ) (parent room : ℕ) (r : Refusal) (P Q : Book → Type 0) (text : Book → List ℕ) (k : ℕ) : Type 0 where
+  book : BookConditions bytes k
+  eight : (k ≡ 8) ↔ ((b : Book) × TakenAs bytes b × (length (b .names) ≤ parent))
+  middle : (k ≡ numberOf r) ↔ ((b : Book) × TakenAs bytes b × ((parent < length (b .names)) × P b))
+  twelve : (k ≡ 12) ↔ ((b : Book) × TakenAs bytes b × ((parent < length (b .names)) × (Q b × (room < length (text b)))))
+  none : (k ≡ 0) ↔ ((b : Book) × TakenAs bytes b × ((parent < length (b .names)) × (Q b × (length (text b) ≤ room))))
+  no-other : (k ≡ 0) ⊎ (OfBook k ⊎ ((k ≡ 8) ⊎ ((k ≡ numberOf r) ⊎ (k ≡ 12))))
 
-  abbrev s₁ : Book → Bool
-  s₁ b = not (ltb parent (length (b .names)))
+module _ (bytes : List ℕ) (parent room : ℕ) (r : Refusal) (late : ofBook r ≡ false) (not-8 : ¬ (r ≡ BadParent)) (not-12 : ¬ (BufferTooShort ≡ r))
+    (t : Book → Bool) (P Q : Book → Type 0) (holds : (b : Book) → (t b ≡ true) ↔ P b) (fails : (b : Book) → (t b ≡ false) ↔ Q b) (text : Book → List ℕ) where
+  -- what is behind the first check, and the checks in a row
+  abbrev behind : Book → Answer (List ℕ)
+  behind b = refuseIf (t b) r (fitted room (text b))
 
-  abbrev s₂ : Book → Bool
-  s₂ b = not (isChain places (length (b .names)) m)
+  abbrev checks : Book → Answer (List ℕ)
+  checks b = refuseIf (badParent b parent) BadParent (behind b)
 
-  abbrev c₁ : Book → Answer (List ℕ)
-  c₁ b = refuseIf (s₂ b) NotAChain (fitted room (text b))
+  module _ (next : Book → Answer (List ℕ)) (is : (b : Book) → next b ≡ checks b) where
+    -- a law of the checks is one of what the call does with the book
+    by-row : {C : Type 0} (b : Book) (x : Answer (List ℕ)) → (checks b ≡ x) ↔ C → (next b ≡ x) ↔ C
+    by-row b x law = (λ e. law .0 (sym (is b) ∙ e), λ c. is b ∙ law .1 c)
 
-  abbrev writeIn : Book → Answer (List ℕ)
-  writeIn b = refuseIf (s₁ b) BadParent (c₁ b)
+    by-given : {C : Type 0} (b : Book) → ((x : List ℕ) × (checks b ≡ given x)) ↔ C → ((x : List ℕ) × (next b ≡ given x)) ↔ C
+    by-given b law = (λ (x, e). law .0 (x, sym (is b) ∙ e), λ c. let (x, e) = law .1 c in (x, is b ∙ e))
 
-  -- its three refusals, each with the number that P has
-  write-each : (P : Refusal → Type 0) → P BadParent → P NotAChain → P BufferTooShort → (b : Book) (f : Refusal) → writeIn b ≡ refused f → P f
-  write-each P p₁ p₂ p₃ b f e =
-      ⊎-elim (λ z. subst P z p₁)
-      (λ h. ⊎-elim (λ z. subst P z p₂) (λ k. subst P (fitted-only room (text b) f k) p₃) (own-or-next (s₂ b) NotAChain _ f h))
-      (own-or-next (s₁ b) BadParent _ f e)
+    -- its three refusals, each with what R says of it
+    each : (R : Refusal → Type 0) → R BadParent → R r → R BufferTooShort → (b : Book) (f : Refusal) → next b ≡ refused f → R f
+    each R p₁ p₂ p₃ b f e =
+        ⊎-elim (λ z. subst R z p₁)
+        (λ h. ⊎-elim (λ z. subst R z p₂) (λ k. subst R (fitted-only room (text b) f k) p₃) (own-or-next (t b) r _ f h))
+        (own-or-next (badParent b parent) BadParent _ f (sym (is b) ∙ e))
 
-  pub write-conditions : WriteConditions bytes parent m room (answerNumber (writeAnswer bytes parent m room))
-  unfolding writeAnswer
-  write-conditions =
-      let a = writeAnswer bytes parent m room in
-      record {
-        book = book-rows bytes a (λ f l. book-first bytes writeIn f l (λ b. write-each (λ r. ofBook r ≡ false) refl refl refl b f));
-        eight =
-            row a BadParent (in-book bytes writeIn (λ b. length (b .names) ≤ parent) BadParent refl
-            (λ b. own-check (s₁ b) BadParent (c₁ b) (no-parent parent (length (b .names)))
-            (avoids (s₂ b) NotAChain _ BadParent (other NotAChain BadParent refl) (λ e. other BufferTooShort BadParent refl (fitted-only room (text b) BadParent e)))));
-        ten =
-            row a NotAChain (in-book bytes writeIn (λ b. (parent < length (b .names)) × (¬ IsChain places (length (b .names)) m)) NotAChain refl
-            (λ b. next-check (s₁ b) BadParent (c₁ b) NotAChain (other BadParent NotAChain refl) (has-parent parent (length (b .names)))
-            (own-check (s₂ b) NotAChain _ (not-chain (length (b .names)) m) (λ e. other BufferTooShort NotAChain refl (fitted-only room (text b) NotAChain e)))));
-        twelve =
-            row a BufferTooShort (in-book bytes writeIn (λ b. (parent < length (b .names)) × (IsChain places (length (b .names)) m × (room < length (text b)))) BufferTooShort refl
-            (λ b. next-check (s₁ b) BadParent (c₁ b) BufferTooShort (other BadParent BufferTooShort refl) (has-parent parent (length (b .names)))
-            (next-check (s₂ b) NotAChain _ BufferTooShort (other NotAChain BufferTooShort refl) (is-chain (length (b .names)) m) (short-law room (text b)))));
-        none =
-            row-0 a (in-given bytes writeIn (λ b. (parent < length (b .names)) × (IsChain places (length (b .names)) m × (length (text b) ≤ room)))
-            (λ b. pass-check (s₁ b) BadParent (c₁ b) (has-parent parent (length (b .names))) (pass-check (s₂ b) NotAChain _ (is-chain (length (b .names)) m) (fits-law room (text b)))));
-        no-other =
-            no-other (λ k. (k ≡ 8) ⊎ ((k ≡ 10) ⊎ (k ≡ 12))) bytes writeIn
-            (write-each (λ f. (numberOf f ≡ 8) ⊎ ((numberOf f ≡ 10) ⊎ (numberOf f ≡ 12))) (inl refl) (inr (inl refl)) (inr (inr refl)));
-      }
+    writing-rows : WritingRows bytes parent room r P Q text (answerNumber (onward (takenBook bytes) next))
+    writing-rows =
+        let a = onward (takenBook bytes) next in
+        record {
+          book = book-rows bytes a (λ f l. book-first bytes next f l (λ b. each (λ q. ofBook q ≡ false) refl late refl b f));
+          eight =
+              row a BadParent (in-book bytes next (λ b. length (b .names) ≤ parent) BadParent refl
+              (λ b. by-row b (refused BadParent) (own-check (badParent b parent) BadParent (behind b) (bad-parent b parent)
+              (avoids (t b) r _ BadParent not-8 (λ e. other BufferTooShort BadParent refl (fitted-only room (text b) BadParent e))))));
+          middle =
+              row a r (in-book bytes next (λ b. (parent < length (b .names)) × P b) r late
+              (λ b. by-row b (refused r) (next-check (badParent b parent) BadParent (behind b) r (λ e. not-8 (sym e)) (good-parent b parent)
+              (own-check (t b) r _ (holds b) (λ e. not-12 (fitted-only room (text b) r e))))));
+          twelve =
+              row a BufferTooShort (in-book bytes next (λ b. (parent < length (b .names)) × (Q b × (room < length (text b)))) BufferTooShort refl
+              (λ b. by-row b (refused BufferTooShort) (next-check (badParent b parent) BadParent (behind b) BufferTooShort (other BadParent BufferTooShort refl) (good-parent b parent)
+              (next-check (t b) r _ BufferTooShort (λ e. not-12 (sym e)) (fails b) (short-law room (text b))))));
+          none =
+              row-0 a (in-given bytes next (λ b. (parent < length (b .names)) × (Q b × (length (text b) ≤ room)))
+              (λ b q. by-given b (pass-check (badParent b parent) BadParent (behind b) (good-parent b parent) (pass-check (t b) r _ (fails b) (fits-law room (text b))))));
+          no-other =
+              no-other (λ k. (k ≡ 8) ⊎ ((k ≡ numberOf r) ⊎ (k ≡ 12))) bytes next
+              (each (λ f. (numberOf f ≡ 8) ⊎ ((numberOf f ≡ numberOf r) ⊎ (numberOf f ≡ 12))) (inl refl) (inr (inl refl)) (inr (inr refl)));
+        }
+
+pub write-conditions : (bytes : List ℕ) (parent : ℕ) (m : Model) (room : ℕ) → WriteConditions bytes parent m room (answerNumber (writeAnswer bytes parent m room))
+unfolding writeAnswer writeIn
+write-conditions bytes parent m room =
+    let h =
+    writing-rows bytes parent room NotAChain refl (other NotAChain BadParent refl) (other BufferTooShort NotAChain refl) (λ b. not (isChain places (length (b .names)) m))
+    (λ b. ¬ IsChain places (length (b .names)) m) (λ b. IsChain places (length (b .names)) m) (λ b. not-chain (length (b .names)) m) (λ b. is-chain (length (b .names)) m)
+    (λ b. declaration (b .names) parent m) (λ b. writeIn b parent m room) (λ b. refl) in
+    record { book = h .book; eight = h .eight; ten = h .middle; twelve = h .twelve; none = h .none; no-other = h .no-other }
 
 -- ---- a declaration written from the sample
 
@@ -257,78 +269,29 @@ in-row r₁ r₂ a f true t₂ = refl
 in-row r₁ r₂ a f false true = refl
 in-row r₁ r₂ a f false false = refl
 
-module _ (bytes : List ℕ) (parent room : ℕ) where
-  abbrev u₁ : Book → Bool
-  u₁ b = not (ltb parent (length (b .names)))
-
-  abbrev u₂ : Book → Bool
-  u₂ b = noWord (sampleOf b parent)
-
-  abbrev d₁ : Book → Answer (List ℕ)
-  d₁ b = refuseIf (u₂ b) NoBlock (fitted room (sampleDeclaration b parent))
-
-  abbrev rowIn : Book → Answer (List ℕ)
-  rowIn b = refuseIf (u₁ b) BadParent (d₁ b)
-
-  abbrev sampleIn : Book → Answer (List ℕ)
-  sampleIn b = onward (modelIn b parent) (λ m. fitted room (declaration (b .names) parent m))
-
-  row-is : (b : Book) → sampleIn b ≡ rowIn b
-  unfolding modelIn badParent chainIn
-  row-is b = in-row BadParent NoBlock (chainIn b parent) (λ m. fitted room (declaration (b .names) parent m)) (u₁ b) (u₂ b)
-
-  -- a law of the row is one of the answer
-  by-row : {C : Type 0} (b : Book) (x : Answer (List ℕ)) → (rowIn b ≡ x) ↔ C → (sampleIn b ≡ x) ↔ C
-  by-row b x law = (λ e. law .0 (sym (row-is b) ∙ e), λ c. row-is b ∙ law .1 c)
-
-  by-given : {C : Type 0} (b : Book) → ((x : List ℕ) × (rowIn b ≡ given x)) ↔ C → ((x : List ℕ) × (sampleIn b ≡ given x)) ↔ C
-  by-given b law = (λ (x, e). law .0 (x, sym (row-is b) ∙ e), λ c. let (x, e) = law .1 c in (x, row-is b ∙ e))
-
-  sample-each : (P : Refusal → Type 0) → P BadParent → P NoBlock → P BufferTooShort → (b : Book) (f : Refusal) → sampleIn b ≡ refused f → P f
-  sample-each P p₁ p₂ p₃ b f e =
-      ⊎-elim (λ z. subst P z p₁)
-      (λ h. ⊎-elim (λ z. subst P z p₂) (λ k. subst P (fitted-only room (sampleDeclaration b parent) f k) p₃) (own-or-next (u₂ b) NoBlock _ f h))
-      (own-or-next (u₁ b) BadParent _ f (sym (row-is b) ∙ e))
-
-  pub sample-conditions : SampleConditions bytes parent room (answerNumber (sampleText bytes parent room))
-  unfolding sampleText
-  sample-conditions =
-      let a = sampleText bytes parent room in
-      record {
-        book = book-rows bytes a (λ f l. book-first bytes sampleIn f l (λ b. sample-each (λ r. ofBook r ≡ false) refl refl refl b f));
-        eight =
-            row a BadParent (in-book bytes sampleIn (λ b. length (b .names) ≤ parent) BadParent refl
-            (λ b. by-row b (refused BadParent) (own-check (u₁ b) BadParent (d₁ b) (no-parent parent (length (b .names)))
-            (avoids (u₂ b) NoBlock _ BadParent (other NoBlock BadParent refl) (λ e. other BufferTooShort BadParent refl (fitted-only room _ BadParent e))))));
-        nine =
-            row a NoBlock (in-book bytes sampleIn (λ b. (parent < length (b .names)) × (sampleOf b parent ≡ [])) NoBlock refl
-            (λ b. by-row b (refused NoBlock) (next-check (u₁ b) BadParent (d₁ b) NoBlock (other BadParent NoBlock refl) (has-parent parent (length (b .names)))
-            (own-check (u₂ b) NoBlock _ (no-word (sampleOf b parent)) (λ e. other BufferTooShort NoBlock refl (fitted-only room _ NoBlock e))))));
-        twelve =
-            row a BufferTooShort (in-book bytes sampleIn (λ b. (parent < length (b .names)) × ((¬ (sampleOf b parent ≡ [])) × (room < length (sampleDeclaration b parent)))) BufferTooShort refl
-            (λ b. by-row b (refused BufferTooShort) (next-check (u₁ b) BadParent (d₁ b) BufferTooShort (other BadParent BufferTooShort refl) (has-parent parent (length (b .names)))
-            (next-check (u₂ b) NoBlock _ BufferTooShort (other NoBlock BufferTooShort refl) (some-word (sampleOf b parent)) (short-law room (sampleDeclaration b parent))))));
-        none =
-            row-0 a (in-given bytes sampleIn (λ b. (parent < length (b .names)) × ((¬ (sampleOf b parent ≡ [])) × (length (sampleDeclaration b parent) ≤ room)))
-            (λ b. by-given b (pass-check (u₁ b) BadParent (d₁ b) (has-parent parent (length (b .names)))
-            (pass-check (u₂ b) NoBlock _ (some-word (sampleOf b parent)) (fits-law room (sampleDeclaration b parent))))));
-        no-other =
-            no-other (λ k. (k ≡ 8) ⊎ ((k ≡ 9) ⊎ (k ≡ 12))) bytes sampleIn
-            (sample-each (λ f. (numberOf f ≡ 8) ⊎ ((numberOf f ≡ 9) ⊎ (numberOf f ≡ 12))) (inl refl) (inr (inl refl)) (inr (inr refl)));
-      }
+pub sample-conditions : (bytes : List ℕ) (parent room : ℕ) → SampleConditions bytes parent room (answerNumber (sampleText bytes parent room))
+unfolding sampleText modelIn chainIn
+sample-conditions bytes parent room =
+    let h =
+    writing-rows bytes parent room NoBlock refl (other NoBlock BadParent refl) (other BufferTooShort NoBlock refl) (λ b. noWord (sampleOf b parent))
+    (λ b. sampleOf b parent ≡ []) (λ b. ¬ (sampleOf b parent ≡ [])) (λ b. no-word (sampleOf b parent)) (λ b. some-word (sampleOf b parent))
+    (λ b. sampleDeclaration b parent) (λ b. onward (modelIn b parent) (λ m. fitted room (declaration (b .names) parent m)))
+    (λ b. in-row BadParent NoBlock (chainIn b parent) (λ m. fitted room (declaration (b .names) parent m)) (badParent b parent) (noWord (sampleOf b parent))) in
+    record { book = h .book; eight = h .eight; nine = h .middle; twelve = h .twelve; none = h .none; no-other = h .no-other }
 
 -- ---- a declaration read
 
 module _ (bytes text : List ℕ) where
-  read-given : ((x : Declared) × (readAnswer bytes text ≡ given x)) ↔ ((b : Book) × IsBook bytes b × ((p : ℕ) × (m : Model) × Spelled places (b .names) text p m))
+  read-given : ((x : Declared) × (readAnswer bytes text ≡ given x)) ↔ ((b : Book) × TakenAs bytes b × ((p : ℕ) × (m : Model) × Spelled places (b .names) text p m))
   unfolding readAnswer
-  read-given = (
-    λ (x, e).
-        let (b, q, g) = book-given bytes (λ b. readText places (b .names) text) x .0 e in
-        (b, q, (x .parent, x .model, Spelling.read-sound places (b .names) (good-names bytes b q) text (x .parent) (x .model) g)),
-    λ (b, q, (p, m, S)).
-        (declared p m, book-given bytes (λ b. readText places (b .names) text) (declared p m) .1 (b, q, Spelling.read-complete places (b .names) (good-names bytes b q) text p m S)),
-  )
+  read-given = in-given bytes (λ b. readText places (b .names) text) (λ b. (p : ℕ) × (m : Model) × Spelled places (b .names) text p m) spelled
+    where
+      spelled : (b : Book) → TakenAs bytes b → ((x : Declared) × (readText places (b .names) text ≡ given x)) ↔ ((p : ℕ) × (m : Model) × Spelled places (b .names) text p m)
+      spelled b q =
+          let good = good-names bytes b (taken-law bytes b .0 q) in (
+            λ (x, g). (x .parent, x .model, Spelling.read-sound places (b .names) good text (x .parent) (x .model) g),
+            λ (p, m, S). (declared p m, Spelling.read-complete places (b .names) good text p m S),
+          )
 
   read-only : (f : Refusal) → readAnswer bytes text ≡ refused f → OfBook (numberOf f) ⊎ ((numberOf f ≡ 13) ⊎ ((numberOf f ≡ 14) ⊎ (numberOf f ≡ 15)))
   read-only f e =

@@ -9,47 +9,35 @@ use mathlib.Core.Logic.{_↔_}
 use native.Mathlib.Omega.{arith}
 use lib.ListN.{length, take, drop}
 use lib.Seq.{drop-append-seam}
-use borrow.Author.Tests.{lt-ltb}
-use Rattle.refusal.specs.declared.Refusal.{Refusal}
-use Rattle.refusal.specs.declared.Outcome.{Outcome}
-use Rattle.refusal.specs.declared.Outcome.the-variants.{Done, Refused}
-use Rattle.refusal.specs.Table.{numberOf}
+use Rattle.refusal.specs.declared.Outcome.the-variants.{Done}
 use Rattle.refusal.specs.Answer.{Answer, given, onward, valueOr, outcomeNumber}
+use Rattle.refusal.proofs.Laws.{refused-by, done-by}
 use Rattle.refusal.proofs.Answers.{onward-given, outcome-refused, outcome-given}
-use Rattle.refusal.proofs.Laws.{number-positive}
 use Rattle.nameset.specs.Places.{places}
-use Rattle.book.specs.Book.{Book, bookOf, IsBook}
+use Rattle.book.specs.Book.{Book}
+use Rattle.book.specs.Taken.{takenBook, TakenAs}
+use Rattle.book.proofs.Taken.{good-parent}
 use Rattle.model.specs.declared.Model.{Model}
 use Rattle.model.specs.Record.{IsChain, dueModel}
 use Rattle.model.proofs.Chain.{chain-law}
 use Rattle.declaration_spelling.specs.Length.{longestDeclaration}
 use Rattle.declaration_spelling.specs.Spelled.{Spelled}
 use Rattle.declaration_writing.specs.declared.Written.{Written}
-use Rattle.declaration_writing.specs.Write.{writeAnswer, lengthDue, written, bufferAfter, Writes, WritesDeclaration}
+use Rattle.declaration_writing.specs.Write.{writeIn, writeAnswer, lengthDue, written, bufferAfter, Writes, WritesDeclaration}
 use Rattle.byte_buffer.proofs.Puts.{wrote-back}
 use Rattle.declaration_writing.proofs.Back.{Given, text-given, buffer-given, buffer-kept}
 use Rattle.declaration_reading.specs.declared.Declaration.{Declaration}
 use Rattle.declaration_reading.specs.Read.{Reads, ReadsDeclaration}
 use Rattle.declaration_reading.proofs.Theorem as Reading
-use Rattle.intake.specs.declared.Acceptance.{Acceptance}
-use Rattle.intake.specs.declared.Acceptance.the-variants.{Yes, No, Refused as Stopped}
-use Rattle.intake.specs.declared.Inferred.{Inferred}
-use Rattle.intake.specs.Acceptance.{acceptanceNumber, acceptanceYes}
-use Rattle.intake.specs.Inference.{modelIn, modelAnswer, inferred, InfersModel}
-use Rattle.intake.specs.Writing.{sampleText, WritesSample}
-use Rattle.intake.proofs.Writing.{model-given}
-use Rattle.intake.proofs.NoBetterModel as Model3
+use Rattle.intake_word.specs.declared.Acceptance.{Acceptance}
+use Rattle.intake_word.specs.declared.Acceptance.the-variants.{Yes, No, Refused as Stopped}
+use Rattle.intake_sample.specs.declared.Inferred.{Inferred}
+use Rattle.intake_word.specs.Acceptance.{acceptanceNumber, acceptanceYes}
+use Rattle.intake_sample.specs.Inference.{modelIn, modelAnswer, inferred, InfersModel}
+use Rattle.intake_sample.specs.Writing.{sampleText, WritesSample}
+use Rattle.intake_sample.proofs.Writing.{model-given}
+use Rattle.intake_sample.proofs.NoBetterModel as Model3
 use Rattle.demands.specs.Results.{Wrote}
-
--- ---- what an outcome's number tells
-
-pub refused-by : (o : Outcome) → 0 < outcomeNumber o → (f : Refusal) × (o ≡ Refused f)
-refused-by Done l = absurd (omega arith)
-refused-by (Refused f) l = (f, refl)
-
-pub done-by : (o : Outcome) → outcomeNumber o ≡ 0 → o ≡ Done
-done-by Done e = refl
-done-by (Refused f) e = absurd (let p : 0 < numberOf f = number-positive f in omega arith)
 
 -- ---- a yes or no
 
@@ -102,7 +90,7 @@ module _ (a : Answer (List ℕ)) (w : Written) (before after : List ℕ) (call :
 -- ---- a declaration written with a record
 
 module _ (bytes : List ℕ) (parent : ℕ) (m : Model) (w : Written) (before after : List ℕ) (call : WritesDeclaration bytes parent m w before after) where
-  pub write-done : outcomeNumber (w .outcome) ≡ 0 → (b : Book) × IsBook bytes b × Wrote (b .names) parent m (w .length) before after
+  pub write-done : outcomeNumber (w .outcome) ≡ 0 → (b : Book) × TakenAs bytes b × Wrote (b .names) parent m (w .length) before after
   write-done z =
       let (t, e) = writes-given _ w before after call (done-by (w .outcome) z) in
       let g : Given bytes parent m (length before) t = text-given bytes parent m (length before) t e in (
@@ -125,18 +113,18 @@ module _ (bytes : List ℕ) (parent : ℕ) (m : Model) (w : Written) (before aft
 
 -- The call that writes from the sample writes what the other writes with the model that the call for it gives.
 sample-as-written : (bytes : List ℕ) (parent room : ℕ) (m : Model) → modelAnswer bytes parent ≡ given m → sampleText bytes parent room ≡ writeAnswer bytes parent m room
-unfolding sampleText writeAnswer inferred
+unfolding sampleText writeAnswer writeIn inferred
 sample-as-written bytes parent room m e =
     let g = model-given bytes parent m e in
     let n = length (g .book .names) in
     let q : inferred (modelAnswer bytes parent) .model ≡ m = ap (λ (a : Answer Model). inferred a .model) e in
     let c : IsChain places n m = subst (IsChain places n) q (Model3.is-chain bytes parent (inferred (modelAnswer bytes parent)) refl (g .book) (g .read) (g .some)) in
-    rw (g .read, g .due, lt-ltb parent n (g .below), chain-law places n m .1 c)
+    rw (g .read, g .due, good-parent (g .book) parent .1 (g .below), chain-law places n m .1 c)
 
 sample-model : (bytes : List ℕ) (parent room : ℕ) (t : List ℕ) → sampleText bytes parent room ≡ given t → (m : Model) × (modelAnswer bytes parent ≡ given m)
 unfolding sampleText modelAnswer
 sample-model bytes parent room t e =
-    let b = onward-given (bookOf bytes) _ t e in
+    let b = onward-given (takenBook bytes) _ t e in
     let m = onward-given (modelIn (b .0) parent) _ t (b .2) in
     (m .0, ap (λ (a : Answer Book). onward a (λ b. modelIn b parent)) (b .1) ∙ m .1)
 
@@ -156,7 +144,7 @@ as-written bytes parent w before after call z x asked =
 
 pub read-writes : (bytes text : List ℕ) (r : Declaration) → ReadsDeclaration bytes text r → outcomeNumber (r .outcome) ≡ 0 →
     (w : Written) (before after : List ℕ) → WritesDeclaration bytes (r .parent) (r .model) w before after → longestDeclaration ≤ length before →
-    (b : Book) × IsBook bytes b × ((outcomeNumber (w .outcome) ≡ 0) × Wrote (b .names) (r .parent) (r .model) (w .length) before after)
+    (b : Book) × TakenAs bytes b × ((outcomeNumber (w .outcome) ≡ 0) × Wrote (b .names) (r .parent) (r .model) (w .length) before after)
 unfolding written
 read-writes bytes text r reads z w before after call room =
     let e = Reading.read-writes bytes text r reads (length before) room (done-by (r .outcome) z) .2 in
@@ -166,7 +154,7 @@ read-writes bytes text r reads z w before after call room =
 
 -- read as the parent p and the record m, by the number
 pub read-number : (bytes text : List ℕ) (r : Declaration) → ReadsDeclaration bytes text r → (p : ℕ) (m : Model) →
-    ((outcomeNumber (r .outcome) ≡ 0) × (r .parent ≡ p) × (r .model ≡ m)) ↔ ((b : Book) × IsBook bytes b × Spelled places (b .names) text p m)
+    ((outcomeNumber (r .outcome) ≡ 0) × (r .parent ≡ p) × (r .model ≡ m)) ↔ ((b : Book) × TakenAs bytes b × Spelled places (b .names) text p m)
 read-number bytes text r call p m =
     let h = Reading.read-exactly bytes text r call p m in
     (λ (z, a, b). h .0 (done-by (r .outcome) z, a, b), λ s. let (o, a, b) = h .1 s in (ap outcomeNumber o, a, b))

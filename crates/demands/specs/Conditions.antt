@@ -1,6 +1,6 @@
 -- To be believed: when exactly a call is refused, and for which number (demand 1; paper 01, "Where a call stops").
 -- k is the number that the call answered, 0 where it was not refused. One record for each call. Each condition includes
--- that no earlier one applies.
+-- that no earlier one applies. `TakenAs bytes b`: the call takes the bytes as the book b (crates/book/specs/Taken.antt).
 -- Assumes nothing.
 use Prim.Native.Nat.{ℕ, _≤_, _<_}
 use mathlib.Core.Path.{_≡_}
@@ -12,7 +12,8 @@ use Rattle.refusal.specs.declared.Refusal.{Refusal}
 use Rattle.refusal.specs.declared.Refusal.the-variants.{BookTooLong, BytesMissing, BadNameCount, BadName, NameNotAbove, NumberNotBelow, BytesLeftOver}
 use Rattle.refusal.specs.Table.{numberOf, ofBook}
 use Rattle.nameset.specs.Places.{places, OutOfRange}
-use Rattle.book.specs.Book.{Book, IsBook}
+use Rattle.book.specs.Book.{Book}
+use Rattle.book.specs.Taken.{TakenAs}
 use Rattle.book.specs.Stops.{Stops}
 use Rattle.model.specs.declared.Model.{Model}
 use Rattle.model.specs.Record.{IsChain}
@@ -20,8 +21,8 @@ use Rattle.chain_sample.specs.Sample.{chainOfWords}
 use Rattle.declaration_spelling.specs.House.{declaration}
 use Rattle.declaration_spelling.specs.Spelled.{Spelled}
 use Rattle.declaration_spelling.specs.Stops.{Form, modelNames, formNames, Twice, HasForm}
-use Rattle.intake.specs.Acceptance.{longestWord, Passes}
-use Rattle.intake.specs.Inference.{sampleOf}
+use Rattle.intake_word.specs.Acceptance.{longestWord, Passes}
+use Rattle.intake_sample.specs.Inference.{sampleOf}
 
 -- k is the number of a refusal that concerns the book, 1 to 7.
 abbrev pub OfBook : ℕ → Type 0
@@ -64,21 +65,21 @@ pub record WordConditions (n : ℕ) (m : Model) (w : List ℕ) (k : ℕ) : Type 
 pub record ModelConditions (bytes : List ℕ) (parent : ℕ) (k : ℕ) : Type 0 where
   pub book : BookConditions bytes k
   -- "not below N"
-  pub eight : (k ≡ 8) ↔ ((b : Book) × IsBook bytes b × (length (b .names) ≤ parent))
+  pub eight : (k ≡ 8) ↔ ((b : Book) × TakenAs bytes b × (length (b .names) ≤ parent))
   -- "no block has it"
-  pub nine : (k ≡ 9) ↔ ((b : Book) × IsBook bytes b × ((parent < length (b .names)) × (sampleOf b parent ≡ [])))
-  pub none : (k ≡ 0) ↔ ((b : Book) × IsBook bytes b × ((parent < length (b .names)) × (¬ (sampleOf b parent ≡ []))))
+  pub nine : (k ≡ 9) ↔ ((b : Book) × TakenAs bytes b × ((parent < length (b .names)) × (sampleOf b parent ≡ [])))
+  pub none : (k ≡ 0) ↔ ((b : Book) × TakenAs bytes b × ((parent < length (b .names)) × (¬ (sampleOf b parent ≡ []))))
   pub no-other : (k ≡ 0) ⊎ (OfBook k ⊎ ((k ≡ 8) ⊎ (k ≡ 9)))
 
 -- A declaration written with the record m, into a buffer of `room` bytes.
 pub record WriteConditions (bytes : List ℕ) (parent : ℕ) (m : Model) (room : ℕ) (k : ℕ) : Type 0 where
   pub book : BookConditions bytes k
-  pub eight : (k ≡ 8) ↔ ((b : Book) × IsBook bytes b × (length (b .names) ≤ parent))
-  pub ten : (k ≡ 10) ↔ ((b : Book) × IsBook bytes b × ((parent < length (b .names)) × (¬ IsChain places (length (b .names)) m)))
+  pub eight : (k ≡ 8) ↔ ((b : Book) × TakenAs bytes b × (length (b .names) ≤ parent))
+  pub ten : (k ≡ 10) ↔ ((b : Book) × TakenAs bytes b × ((parent < length (b .names)) × (¬ IsChain places (length (b .names)) m)))
   -- "shorter than the declaration"
-  pub twelve : (k ≡ 12) ↔ ((b : Book) × IsBook bytes b ×
+  pub twelve : (k ≡ 12) ↔ ((b : Book) × TakenAs bytes b ×
       ((parent < length (b .names)) × (IsChain places (length (b .names)) m × (room < length (declaration (b .names) parent m)))))
-  pub none : (k ≡ 0) ↔ ((b : Book) × IsBook bytes b ×
+  pub none : (k ≡ 0) ↔ ((b : Book) × TakenAs bytes b ×
       ((parent < length (b .names)) × (IsChain places (length (b .names)) m × (length (declaration (b .names) parent m) ≤ room))))
   pub no-other : (k ≡ 0) ⊎ (OfBook k ⊎ ((k ≡ 8) ⊎ ((k ≡ 10) ⊎ (k ≡ 12))))
 
@@ -89,11 +90,11 @@ sampleDeclaration b parent = declaration (b .names) parent (chainOfWords places 
 -- A declaration written from the sample, into a buffer of `room` bytes.
 pub record SampleConditions (bytes : List ℕ) (parent room : ℕ) (k : ℕ) : Type 0 where
   pub book : BookConditions bytes k
-  pub eight : (k ≡ 8) ↔ ((b : Book) × IsBook bytes b × (length (b .names) ≤ parent))
-  pub nine : (k ≡ 9) ↔ ((b : Book) × IsBook bytes b × ((parent < length (b .names)) × (sampleOf b parent ≡ [])))
-  pub twelve : (k ≡ 12) ↔ ((b : Book) × IsBook bytes b ×
+  pub eight : (k ≡ 8) ↔ ((b : Book) × TakenAs bytes b × (length (b .names) ≤ parent))
+  pub nine : (k ≡ 9) ↔ ((b : Book) × TakenAs bytes b × ((parent < length (b .names)) × (sampleOf b parent ≡ [])))
+  pub twelve : (k ≡ 12) ↔ ((b : Book) × TakenAs bytes b ×
       ((parent < length (b .names)) × ((¬ (sampleOf b parent ≡ [])) × (room < length (sampleDeclaration b parent)))))
-  pub none : (k ≡ 0) ↔ ((b : Book) × IsBook bytes b ×
+  pub none : (k ≡ 0) ↔ ((b : Book) × TakenAs bytes b ×
       ((parent < length (b .names)) × ((¬ (sampleOf b parent ≡ [])) × (length (sampleDeclaration b parent) ≤ room))))
   pub no-other : (k ≡ 0) ⊎ (OfBook k ⊎ ((k ≡ 8) ⊎ ((k ≡ 9) ⊎ (k ≡ 12))))
 
@@ -101,12 +102,12 @@ pub record SampleConditions (bytes : List ℕ) (parent room : ℕ) (k : ℕ) : T
 pub record ReadConditions (bytes text : List ℕ) (k : ℕ) : Type 0 where
   pub book : BookConditions bytes k
   -- "not the form above"
-  pub thirteen : (k ≡ 13) ↔ ((b : Book) × IsBook bytes b × ((d : Form) → ¬ HasForm text d))
+  pub thirteen : (k ≡ 13) ↔ ((b : Book) × TakenAs bytes b × ((d : Form) → ¬ HasForm text d))
   -- "a name not in the book", "the parent's included"
-  pub fourteen : (k ≡ 14) ↔ ((b : Book) × IsBook bytes b ×
+  pub fourteen : (k ≡ 14) ↔ ((b : Book) × TakenAs bytes b ×
       ((d : Form) × HasForm text d × ((x : List ℕ) × List·Memᴰ x (formNames d) × (¬ List·Memᴰ x (b .names)))))
   -- "a name twice in the model"
-  pub fifteen : (k ≡ 15) ↔ ((b : Book) × IsBook bytes b ×
+  pub fifteen : (k ≡ 15) ↔ ((b : Book) × TakenAs bytes b ×
       ((d : Form) × HasForm text d × ((x : List ℕ) → List·Memᴰ x (formNames d) → List·Memᴰ x (b .names)) × Twice (modelNames (d .factors))))
-  pub none : (k ≡ 0) ↔ ((b : Book) × IsBook bytes b × ((p : ℕ) × (m : Model) × Spelled places (b .names) text p m))
+  pub none : (k ≡ 0) ↔ ((b : Book) × TakenAs bytes b × ((p : ℕ) × (m : Model) × Spelled places (b .names) text p m))
   pub no-other : (k ≡ 0) ⊎ (OfBook k ⊎ ((k ≡ 13) ⊎ ((k ≡ 14) ⊎ (k ≡ 15))))

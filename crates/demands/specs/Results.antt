@@ -5,14 +5,15 @@ use mathlib.Core.Path.{_≡_}
 use mathlib.Core.List.{List, []}
 use lib.ListN.{length, take, drop}
 use Rattle.nameset.specs.Places.{places}
-use Rattle.book.specs.Book.{Book, IsBook}
+use Rattle.book.specs.Book.{Book}
+use Rattle.book.specs.Taken.{TakenAs}
 use Rattle.model.specs.declared.Model.{Model}
 use Rattle.model.specs.Record.{IsChain}
 use Rattle.model.specs.Accept.{Accepts, Names}
 use Rattle.model_language.specs.Word.{AcceptsAll}
 use Rattle.declaration_spelling.specs.House.{declaration}
-use Rattle.intake.specs.declared.Inferred.{Inferred}
-use Rattle.intake.specs.Inference.{sampleOf, InfersModel}
+use Rattle.intake_sample.specs.declared.Inferred.{Inferred}
+use Rattle.intake_sample.specs.Inference.{sampleOf, InfersModel}
 
 -- The declaration of m for the parent is at the front of the buffer, in canonical form (paper 01's house spelling).
 -- Its length was answered, and the bytes behind it are those that the buffer held before.
@@ -21,11 +22,11 @@ pub record Wrote (names : List (List ℕ)) (parent : ℕ) (m : Model) (answered 
   pub front : take answered after ≡ declaration names parent m
   pub past : drop answered after ≡ drop answered before
 
--- The call for a parent's model was made with bytes that are the book b, which has a block of the parent: its sample is
--- not empty.
+-- The call for a parent's model was made with bytes that are taken as the book b, which has a block of the parent: its
+-- sample is not empty.
 pub record Asked (bytes : List ℕ) (parent : ℕ) (r : Inferred) (b : Book) : Type 0 where
   pub call : InfersModel bytes parent r
-  pub read : IsBook bytes b
+  pub read : TakenAs bytes b
   pub block : ¬ (sampleOf b parent ≡ [])
 
 -- Demand 3, of a record and the words of a sample over n names.

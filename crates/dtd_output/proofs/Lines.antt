@@ -10,25 +10,23 @@ use lib.ListN.{length, length-append}
 use Rattle.refusal.specs.Answer.{given}
 use Rattle.nameset.specs.Places.{places}
 use Rattle.book.specs.declared.Layout.{Layout}
-use Rattle.book.specs.Book.{bookOf, namesIn, blocksIn}
+use Rattle.book.specs.Book.{IsBook, namesIn, blocksIn}
 use Rattle.book.specs.Access.{LaidOut}
 use Rattle.book.proofs.Laws.{names-in, blocks-in, name-count, few-names}
 use Rattle.model.specs.declared.Model.{Model}
-use Rattle.model.specs.Record.{none, IsChain}
+use Rattle.model.specs.Record.{IsChain}
 use Rattle.follow.specs.declared.Facts.{Facts}
 use Rattle.follow.specs.Sample.{wordsOf}
 use Rattle.follow.specs.Adding.{factsOf}
 use Rattle.follow_table.specs.Table.{tableSize, rowOf, factsIn, countIn, Gathered}
-use Rattle.chain_minimal.proofs.Demand as Demand
 use Rattle.chain_sample.specs.Sample.{chainOfWords}
 use Rattle.declaration_spelling.specs.House.{declaration}
 use Rattle.declaration_spelling.specs.Length.{longestDeclaration}
 use Rattle.byte_buffer.specs.Put.{Put, shown}
 use Rattle.byte_buffer.proofs.Puts.{Left, left-start, left-is, left-put, left-room, left-fits, left-last, left-done, put-nothing, put-is}
 use Rattle.declaration_text.proofs.Whole.{declaration-short}
-use Rattle.intake.specs.Inference.{sampleOf, noWord, chainIn}
-use Rattle.intake.proofs.Samples.{some-word, few, sample-names}
-use Rattle.intake.proofs.Inferring.{none-there, some-there}
+use Rattle.intake_sample.specs.Inference.{sampleOf, noWord, chainIn}
+use Rattle.intake_sample.proofs.Samples.{some-word, none-there, some-there, sample-chain}
 use Rattle.dtd_output.specs.Output.{lineOf, linesFrom, longestOutput, bookIn}
 
 -- ---- one parent
@@ -48,15 +46,12 @@ module _ (s : List ℕ) (l : Layout) (laid : LaidOut s l) (table : List ℕ) (ga
   facts-in facts e = e ∙ gathered .facts p placed
 
 module _ (s : List ℕ) (l : Layout) (laid : LaidOut s l) where
-  pub book-is : bookOf s ≡ given (bookIn s)
+  book-is : IsBook s (bookIn s)
   book-is = laid .read ∙ ap given (λ i. record { names = sym (names-in s l laid) i; blocks = sym (blocks-in s l laid) i })
 
   -- the chain of a parent with a block is one over the book's names
   sample-good : (p : ℕ) → ¬ (sampleOf (bookIn s) p ≡ []) → IsChain places (length (namesIn s)) (chainIn (bookIn s) p)
-  unfolding chainIn chainOfWords
-  sample-good p some =
-      Demand.is-chain places (length (namesIn s)) (few s (bookIn s) book-is) (let h : places ≤ none = omega arith in h) (sampleOf (bookIn s) p)
-      (sample-names s (bookIn s) book-is p) some
+  sample-good = sample-chain s (bookIn s) book-is
 
   module _ (p : ℕ) (below : p < l .names) (k : ℕ) (counted : k ≡ length (wordsOf p (blocksIn s))) where
     no-line : k ≡ 0 → lineOf (bookIn s) p ≡ []

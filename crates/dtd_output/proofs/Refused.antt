@@ -2,7 +2,7 @@
 -- Assumes nothing.
 use Prim.Native.Nat.{ℕ, _+_, _/_, _%_, _≤_, _<_}
 use mathlib.Core.Path.{_≡_, sym, _∙_, ap}
-use mathlib.Core.Bool.{Bool, cond}
+use mathlib.Core.Bool.{cond}
 use mathlib.Core.List.{List, [], _∷_, _++_}
 use native.Mathlib.Omega.{arith}
 use native.Mathlib.Decide.{decLt, ℕ-discrete}
@@ -15,18 +15,25 @@ use Rattle.byte_buffer.specs.Put.{Put, shown}
 use Rattle.byte_buffer.proofs.Puts.{Left, left-start, left-is, left-put, left-room, left-fits, left-last, shown-none, shown-one}
 use Rattle.dtd_output.specs.Output.{decimal, refusedWord, refusedText, longestOutput}
 
+-- the digit of the tens: none below 10
+pub no-tens : (n : ℕ) → n < 10 → 0 ≡ cond (ltb n 10) 0 (48 + n / 10)
+no-tens n h = rw (lt-ltb n 10 h)
+
+pub some-tens : (n : ℕ) → 10 ≤ n → 48 + n / 10 ≡ cond (ltb n 10) 0 (48 + n / 10)
+some-tens n h = rw (le-ltb n 10 h)
+
 digits : (n t : ℕ) (after : List ℕ) → t ≡ cond (ltb n 10) 0 (48 + n / 10) → decimal n ++ after ≡ shown t ++ (shown (48 + n % 10) ++ after)
 unfolding decimal
 digits n t after e = go (decLt n 10)
   where
     go : Dec (n < 10) → cond (ltb n 10) ((48 + n) ∷ []) ((48 + n / 10) ∷ (48 + n % 10) ∷ []) ++ after ≡ shown t ++ (shown (48 + n % 10) ++ after)
     go (yes h) =
-        let z : t ≡ 0 = e ∙ ap (λ (b : Bool). cond b 0 (48 + n / 10)) (lt-ltb n 10 h) in
+        let z : t ≡ 0 = e ∙ sym (no-tens n h) in
         let u : n % 10 ≡ n = omega arith in
         rw (lt-ltb n 10 h, shown-none t z, u, shown-one (48 + n) (λ q. absurd (let k : 48 + n ≡ 0 = q in omega arith)))
     go (no d) =
         let h : 10 ≤ n = omega arith in
-        let z : t ≡ 48 + n / 10 = e ∙ ap (λ (b : Bool). cond b 0 (48 + n / 10)) (le-ltb n 10 h) in
+        let z : t ≡ 48 + n / 10 = e ∙ sym (some-tens n h) in
         rw (le-ltb n 10 h, shown-one t (λ q. absurd (let k : t ≡ 0 = q in omega arith)), shown-one (48 + n % 10) (λ q. absurd (let k : 48 + n % 10 ≡ 0 = q in omega arith)), z)
 
 shown-short : (b : ℕ) → length (shown b) ≤ 1

@@ -11,7 +11,7 @@ use Rattle.refusal.specs.Table.{numberOf}
 use Rattle.refusal.specs.Answer.{Answer, given, refused}
 use Rattle.book.specs.Book.{Book, namesIn, blocksIn}
 use Rattle.declaration_spelling.specs.House.{declaration}
-use Rattle.intake.specs.Inference.{sampleOf, noWord, chainIn}
+use Rattle.intake_sample.specs.Inference.{sampleOf, noWord, chainIn}
 
 -- A parent's declaration and a line feed; nothing for a parent without a block.
 unfoldable pub lineOf : Book → ℕ → List ℕ
@@ -34,7 +34,7 @@ refusedWord = 114 ∷ 101 ∷ 102 ∷ 117 ∷ 115 ∷ 101 ∷ 100 ∷ 32 ∷ []
 unfoldable pub refusedText : Refusal → List ℕ
 refusedText r = refusedWord ++ (decimal (numberOf r) ++ (10 ∷ []))
 
--- All output.
+-- All output, for the book as it is taken (`takenBook` in crates/book/specs/Taken.antt).
 unfoldable pub outputOf : Answer Book → List ℕ
 outputOf (given b) = linesFrom b 0 (length (b .names))
 outputOf (refused r) = refusedText r

@@ -10,8 +10,8 @@ ghost use mathlib.Core.Bool.{cond};
 ghost use Prim.Native.Nat.{_+_, _/_, _%_, _≤_, _<_};
 ghost use lib.Dec.{ltb};
 ghost use lib.ListN.{length};
-ghost use Rattle.book.specs.Book.{bookOf};
 ghost use Rattle.book.specs.Access.{LaidOut};
+ghost use Rattle.book.specs.Taken.{takenBook};
 ghost use Rattle.follow_table.specs.Table.{Gathered};
 ghost use Rattle.byte_buffer.specs.Put.{Put};
 ghost use Rattle.dtd_output.specs.Output.{lineOf, linesFrom, refusedText, outputOf, longestOutput, bookIn};
@@ -78,9 +78,9 @@ fn put_lines(out: &mut [u8], bytes: &[u8], layout: Layout) -> usize
 // All output for any bytes as the book, into a buffer that has room for the longest.
 pub fn put_output(out: &mut [u8], bytes: &[u8]) -> usize
     requires { ⌜ longestOutput ≤ length (now out) ⌝ }
-    ensures { λ r. ⌜ Put (now (out .entry)) 0 (outputOf (bookOf (now (bytes .entry)))) r (now (out .exit)) × (r ≤ length (now (out .exit))) ⌝ }
+    ensures { λ r. ⌜ Put (now (out .entry)) 0 (outputOf (takenBook (now (bytes .entry)))) r (now (out .exit)) × (r ≤ length (now (out .exit))) ⌝ }
 {
-    let reading = book_reading::read_book(bytes);
+    let reading = book_reading::take_book(bytes);
     let outcome = reading.outcome;
     if let Outcome::Refused(refusal) = outcome {
         return put_refused(out, refusal);

@@ -1,16 +1,20 @@
--- No two refusals have the same number.
+-- Each outcome has a number of its own: no two refusals have the same, and none has 0, which tells that a call was not
+-- refused.
 -- Assumes nothing.
-use Prim.Native.Nat.{ℕ, pred, _<_}
+use Prim.Native.Nat.{ℕ, zero, suc, _<_}
 use mathlib.Core.Path.{_≡_, refl, sym, _∙_, ap}
-use mathlib.Core.List.{List, [], _∷_}
+use mathlib.Core.List.{List, [], _∷_, map}
 use native.Mathlib.Omega.{arith}
 use lib.ListN.{getD}
 use Rattle.refusal.specs.declared.Refusal.{Refusal}
 use Rattle.refusal.specs.declared.Refusal.the-variants.{BookTooLong, BytesMissing, BadNameCount, BadName, NameNotAbove, NumberNotBelow, BytesLeftOver, BadParent, NoBlock, NotAChain, BadWord, BufferTooShort, NotADeclaration, UnknownName, NameTwice}
+use Rattle.refusal.specs.declared.Outcome.{Outcome}
+use Rattle.refusal.specs.declared.Outcome.the-variants.{Done, Refused}
 use Rattle.refusal.specs.Table.{numberOf}
+use Rattle.refusal.specs.Answer.{outcomeNumber}
 
 -- the table's rows, from number 1 on
-pub rows : List Refusal
+rows : List Refusal
 rows =
     BookTooLong
     ∷ BytesMissing
@@ -29,9 +33,13 @@ rows =
     ∷ NameTwice
     ∷ []
 
--- a refusal stands in the row of its number
-pub row-of : (r : Refusal) → getD rows (pred (numberOf r)) BookTooLong ≡ r
-unfolding rows
+-- the outcome that a number tells
+told : ℕ → Outcome
+told n = getD (Done ∷ map Refused rows) n Done
+
+-- a refusal is in the row of its number
+row-of : (r : Refusal) → told (numberOf r) ≡ Refused r
+unfolding rows told
 row-of BookTooLong = refl
 row-of BytesMissing = refl
 row-of BadNameCount = refl
@@ -48,23 +56,29 @@ row-of NotADeclaration = refl
 row-of UnknownName = refl
 row-of NameTwice = refl
 
-pub number-injective : (r q : Refusal) → numberOf r ≡ numberOf q → r ≡ q
-number-injective r q e = sym (row-of r) ∙ ap (λ (n : ℕ). getD rows (pred n) BookTooLong) e ∙ row-of q
+pub refused-alike : (r q : Refusal) → Refused r ≡ Refused q → r ≡ q
+refused-alike r q e = cc
 
--- No refusal has the number 0, which tells that a call was not refused.
+pub Done≢Refused : (r : Refusal) → Done ≡ Refused r → ⊥
+Done≢Refused r e = let z : _≡_ {A = ℕ} 0 1 = cc in omega arith
+
+pub number-injective : (r q : Refusal) → numberOf r ≡ numberOf q → r ≡ q
+number-injective r q e = refused-alike r q (sym (row-of r) ∙ ap told e ∙ row-of q)
+
 pub number-positive : (r : Refusal) → 0 < numberOf r
-number-positive BookTooLong = omega arith
-number-positive BytesMissing = omega arith
-number-positive BadNameCount = omega arith
-number-positive BadName = omega arith
-number-positive NameNotAbove = omega arith
-number-positive NumberNotBelow = omega arith
-number-positive BytesLeftOver = omega arith
-number-positive BadParent = omega arith
-number-positive NoBlock = omega arith
-number-positive NotAChain = omega arith
-number-positive BadWord = omega arith
-number-positive BufferTooShort = omega arith
-number-positive NotADeclaration = omega arith
-number-positive UnknownName = omega arith
-number-positive NameTwice = omega arith
+unfolding rows told
+number-positive r = go (numberOf r) (row-of r)
+  where
+    go : (n : ℕ) → told n ≡ Refused r → 0 < n
+    go zero e = absurd (Done≢Refused r e)
+    go (suc n) e = omega arith
+
+-- ---- what the number of an outcome tells
+
+pub refused-by : (o : Outcome) → 0 < outcomeNumber o → (f : Refusal) × (o ≡ Refused f)
+refused-by Done l = absurd (omega arith)
+refused-by (Refused f) l = (f, refl)
+
+pub done-by : (o : Outcome) → outcomeNumber o ≡ 0 → o ≡ Done
+done-by Done e = refl
+done-by (Refused f) e = absurd (let p : 0 < numberOf f = number-positive f in omega arith)

@@ -1,7 +1,9 @@
 -- To be believed: the number of each refusal, and what a refused call answers (paper 01, "Where a call stops").
 -- Assumes nothing.
 use Prim.Native.Nat.{ℕ}
-use mathlib.Core.Bool.{Bool, true, false}
+use mathlib.Core.Bool.{Bool, false, _||_}
+use mathlib.Core.List.{List, [], _∷_}
+use lib.Dec.{eqb}
 use Rattle.refusal.specs.declared.Refusal.{Refusal}
 use Rattle.refusal.specs.declared.Refusal.the-variants.{BookTooLong, BytesMissing, BadNameCount, BadName, NameNotAbove, NumberNotBelow, BytesLeftOver, BadParent, NoBlock, NotAChain, BadWord, BufferTooShort, NotADeclaration, UnknownName, NameTwice}
 
@@ -23,23 +25,18 @@ numberOf NotADeclaration = 13
 numberOf UnknownName = 14
 numberOf NameTwice = 15
 
--- Whether it is one of a book: rows 1 to 7.
+-- The numbers of the refusals that concern the book: rows 1 to 7.
+abbrev pub bookNumbers : List ℕ
+bookNumbers = 1 ∷ 2 ∷ 3 ∷ 4 ∷ 5 ∷ 6 ∷ 7 ∷ []
+
+-- Whether a number is in a list.
+abbrev pub listed : ℕ → List ℕ → Bool
+listed n [] = false
+listed n (k ∷ ks) = eqb n k || listed n ks
+
+-- Whether a refusal is one that concerns the book.
 abbrev pub ofBook : Refusal → Bool
-ofBook BookTooLong = true
-ofBook BytesMissing = true
-ofBook BadNameCount = true
-ofBook BadName = true
-ofBook NameNotAbove = true
-ofBook NumberNotBelow = true
-ofBook BytesLeftOver = true
-ofBook BadParent = false
-ofBook NoBlock = false
-ofBook NotAChain = false
-ofBook BadWord = false
-ofBook BufferTooShort = false
-ofBook NotADeclaration = false
-ofBook UnknownName = false
-ofBook NameTwice = false
+ofBook r = listed (numberOf r) bookNumbers
 
 -- What a refused call answers: its number, and "a yes or no due is no, a length or parent number due is 0".
 -- The model due, the empty model, is `dueModel` in crates/model/specs/Record.antt, with the record.

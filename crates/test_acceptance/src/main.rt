@@ -1,5 +1,5 @@
 // Tests of the acceptance call. Each case writes a line: 1 for yes, 0 for no, else the number of the refusal.
-use intake::Acceptance;
+use intake_word::Acceptance;
 use libc::STDOUT_FILENO;
 use model::Model;
 
@@ -41,84 +41,84 @@ fn sample() -> Model {
 // Words of (a?,k*,b?).
 fn optional_words() {
     let m = sample();
-    show(intake::accepts_word(3, m, b""));
-    show(intake::accepts_word(3, m, b"\x00\x02\x02\x01"));
-    show(intake::accepts_word(3, m, b"\x02\x02\x01"));
-    show(intake::accepts_word(3, m, b"\x01"));
-    show(intake::accepts_word(3, m, b"\x02\x00"));
-    show(intake::accepts_word(3, m, b"\x00\x00"));
-    show(intake::accepts_word(3, m, b"\x01\x00"));
+    show(intake_word::accepts_word(3, m, b""));
+    show(intake_word::accepts_word(3, m, b"\x00\x02\x02\x01"));
+    show(intake_word::accepts_word(3, m, b"\x02\x02\x01"));
+    show(intake_word::accepts_word(3, m, b"\x01"));
+    show(intake_word::accepts_word(3, m, b"\x02\x00"));
+    show(intake_word::accepts_word(3, m, b"\x00\x00"));
+    show(intake_word::accepts_word(3, m, b"\x01\x00"));
 }
 
 // Words of (a,k+), and of EMPTY.
 fn plain_words() {
     let m = record_of(2, 0, 255, 1, 0, 2, 0);
-    show(intake::accepts_word(3, m, b"\x00\x02"));
-    show(intake::accepts_word(3, m, b"\x00\x02\x02"));
-    show(intake::accepts_word(3, m, b""));
-    show(intake::accepts_word(3, m, b"\x00"));
-    show(intake::accepts_word(3, m, b"\x02"));
-    show(intake::accepts_word(3, m, b"\x00\x00\x02"));
-    show(intake::accepts_word(3, m, b"\x00\x02\x01"));
+    show(intake_word::accepts_word(3, m, b"\x00\x02"));
+    show(intake_word::accepts_word(3, m, b"\x00\x02\x02"));
+    show(intake_word::accepts_word(3, m, b""));
+    show(intake_word::accepts_word(3, m, b"\x00"));
+    show(intake_word::accepts_word(3, m, b"\x02"));
+    show(intake_word::accepts_word(3, m, b"\x00\x00\x02"));
+    show(intake_word::accepts_word(3, m, b"\x00\x02\x01"));
     let none = record_of(0, 255, 255, 255, 0, 0, 0);
-    show(intake::accepts_word(3, none, b""));
-    show(intake::accepts_word(3, none, b"\x00"));
+    show(intake_word::accepts_word(3, none, b""));
+    show(intake_word::accepts_word(3, none, b"\x00"));
 }
 
 // Words at their limits: 255 names, 256, and numbers not below 3.
 fn word_limits() {
     let m = sample();
     let long = [2u8; 256];
-    show(intake::accepts_word(3, m, &long[..255]));
-    show(intake::accepts_word(3, m, &long));
-    show(intake::accepts_word(3, m, b"\x03"));
-    show(intake::accepts_word(3, m, b"\x00\xff"));
+    show(intake_word::accepts_word(3, m, &long[..255]));
+    show(intake_word::accepts_word(3, m, &long));
+    show(intake_word::accepts_word(3, m, b"\x03"));
+    show(intake_word::accepts_word(3, m, b"\x00\xff"));
 }
 
 // Counts of names at their limits.
 fn count_limits() {
     let m = sample();
-    show(intake::accepts_word(64, m, b"\x3f"));
-    show(intake::accepts_word(64, m, b"\x02"));
-    show(intake::accepts_word(65, m, b"\x02"));
-    show(intake::accepts_word(0, m, b""));
-    show(intake::accepts_word(65537, m, b"\x02"));
+    show(intake_word::accepts_word(64, m, b"\x3f"));
+    show(intake_word::accepts_word(64, m, b"\x02"));
+    show(intake_word::accepts_word(65, m, b"\x02"));
+    show(intake_word::accepts_word(0, m, b""));
+    show(intake_word::accepts_word(65537, m, b"\x02"));
 }
 
 // Records that are no chain over three names.
 fn bad_records() {
     // F above 64, and above what the factors use.
-    show(intake::accepts_word(3, record_of(65, 0, 2, 1, 1, 3, 1), b""));
-    show(intake::accepts_word(3, record_of(4, 0, 2, 1, 1, 3, 1), b""));
+    show(intake_word::accepts_word(3, record_of(65, 0, 2, 1, 1, 3, 1), b""));
+    show(intake_word::accepts_word(3, record_of(4, 0, 2, 1, 1, 3, 1), b""));
     // An empty factor, a value from F on, and 254.
-    show(intake::accepts_word(3, record_of(3, 0, 2, 0, 1, 3, 1), b""));
-    show(intake::accepts_word(3, record_of(2, 0, 2, 1, 1, 3, 0), b""));
-    show(intake::accepts_word(3, record_of(2, 0, 1, 254, 1, 3, 0), b""));
+    show(intake_word::accepts_word(3, record_of(3, 0, 2, 0, 1, 3, 1), b""));
+    show(intake_word::accepts_word(3, record_of(2, 0, 2, 1, 1, 3, 0), b""));
+    show(intake_word::accepts_word(3, record_of(2, 0, 1, 254, 1, 3, 0), b""));
     // A number from N on that a factor holds.
-    show(intake::accepts_word(2, sample(), b""));
+    show(intake_word::accepts_word(2, sample(), b""));
     // A mode above 3, and one from F on that is not 0.
-    show(intake::accepts_word(3, record_of(3, 0, 2, 1, 1, 4, 1), b""));
-    show(intake::accepts_word(3, record_of(2, 0, 0, 1, 1, 3, 1), b""));
+    show(intake_word::accepts_word(3, record_of(3, 0, 2, 1, 1, 4, 1), b""));
+    show(intake_word::accepts_word(3, record_of(2, 0, 0, 1, 1, 3, 1), b""));
 }
 
 // The last places of a record.
 fn last_places() {
     let mut factor = sample();
     factor.factor[63] = 0;
-    show(intake::accepts_word(63, factor, b""));
-    show(intake::accepts_word(64, factor, b"\x3f\x02"));
+    show(intake_word::accepts_word(63, factor, b""));
+    show(intake_word::accepts_word(64, factor, b"\x3f\x02"));
     let mut mode = sample();
     mode.mode[63] = 1;
-    show(intake::accepts_word(3, mode, b""));
+    show(intake_word::accepts_word(3, mode, b""));
 }
 
 // Of two refusals the first of 3, 10, 11 is given.
 fn order() {
     let bad = record_of(4, 0, 2, 1, 1, 3, 1);
-    show(intake::accepts_word(65, bad, b"\xff"));
-    show(intake::accepts_word(0, sample(), b"\xff"));
-    show(intake::accepts_word(3, bad, b"\xff"));
-    show(intake::accepts_word(3, sample(), b"\xff"));
+    show(intake_word::accepts_word(65, bad, b"\xff"));
+    show(intake_word::accepts_word(0, sample(), b"\xff"));
+    show(intake_word::accepts_word(3, bad, b"\xff"));
+    show(intake_word::accepts_word(3, sample(), b"\xff"));
 }
 
 fn main() {

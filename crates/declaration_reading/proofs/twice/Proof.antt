@@ -3,17 +3,18 @@
 use mathlib.Core.Path.{_≡_}
 use mathlib.Core.Bool.{Bool, true, false}
 use Rattle.refusal.specs.declared.Refusal.the-variants.{UnknownName, NameTwice}
+use Rattle.refusal.specs.Answer.{refused}
 use Rattle.declaration_reading.specs.declared.Declaration.{Declaration}
-use Rattle.declaration_reading.specs.Read.{declarationOf, noDeclaration, twiceOrUnknown}
+use Rattle.declaration_reading.specs.Read.{declarationOf, twiceOrUnknown}
 use borrow.Author.Needs.{needs}
 use Rattle.declaration_reading.proofs.twice.Statement.{statement}
 use Rattle.declaration_reading.proofs.twice.Tie as tie
 
-behind-known : (b k : Bool) (r : Declaration) → b ≡ k → b ≡ true → r ≡ declarationOf (noDeclaration NameTwice) → r ≡ declarationOf (noDeclaration (twiceOrUnknown k))
+behind-known : (b k : Bool) (r : Declaration) → b ≡ k → b ≡ true → r ≡ declarationOf (refused NameTwice) → r ≡ declarationOf (refused (twiceOrUnknown k))
 unfolding twiceOrUnknown
 behind-known b k r e t q = rw (← e, t) q
 
-behind-unknown : (b k : Bool) (r : Declaration) → b ≡ k → b ≡ false → r ≡ declarationOf (noDeclaration UnknownName) → r ≡ declarationOf (noDeclaration (twiceOrUnknown k))
+behind-unknown : (b k : Bool) (r : Declaration) → b ≡ k → b ≡ false → r ≡ declarationOf (refused UnknownName) → r ≡ declarationOf (refused (twiceOrUnknown k))
 unfolding twiceOrUnknown
 behind-unknown b k r e t q = rw (← e, t) q
 

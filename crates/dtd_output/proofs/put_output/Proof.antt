@@ -1,13 +1,13 @@
--- `put_output` meets its contract: the book is read, then its lines or the refusal are put.
+-- `put_output` meets its contract: the book is taken, then its lines or the refusal are put.
 -- Assumes nothing.
 use borrow.Author.Needs.{needs}
-use Rattle.book.proofs.Laws.{laid-out}
+use Rattle.book.proofs.Taken.{laid}
 use Rattle.dtd_output.proofs.Output.{refused-out, lines-out}
 use Rattle.dtd_output.proofs.put_output.Statement.{statement}
 use Rattle.dtd_output.proofs.put_output.Tie as tie
 
-read-book-requires : tie.Need-read-book-requires
-read-book-requires c κs = search needs
+take-book-requires : tie.Need-take-book-requires
+take-book-requires c κs = search needs
 
 enum-known-outcome : tie.Need-enum-known-outcome
 enum-known-outcome c = search needs
@@ -19,25 +19,31 @@ same-length : tie.Need-same-length
 same-length c = search needs
 
 returns : tie.Need-returns
-returns c = refused-out _ _ (c .before .before .before .before .before .before .before .read-book .ensures) _ (c .before .before .before .before .before .before .before .before .before .before .pre) _ _ _ (c .before .before .before .before .before .outcome .given .1) (c .before .before .put-refused .ensures)
+returns c =
+    let book = c .before .before .before .before .before in
+    refused-out _ _ (book .before .before .take-book .ensures) _ (book .before .before .before .before .before .pre) _ _ _ (book .outcome .given .1) (c .before .before .put-refused .ensures)
 
 enum-told : tie.Need-enum-told
 enum-told c = search needs
 
 put-lines-requires : tie.Need-put-lines-requires
-put-lines-requires c κs = (laid-out _ _ (c .before .before .before .before .read-book .ensures) (c .before .before .enum-told .given .1), c .before .before .before .before .before .before .before .pre)
+put-lines-requires c κs =
+    let book = c .before .before in
+    (laid _ _ (book .before .before .take-book .ensures) (book .enum-told .given .1), book .before .before .before .before .before .pre)
 
 same-length-2 : tie.Need-same-length-2
 same-length-2 c = search needs
 
 returns-2 : tie.Need-returns-2
-returns-2 c = lines-out _ _ (c .before .before .before .before .before .before .before .read-book .ensures) _ (c .before .before .before .before .before .before .before .before .before .before .pre) _ _ (c .before .before .before .before .before .enum-told .given .1) (c .before .before .put-lines .ensures)
+returns-2 c =
+    let book = c .before .before .before .before .before in
+    lines-out _ _ (book .before .before .take-book .ensures) _ (book .before .before .before .before .before .pre) _ _ (book .enum-told .given .1) (c .before .before .put-lines .ensures)
 
 pub put-output-spec : {M : Type 1} → statement M
 put-output-spec =
     tie.close
     (tie.spec
-    read-book-requires
+    take-book-requires
     enum-known-outcome
     put-refused-requires
     same-length

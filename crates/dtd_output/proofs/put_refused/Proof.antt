@@ -18,22 +18,42 @@ tens-requires : tie.Need-tens-requires
 tens-requires c κs = search needs
 
 put-some-requires : tie.Need-put-some-requires
-put-some-requires c κs = tens-room (c .before .before .before .before .before .before .before .before .before .args .refusal) _ _ (c .before .before .before .before .before .before .before .number .ensures) (c .tens .ensures) _ (c .before .before .before .before .before .before .before .before .before .pre) _ _ (c .before .before .before .before .put-all .ensures)
+put-some-requires c κs =
+    let word = c .before .before .before .before in
+    let number = word .before .before .before in
+    tens-room (number .before .before .args .refusal) _ _ (number .number .ensures) (c .tens .ensures) _ (number .before .before .pre) _ _ (word .put-all .ensures)
 
 add-put-some : tie.Need-add-put-some
 add-put-some c = search needs
 
 put-some-requires-2 : tie.Need-put-some-requires-2
-put-some-requires-2 c κs = ones-room (c .before .before .before .before .before .before .before .before .before .before .before .before .before .args .refusal) _ _ (c .before .before .before .before .before .before .before .before .before .before .before .number .ensures) (c .before .before .before .before .tens .ensures) _ (c .before .before .before .before .before .before .before .before .before .before .before .before .before .pre) _ _ (c .before .before .before .before .before .before .before .before .put-all .ensures) _ _ (c .before .before .before .put-some .ensures)
+put-some-requires-2 c κs =
+    let first = c .before .before .before in
+    let word = first .before .before .before .before .before in
+    let number = word .before .before .before in
+    ones-room (number .before .before .args .refusal) _ _ (number .number .ensures) (first .before .tens .ensures) _ (number .before .before .pre) _ _ (word .put-all .ensures) _ _
+    (first .put-some .ensures)
 
 put-some-requires-3 : tie.Need-put-some-requires-3
-put-some-requires-3 c κs = feed-room (c .before .before .before .before .before .before .before .before .before .before .before .before .before .before .before .before .before .args .refusal) _ _ (c .before .before .before .before .before .before .before .before .before .before .before .before .before .before .before .number .ensures) (c .before .before .before .before .before .before .before .before .tens .ensures) _ (c .before .before .before .before .before .before .before .before .before .before .before .before .before .before .before .before .before .pre) _ _ (c .before .before .before .before .before .before .before .before .before .before .before .before .put-all .ensures) _ _ (c .before .before .before .before .before .before .before .put-some .ensures) _ _ (c .before .before .before .put-some2 .ensures)
+put-some-requires-3 c κs =
+    let last = c .before .before .before in
+    let first = last .before .before .before .before in
+    let word = first .before .before .before .before .before in
+    let number = word .before .before .before in
+    feed-room (number .before .before .args .refusal) _ _ (number .number .ensures) (first .before .tens .ensures) _ (number .before .before .pre) _ _ (word .put-all .ensures) _ _
+    (first .put-some .ensures) _ _ (last .put-some2 .ensures)
 
 same-length : tie.Need-same-length
 same-length c = search needs
 
 returns : tie.Need-returns
-returns c = refused-put (c .before .before .before .before .before .before .before .before .before .before .before .before .before .before .before .before .before .before .before .before .args .refusal) _ _ (c .before .before .before .before .before .before .before .before .before .before .before .before .before .before .before .before .before .before .number .ensures) (c .before .before .before .before .before .before .before .before .before .before .before .tens .ensures) _ (c .before .before .before .before .before .before .before .before .before .before .before .before .before .before .before .before .before .before .before .before .pre) _ _ (c .before .before .before .before .before .before .before .before .before .before .before .before .before .before .before .put-all .ensures) _ _ (c .before .before .before .before .before .before .before .before .before .before .put-some .ensures) _ _ (c .before .before .before .before .before .before .put-some2 .ensures) _ _ (c .before .before .put-some3 .ensures)
+returns c =
+    let last = c .before .before .before .before .before .before in
+    let first = last .before .before .before .before in
+    let word = first .before .before .before .before .before in
+    let number = word .before .before .before in
+    refused-put (number .before .before .args .refusal) _ _ (number .number .ensures) (first .before .tens .ensures) _ (number .before .before .pre) _ _ (word .put-all .ensures) _ _
+    (first .put-some .ensures) _ _ (last .put-some2 .ensures) _ _ (c .before .before .put-some3 .ensures)
 
 pub put-refused-spec : {M : Type 1} → statement M
 put-refused-spec =

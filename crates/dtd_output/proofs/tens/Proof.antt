@@ -1,7 +1,7 @@
 -- `tens` meets its contract.
 -- Assumes nothing.
 use borrow.Author.Needs.{needs}
-use borrow.Author.Tests.{lt-ltb, le-ltb}
+use Rattle.dtd_output.proofs.Refused.{no-tens, some-tens}
 use Rattle.dtd_output.proofs.tens.Statement.{statement}
 use Rattle.dtd_output.proofs.tens.Tie as tie
 
@@ -9,10 +9,10 @@ add-result : tie.Need-add-result
 add-result c = search needs
 
 returns : tie.Need-returns
-returns c = rw (lt-ltb _ _ (c .if1 .taken))
+returns c = no-tens _ (c .if1 .taken)
 
 returns-2 : tie.Need-returns-2
-returns-2 c = rw (le-ltb _ _ (c .if1 .left))
+returns-2 c = some-tens _ (c .if1 .left)
 
 pub tens-spec : {M : Type 1} → statement M
 tens-spec = tie.close (tie.spec add-result returns returns-2)

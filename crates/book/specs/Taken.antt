@@ -1,0 +1,26 @@
+-- To be believed: the book as the calls take it. Every call that takes a book, and the program, takes it from here.
+-- Assumes nothing.
+use Prim.Native.Nat.{ℕ}
+use mathlib.Core.Path.{_≡_}
+use mathlib.Core.Bool.{Bool, not}
+use mathlib.Core.List.{List}
+use lib.Dec.{ltb}
+use lib.ListN.{length}
+use Rattle.refusal.specs.Answer.{Answer, given, onward}
+use Rattle.book.specs.Book.{Book, bookOf}
+
+-- What is checked of a whole book that was read: nothing, since all refusals of a book, 1 to 7, come while it is read.
+unfoldable pub checkedBook : Book → Answer Book
+checkedBook b = given b
+
+-- The book as the calls take it: read (1 to 7), then checked.
+unfoldable pub takenBook : List ℕ → Answer Book
+takenBook bytes = onward (bookOf bytes) checkedBook
+
+-- The calls take the bytes as the book b.
+abbrev pub TakenAs : List ℕ → Book → Type 0
+TakenAs bytes b = takenBook bytes ≡ given b
+
+-- 8: the parent asked for is "not below N".
+unfoldable pub badParent : Book → ℕ → Bool
+badParent b parent = not (ltb parent (length (b .names)))

@@ -1,3 +1,0 @@
-pub mod Acceptance
-pub mod Inference
-pub mod Writing

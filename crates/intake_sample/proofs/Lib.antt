@@ -1,0 +1,4 @@
+pub mod Samples
+pub mod Inferring
+pub mod Writing
+pub mod NoBetterModel

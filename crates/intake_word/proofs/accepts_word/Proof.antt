@@ -1,0 +1,77 @@
+-- `accepts_word` meets its contract: one answer for each check.
+-- Assumes nothing.
+use mathlib.Core.Path.{sym, _∙_}
+use borrow.Author.Needs.{needs}
+use borrow.Author.Tests.{not-false}
+use Rattle.nameset.proofs.Count.{count-bounds}
+use Rattle.intake_word.specs.Acceptance.{acceptance}
+use Rattle.intake_word.proofs.Answers.{stops-count, stops-model, stops-word, answers}
+use Rattle.intake_word.proofs.accepts_word.Statement.{statement}
+use Rattle.intake_word.proofs.accepts_word.Tie as tie
+
+good-count-requires : tie.Need-good-count-requires
+good-count-requires c κs = search needs
+
+returns : tie.Need-returns
+returns c =
+    let a = c .before .before .before .args in
+    stops-count (a .names) (a .model) (a .word .now) (c .before .good-count .ensures) (c .if1 .taken)
+
+is-chain-requires : tie.Need-is-chain-requires
+is-chain-requires c κs = search needs
+
+returns-2 : tie.Need-returns-2
+returns-2 c =
+    let n = c .before .before in
+    let a = n .before .before .before .args in
+    stops-model (a .names) (a .model) (a .word .now) (n .before .good-count .ensures) (n .if1 .left) (c .before .is-chain .ensures) (c .if2 .taken)
+
+bad-word-requires : tie.Need-bad-word-requires
+bad-word-requires c κs =
+    let n = c .before .before in
+    count-bounds _ (sym (n .before .good-count .ensures) ∙ not-false _ (n .if1 .left)) .0
+
+returns-3 : tie.Need-returns-3
+returns-3 c =
+    let m = c .before .before in
+    let n = m .before .before in
+    let a = n .before .before .before .args in
+    stops-word (a .names) (a .model) (a .word .now) (n .before .good-count .ensures) (n .if1 .left) (m .before .is-chain .ensures) (m .if2 .left)
+    (c .before .bad-word .ensures) (c .if3 .taken)
+
+accepted-requires : tie.Need-accepted-requires
+accepted-requires c κs = search needs
+
+returns-4 : tie.Need-returns-4
+unfolding acceptance
+returns-4 c =
+    let w = c .before .before in
+    let m = w .before .before in
+    let n = m .before .before in
+    let a = n .before .before .before .args in
+    answers (a .names) (a .model) (a .word .now) (n .before .good-count .ensures) (n .if1 .left) (m .before .is-chain .ensures) (m .if2 .left)
+    (w .before .bad-word .ensures) (w .if3 .left) (c .before .accepted .ensures) (c .if4 .taken)
+
+returns-5 : tie.Need-returns-5
+unfolding acceptance
+returns-5 c =
+    let w = c .before .before in
+    let m = w .before .before in
+    let n = m .before .before in
+    let a = n .before .before .before .args in
+    answers (a .names) (a .model) (a .word .now) (n .before .good-count .ensures) (n .if1 .left) (m .before .is-chain .ensures) (m .if2 .left)
+    (w .before .bad-word .ensures) (w .if3 .left) (c .before .accepted .ensures) (c .if4 .left)
+
+pub accepts-word-spec : {M : Type 1} → statement M
+accepts-word-spec =
+    tie.close
+    (tie.spec
+    good-count-requires
+    returns
+    is-chain-requires
+    returns-2
+    bad-word-requires
+    returns-3
+    accepted-requires
+    returns-4
+    returns-5)

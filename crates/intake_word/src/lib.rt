@@ -1,0 +1,48 @@
+// The call that says whether a model accepts a word. It has no requirement: it says for every input what it answers.
+use model::Model;
+use refusal::Refusal;
+ghost use mathlib.Core.Path.{_≡_};
+ghost use Prim.Native.Nat.{_<_};
+ghost use Rattle.intake_word.specs.Acceptance.{badWord, AcceptsWord};
+
+// Whether a word is accepted, or why the call stopped.
+pub enum Acceptance {
+    Yes,
+    No,
+    Refused(Refusal),
+}
+
+// The most names that a word may have in a call.
+const LONGEST: usize = 255;
+
+// Whether the word is too long, or has a number that is no name's.
+fn bad_word(names: usize, word: &[u8]) -> bool
+    requires { ⌜ 0 < names ⌝ }
+    ensures { λ r. ⌜ r ≡ badWord names (now (word .entry)) ⌝ }
+{
+    if LONGEST < word.len() {
+        true
+    } else {
+        !book::all_below(word, names)
+    }
+}
+
+// Whether the model accepts the word: 3, then 10, then 11, else yes or no.
+pub fn accepts_word(names: usize, model: Model, word: &[u8]) -> Acceptance
+    ensures { λ r. ⌜ AcceptsWord names model (now (word .entry)) r ⌝ }
+{
+    if !nameset::good_count(names) {
+        return Acceptance::Refused(Refusal::BadNameCount);
+    }
+    if !model_check::is_chain(names, model) {
+        return Acceptance::Refused(Refusal::NotAChain);
+    }
+    if bad_word(names, word) {
+        return Acceptance::Refused(Refusal::BadWord);
+    }
+    if model_accept::accepted(model, word) {
+        Acceptance::Yes
+    } else {
+        Acceptance::No
+    }
+}
