@@ -6,7 +6,7 @@ use declaration_factor::put_factor;
 use declaration_factor::put_name;
 use model::Model;
 use model_factors::factor_rows;
-use nameset::NameSet;
+use nameset::row_at;
 ghost use mathlib.Core.Path.{_≡_};
 ghost use Prim.Native.Nat.{_+_, _≤_, _<_};
 ghost use lib.ListN.{length};
@@ -35,7 +35,7 @@ fn put_factors(buffer: &mut [u8], at: usize, bytes: &[u8], layout: Layout, m: Mo
     let mut i = 0;
     while i < m.count {
         to = put_some(buffer, to, before(i));
-        to = put_factor(buffer, to, bytes, layout, m, i, NameSet::of_word(rows[i]));
+        to = put_factor(buffer, to, bytes, layout, m, i, row_at(&rows, i));
         i += 1;
     }
     to

@@ -9,12 +9,13 @@ use native.Mathlib.Nat.{le-of-suc-le-suc}
 use native.Mathlib.Decide.{ℕ-discrete, decLt}
 use borrow.Author.Tests.{lt-ltb, le-ltb, eq-eqb, ne-eqb}
 use lib.Dec.{eqb, ltb}
-use lib.ListN.{length, getD, set, replicate, length-set, length-replicate, getD-replicate}
-use lib.Seq.{getD-set-same, getD-set-other}
+use lib.ListN.{length, getD}
 use Rattle.nameset.specs.Places.{places}
 use Rattle.nameset.specs.declared.NameSet.{NameSet}
-use Rattle.nameset.specs.Set.{member, ofWord, wordOf}
-use Rattle.nameset.proofs.Laws.{member-empty, of-word-of, of-zero}
+use Rattle.nameset.specs.Set.{member}
+use Rattle.nameset.specs.Rows.{rowAt, putRow, noRows}
+use Rattle.nameset.proofs.Laws.{member-empty}
+use Rattle.nameset.proofs.Rows.{row-put, row-kept, length-put, has-row, no-rows, row-of-none}
 use Rattle.model.specs.declared.Model.{Model}
 use Rattle.model.specs.Record.{none, factorOf}
 use Rattle.model_factors.specs.Names.{NamesOf, RowsOf}
@@ -30,13 +31,13 @@ unfolding factorOf
 entry-is m x l h = same-default (m .factor) x 0 none (omega arith)
 
 -- no name was looked at yet
-pub rows-none : (m : Model) → RowsOf m 0 (replicate places 0)
+pub rows-none : (m : Model) → RowsOf m 0 (noRows places)
 rows-none m =
     record {
-      size = length-replicate {A = ℕ} places 0;
+      size = no-rows places;
       row = λ i h. record {
         law = λ x.
-            ap (λ (w : ℕ). member (ofWord w) x) (getD-replicate places i 0 0 h) ∙ ap (λ (s : NameSet). member s x) of-zero ∙ member-empty x
+            ap (λ (s : NameSet). member s x) (row-of-none places i) ∙ member-empty x
             ∙ sym (rw (le-ltb x 0 (omega arith)));
       };
     }
@@ -66,22 +67,21 @@ module _ (m : Model) (k i : ℕ) (s t : NameSet) (old : NamesOf m k i s) where
       at x (no q) = rw (below-next x k q) (old .law x)
 
 -- name k is put into the row of its factor f
-pub rows-more : (m : Model) (k : ℕ) (rows : List ℕ) → RowsOf m k rows → (f word : ℕ) (s t : NameSet) → f ≡ factorOf m k → f < places →
-    s ≡ ofWord (getD rows f 0) → ((x : ℕ) → member t x ≡ (member s x || eqb k x)) → word ≡ wordOf t → RowsOf m (k + 1) (set rows f word)
-rows-more m k rows r f word s t ef hf es et ew = record { size = length-set rows f word ∙ r .size; row = λ i h. at i h (ℕ-discrete i f) }
+pub rows-more : (m : Model) (k : ℕ) (rows next : List ℕ) → RowsOf m k rows → (f : ℕ) (s t : NameSet) → f ≡ factorOf m k → f < places →
+    s ≡ rowAt rows f → ((x : ℕ) → member t x ≡ (member s x || eqb k x)) → next ≡ putRow rows f t → RowsOf m (k + 1) next
+rows-more m k rows next r f s t ef hf es et e =
+    rw e record { size = length-put rows f t ∙ r .size; row = λ i h. at i h (ℕ-discrete i f) }
   where
-    at : (i : ℕ) → i < places → Dec (i ≡ f) → NamesOf m (k + 1) i (ofWord (getD (set rows f word) i 0))
+    at : (i : ℕ) → i < places → Dec (i ≡ f) → NamesOf m (k + 1) i (rowAt (putRow rows f t) i)
     at i h (yes q) =
-        let z : f < length rows = rw (r .size) hf in
-        rw (q, getD-set-same rows f word 0 z, ew, of-word-of t)
-        (names-more m k f (ofWord (getD rows f 0)) t (r .row f hf) (sym ef) (λ x. et x ∙ ap (λ (u : NameSet). member u x || eqb k x) es))
-    at i h (no q) =
-        names-kept m k i (ofWord (getD rows i 0)) _ (r .row i h) (λ u. q (sym u ∙ sym ef)) (ap ofWord (getD-set-other rows f i word 0 q))
+        rw (q, row-put rows f t (has-row places rows f (r .size) hf))
+        (names-more m k f (rowAt rows f) t (r .row f hf) (sym ef) (λ x. et x ∙ ap (λ (u : NameSet). member u x || eqb k x) es))
+    at i h (no q) = names-kept m k i (rowAt rows i) _ (r .row i h) (λ u. q (sym u ∙ sym ef)) (row-kept rows f i t q)
 
 -- name k is in no factor that has a row
 pub rows-kept : (m : Model) (k : ℕ) (rows next : List ℕ) → RowsOf m k rows → (f : ℕ) → f ≡ factorOf m k → places ≤ f → next ≡ rows → RowsOf m (k + 1) next
 rows-kept m k rows next r f ef hf e =
-    rw e record { size = r .size; row = λ i h. names-kept m k i (ofWord (getD rows i 0)) _ (r .row i h) (λ u. omega arith) refl }
+    rw e record { size = r .size; row = λ i h. names-kept m k i (rowAt rows i) _ (r .row i h) (λ u. omega arith) refl }
 
 -- all names were looked at
 pub rows-all : (m : Model) (n k : ℕ) (rows : List ℕ) → RowsOf m k rows → k ≤ n → n ≤ k → RowsOf m n rows

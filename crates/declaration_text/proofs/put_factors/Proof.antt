@@ -28,24 +28,25 @@ before-requires : tie.Need-before-requires Inv-loop μ-loop
 before-requires c κs = search needs
 
 put-some-requires : tie.Need-put-some-requires Inv-loop μ-loop
-put-some-requires c κs = before-room _ _ _ _ _ (c .before .before .if1 .taken) (c .before2 .ensures) _ _ _ _ _ (c .before .before .before .before .loop .inv .1) (c .before .before .before .before .before .before .before .before .pre .1)
+put-some-requires c κs =
+    let at = c .before .before .before .before in
+    before-room _ _ _ _ _ (c .before .before .if1 .taken) (c .before2 .ensures) _ _ _ _ _ (at .loop .inv .1) (at .before .before .before .before .pre .1)
 
-mul-of-word : tie.Need-mul-of-word Inv-loop μ-loop
-mul-of-word c = omega arith
+slice-aggregate-row-at : tie.Need-slice-aggregate-row-at Inv-loop μ-loop
+slice-aggregate-row-at c = search needs
 
-array-read-of-word : tie.Need-array-read-of-word Inv-loop μ-loop
-array-read-of-word c = search needs
-
-of-word-requires : tie.Need-of-word-requires Inv-loop μ-loop
-of-word-requires c κs = search needs
+row-at-requires : tie.Need-row-at-requires Inv-loop μ-loop
+row-at-requires c κs = search needs
 
 put-factor-requires : tie.Need-put-factor-requires Inv-loop μ-loop
 put-factor-requires c κs =
-    let turn = c .before .before .before .before .before .before .before in
-    let pre = c .before .before .before .before .before .before .before .before .before .before .before .before .before .pre in (
+    let put = c .before .before .before .before .before in
+    let turn = put .before .before .before in
+    let made = turn .before .before .before in
+    let pre = made .before .before .before .pre in (
       pre .0,
-      factor-room _ _ _ _ _ (turn .if1 .taken) (c .before .before .before .before .before .before2 .ensures) _ _ _ _ _ (turn .before .before .loop .inv .1) _ _ (c .before .before .before .before .put-some .ensures) (pre .1),
-      rw (c .of-word .ensures) (c .before .before .before .before .before .before .before .before .before .before .factor-rows .ensures .row _ (omega arith)),
+      factor-room _ _ _ _ _ (turn .if1 .taken) (put .before .before2 .ensures) _ _ _ _ _ (turn .before .before .loop .inv .1) _ _ (put .put-some .ensures) (pre .1),
+      rw (c .row-at .ensures) (made .factor-rows .ensures .row _ (omega arith)),
     )
 
 add-i : tie.Need-add-i Inv-loop μ-loop
@@ -56,9 +57,11 @@ loop-less c = omega arith
 
 loop-again : tie.Need-loop-again Inv-loop μ-loop
 loop-again c =
-    let turn = c .before .before .before .before .before .before .before .before .before .before in (
+    let factor = c .before .before in
+    let put = factor .before .before .before .before .before .before in
+    let turn = put .before .before .before in (
       omega arith,
-      factors-more _ _ _ _ _ (turn .if1 .taken) (c .before .before .before .before .before .before .before .before .before2 .ensures) _ _ _ _ _ (turn .before .before .loop .inv .1) _ _ (c .before .before .before .before .before .before .before .put-some .ensures) _ _ (c .before .before .put-factor .ensures),
+      factors-more _ _ _ _ _ (turn .if1 .taken) (put .before .before2 .ensures) _ _ _ _ _ (turn .before .before .loop .inv .1) _ _ (put .put-some .ensures) _ _ (factor .put-factor .ensures),
     )
 
 same-length : tie.Need-same-length Inv-loop μ-loop
@@ -77,9 +80,8 @@ put-factors-spec =
     loop-holds
     before-requires
     put-some-requires
-    mul-of-word
-    array-read-of-word
-    of-word-requires
+    slice-aggregate-row-at
+    row-at-requires
     put-factor-requires
     add-i
     loop-less

@@ -1,12 +1,13 @@
 -- `factor_rows` meets its contract: after x turns each row has those of the first x names that its factor holds.
 -- Assumes nothing.
 use Prim.Native.Nat.{_-_, _≤_, _<_}
-use mathlib.Core.Path.{_≡_}
+use mathlib.Core.Path.{_≡_, _∙_}
 use mathlib.Core.Logic.{⊎-elim}
 use native.Mathlib.Omega.{arith}
 use lib.ListN.{length}
 use borrow.Author.Needs.{needs}
 use Rattle.nameset.specs.Places.{places}
+use Rattle.nameset.specs.Rows.{noRows}
 use Rattle.model_factors.specs.Names.{RowsOf}
 use Rattle.model_factors.proofs.Rows.{entry-is, rows-none, rows-more, rows-kept, rows-all}
 use Rattle.model_factors.proofs.factor_rows.Statement.{statement}
@@ -19,6 +20,7 @@ abbrev μ-loop : tie.MeasureT-loop
 μ-loop n m rows₀ x₀ rows x = n - x
 
 loop-holds : tie.Need-loop-holds Inv-loop μ-loop
+unfolding noRows
 loop-holds c = (omega arith, rows-none _)
 
 element-copy-out-i : tie.Need-element-copy-out-i Inv-loop μ-loop
@@ -27,26 +29,20 @@ element-copy-out-i c = search needs
 cast-i : tie.Need-cast-i Inv-loop μ-loop
 cast-i c = search needs
 
-mul-of-word : tie.Need-mul-of-word Inv-loop μ-loop
-mul-of-word c = search needs
+slice-aggregate-row-at : tie.Need-slice-aggregate-row-at Inv-loop μ-loop
+slice-aggregate-row-at c = search needs
 
-array-read-of-word : tie.Need-array-read-of-word Inv-loop μ-loop
-array-read-of-word c = search needs
-
-of-word-requires : tie.Need-of-word-requires Inv-loop μ-loop
-of-word-requires c κs = search needs
+row-at-requires : tie.Need-row-at-requires Inv-loop μ-loop
+row-at-requires c κs = search needs
 
 with-requires : tie.Need-with-requires Inv-loop μ-loop
 with-requires c κs = omega arith
 
-word-requires : tie.Need-word-requires Inv-loop μ-loop
-word-requires c κs = search needs
+slice-aggregate-put-row : tie.Need-slice-aggregate-put-row Inv-loop μ-loop
+slice-aggregate-put-row c = search needs
 
-mul-rows : tie.Need-mul-rows Inv-loop μ-loop
-mul-rows c = search needs
-
-array-write-rows : tie.Need-array-write-rows Inv-loop μ-loop
-array-write-rows c = search needs
+put-row-requires : tie.Need-put-row-requires Inv-loop μ-loop
+put-row-requires c κs = search needs
 
 add-x : tie.Need-add-x Inv-loop μ-loop
 add-x c = search needs
@@ -56,13 +52,15 @@ loop-less c = omega arith
 
 loop-again : tie.Need-loop-again Inv-loop μ-loop
 loop-again c =
-    let inv = c .before .before .before .loop .inv in
-    let l : length (c .before .before .before .before .args .t1 .factor) ≡ places = search needs in
-    let h : c .before .before .before .loop .x < places = omega arith in
-    let e = entry-is (c .before .before .before .before .args .t1) (c .before .before .before .loop .x) l h in (
+    let at = c .before .before .before in
+    let inv = at .loop .inv in
+    let m = at .before .args .t1 in
+    let l : length (m .factor) ≡ places = search needs in
+    let h : at .loop .x < places = omega arith in
+    let e = entry-is m (at .loop .x) l h in (
       omega arith,
       ⊎-elim
-          (λ w. rw (w .4) (rows-more _ _ _ (inv .1) _ _ _ _ e (omega (arith, w .0 .taken)) (w .1 .ensures) (w .2 .ensures .members) (w .3 .ensures)))
+          (λ w. rows-more _ _ _ _ (inv .1) _ _ _ e (omega (arith, w .0 .taken)) (w .2 .ensures) (w .3 .ensures .members) (w .7 ∙ w .5 .ensures .0))
           (λ w. rows-kept _ _ _ _ (inv .1) _ e (w .0 .left) (w .1))
           (c .if1 .came),
     )
@@ -79,13 +77,11 @@ factor-rows-spec =
     loop-holds
     element-copy-out-i
     cast-i
-    mul-of-word
-    array-read-of-word
-    of-word-requires
+    slice-aggregate-row-at
+    row-at-requires
     with-requires
-    word-requires
-    mul-rows
-    array-write-rows
+    slice-aggregate-put-row
+    put-row-requires
     add-x
     loop-less
     loop-again
