@@ -14,6 +14,7 @@ use lib.ListN.{length, getD}
 use Rattle.nameset.specs.Places.{places}
 use Rattle.nameset.specs.declared.NameSet.{NameSet}
 use Rattle.nameset.specs.Set.{member, Sized, first, ofWord}
+use Rattle.nameset.specs.Rows.{rowAt}
 use Rattle.nameset.specs.Promise.{Emptiness, Shrunk}
 use Rattle.nameset.proofs.Laws.{first-in}
 use Rattle.model.proofs.Tests.{same-test}
@@ -35,7 +36,7 @@ use Rattle.chain.specs.Chain.{Reached}
 -- ---- reach
 
 pub reach-none : (facts : Facts) (n : ℕ) → Shown (viewOf n facts) → (a b : ℕ) → inRow (facts .follows) a b ≡ reachBy (viewOf n facts) 0 a b
-unfolding inRow inWord reachBy
+unfolding inRow inWord rowAt ofWord reachBy
 reach-none facts n s a b = sym (edge-follows (viewOf n facts) s a b)
 
 pub reach-more : (f : Follow) (old new : List ℕ) (k : ℕ) → ((a b : ℕ) → inRow old a b ≡ reachBy f k a b) → Round old new k → (a b : ℕ) → inRow new a b ≡ reachBy f (k + 1) a b
@@ -63,7 +64,7 @@ rounds-all {n} {old} {new} {k} r facts e s q = reach-all facts n k new q (r .siz
 -- ---- names that occur
 
 pub occurs-law : (facts : Facts) (n : ℕ) → Shown (viewOf n facts) → (x : ℕ) → (member (facts .starts) x || amongRows n (facts .follows) x) ≡ occurs (viewOf n facts) x
-unfolding amongRows inRow inWord occurs
+unfolding amongRows inRow inWord rowAt ofWord occurs
 occurs-law facts n s x =
     same-test (starts || follows) (ltb x n && (starts || follows)) (λ e. and-is (ltb x n) (starts || follows) .1 (ltb-is x n .1 (small (or-is starts follows .0 e)), e))
     (λ e. and-is (ltb x n) (starts || follows) .0 e .1)
@@ -72,11 +73,11 @@ occurs-law facts n s x =
     starts = member (facts .starts) x
 
     follows : Bool
-    follows = anyBelow n (λ b. member (ofWord (getD (facts .follows) b 0)) x)
+    follows = anyBelow n (λ b. member (rowAt (facts .follows) b) x)
 
     small : (starts ≡ true) ⊎ (follows ≡ true) → x < n
     small (inl e) = s .starts x e
-    small (inr e) = let p = some-is n (λ b. member (ofWord (getD (facts .follows) b 0)) x) .0 e in s .follows (p .0) x (p .2)
+    small (inr e) = let p = some-is n (λ b. member (rowAt (facts .follows) b) x) .0 e in s .follows (p .0) x (p .2)
 
 -- ---- a set that is empty or not
 

@@ -10,7 +10,8 @@ use native.Mathlib.Decide.{decLt}
 use lib.Dec.{eqb}
 use Rattle.nameset.specs.Places.{places}
 use Rattle.nameset.specs.declared.NameSet.{NameSet}
-use Rattle.nameset.specs.Set.{member}
+use Rattle.nameset.specs.Set.{member, ofWord}
+use Rattle.nameset.specs.Rows.{rowAt}
 use Rattle.model.specs.declared.Model.{Model}
 use Rattle.model.specs.Record.{emptyModel}
 use Rattle.model.specs.Build.{withFactor}
@@ -139,7 +140,7 @@ module _ (f : Follow) (n : f .names ≤ places) where
 pub skips-view : (facts : Facts) (n : ℕ) (lower higher : NameSet) (r : Bool) →
     r ≡ stepsOver places (facts .empty) (member (facts .starts)) (member (facts .ends)) (inRow (facts .follows)) (member lower) (member higher) →
     r ≡ stepsOver places (viewOf n facts .empty) (viewOf n facts .starts) (viewOf n facts .ends) (viewOf n facts .follows) (member lower) (member higher)
-unfolding inRow inWord
+unfolding inRow inWord rowAt ofWord
 skips-view facts n lower higher r e =
     let z : _≡_ {A = ℕ → ℕ → Bool} (inRow (facts .follows)) (viewOf n facts .follows) = fun-ext (λ a. fun-ext (λ b. refl)) in
     e ∙ ap (λ (q : ℕ → ℕ → Bool). stepsOver places (facts .empty) (member (facts .starts)) (member (facts .ends)) q (member lower) (member higher)) z

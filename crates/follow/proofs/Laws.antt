@@ -1,7 +1,7 @@
 -- The struct that a sample gives holds the facts that the sample shows, and no others; order and repeats of words do
 -- not matter.
 -- Assumes nothing.
-use Prim.Native.Nat.{ℕ, _≤_, _<_}
+use Prim.Native.Nat.{ℕ, _≤_}
 use mathlib.Core.Path.{_≡_, refl, sym, _∙_, ap}
 use mathlib.Core.Bool.{Bool, true, false, _&&_, _||_, cond, or-false, or-assoc, false≢true}
 use mathlib.Core.List.{List, [], _∷_, List·Memᴰ, List·Memᴰ·head, List·Memᴰ·tail, List·Memᴰ·not-nil, List·Memᴰ·cases-cons}
@@ -9,13 +9,14 @@ use mathlib.Core.Logic.{_⊎_, inl, inr, _↔_}
 use native.Mathlib.Nat.{lt-of-lt-of-le}
 use native.Mathlib.Decide.{ℕ-discrete}
 use lib.Dec.{eqb, ltb}
-use lib.ListN.{length, getD, length-set, length-replicate}
-use lib.Seq.{getD-set-same, getD-set-other}
+use lib.ListN.{length}
 use borrow.Author.Tests.{eqb-true, eq-eqb, ne-eqb, ltb-true}
 use Rattle.nameset.specs.Places.{places}
 use Rattle.nameset.specs.declared.NameSet.{NameSet}
-use Rattle.nameset.specs.Set.{member, with, ofWord, wordOf}
-use Rattle.nameset.proofs.Laws.{member-empty, member-with, of-word-of, of-zero}
+use Rattle.nameset.specs.Set.{member, with}
+use Rattle.nameset.specs.Rows.{IsRows, HasRow, rowAt, putRow, noRows}
+use Rattle.nameset.proofs.Laws.{member-empty, member-with}
+use Rattle.nameset.proofs.Rows.{row-put, row-kept, length-put, has-row, no-rows, row-of-none}
 use Rattle.book.specs.declared.Layout.{Layout}
 use Rattle.book.specs.Book.{Block, allBelow, blocksIn}
 use Rattle.book.specs.Access.{LaidOut}
@@ -28,7 +29,7 @@ use Rattle.follow.specs.declared.Facts.{Facts}
 use Rattle.follow.specs.Follow.{someWord, beginsWith, endsWith, hasPair, isEmpty, followOf}
 use Rattle.follow.specs.View.{viewOf}
 use Rattle.follow.specs.Sample.{wordsOf, Over, SameWords}
-use Rattle.follow.specs.Adding.{noRows, noFacts, withFirst, withLast, withPair, withPairs, withWord, withWords, factsOf, showing}
+use Rattle.follow.specs.Adding.{noFacts, withFirst, withLast, withPair, withPairs, withWord, withWords, factsOf, showing}
 
 -- ---- words over n names
 
@@ -87,22 +88,19 @@ ends-shown s (x ∷ (y ∷ w)) a = ends-shown s (y ∷ w) a
 
 -- b is in row a
 inRow : List ℕ → ℕ → ℕ → Bool
-inRow rows a b = member (ofWord (getD rows a 0)) b
+inRow rows a b = member (rowAt rows a) b
 
-pair-shown : (rows : List ℕ) (x y a b : ℕ) → x < length rows → inRow (withPair rows x y) a b ≡ (inRow rows a b || (eqb a x && eqb b y))
+pair-shown : (rows : List ℕ) (x y a b : ℕ) → HasRow rows x → inRow (withPair rows x y) a b ≡ (inRow rows a b || (eqb a x && eqb b y))
 unfolding inRow withPair
 pair-shown rows x y a b l = go (ℕ-discrete a x)
   where
     go : Dec (a ≡ x) → inRow (withPair rows x y) a b ≡ (inRow rows a b || (eqb a x && eqb b y))
-    go (yes e) =
-        rw (e, eq-eqb x x refl, getD-set-same rows x (wordOf (with (ofWord (getD rows x 0)) y)) 0 l, of-word-of (with (ofWord (getD rows x 0)) y))
-        (member-more (ofWord (getD rows x 0)) y b)
-    go (no d) =
-        rw (ne-eqb a x d, getD-set-other rows x a (wordOf (with (ofWord (getD rows x 0)) y)) 0 d) (sym (or-false (inRow rows a b)))
+    go (yes e) = rw (e, eq-eqb x x refl, row-put rows x (with (rowAt rows x) y) l) (member-more (rowAt rows x) y b)
+    go (no d) = rw (ne-eqb a x d, row-kept rows x a (with (rowAt rows x) y) d) (sym (or-false (inRow rows a b)))
 
 length-pair : (rows : List ℕ) (x y : ℕ) → length (withPair rows x y) ≡ length rows
 unfolding withPair
-length-pair rows x y = length-set rows x (wordOf (with (ofWord (getD rows x 0)) y))
+length-pair rows x y = length-put rows x (with (rowAt rows x) y)
 
 pub length-pairs : (rows w : List ℕ) → length (withPairs rows w) ≡ length rows
 unfolding withPairs
@@ -110,17 +108,17 @@ length-pairs rows [] = refl
 length-pairs rows (x ∷ []) = refl
 length-pairs rows (x ∷ (y ∷ w)) = length-pairs (withPair rows x y) (y ∷ w) ∙ length-pair rows x y
 
-pairs-shown : (n : ℕ) (rows w : List ℕ) (a b : ℕ) → length rows ≡ n → Names n w → inRow (withPairs rows w) a b ≡ (inRow rows a b || hasPair a b w)
+pairs-shown : (n : ℕ) (rows w : List ℕ) (a b : ℕ) → IsRows n rows → Names n w → inRow (withPairs rows w) a b ≡ (inRow rows a b || hasPair a b w)
 unfolding withPairs hasPair
 pairs-shown n rows [] a b l h = sym (or-false (inRow rows a b))
 pairs-shown n rows (x ∷ []) a b l h = sym (or-false (inRow rows a b))
 pairs-shown n rows (x ∷ (y ∷ w)) a b l h =
     pairs-shown n (withPair rows x y) (y ∷ w) a b (length-pair rows x y ∙ l) (h .1)
-    ∙ ap (λ (t : Bool). t || hasPair a b (y ∷ w)) (pair-shown rows x y a b (rw l (h .0)))
+    ∙ ap (λ (t : Bool). t || hasPair a b (y ∷ w)) (pair-shown rows x y a b (has-row n rows x l (h .0)))
     ∙ or-assoc (inRow rows a b) (eqb a x && eqb b y) (hasPair a b (y ∷ w))
 
 -- Adding a word changes only the facts which that word shows.
-pub word-shown : (n : ℕ) (facts : Facts) (w : List ℕ) → length (facts .follows) ≡ places → Names places w →
+pub word-shown : (n : ℕ) (facts : Facts) (w : List ℕ) → IsRows places (facts .follows) → Names places w →
     viewOf n (withWord facts w) ≡ showing (viewOf n facts) w
 unfolding withWord inRow
 word-shown n facts w l h =
@@ -137,8 +135,8 @@ word-shown n facts w l h =
 
 -- where each word adds to a fact what its own test says, the words together add what some word's test says
 module _ (fact : Facts → Bool) (test : List ℕ → Bool)
-    (step : (facts : Facts) (w : List ℕ) → length (facts .follows) ≡ places → Names places w → fact (withWord facts w) ≡ (fact facts || test w)) where
-  words-shown : (facts : Facts) (ws : List (List ℕ)) → length (facts .follows) ≡ places → Over places ws →
+    (step : (facts : Facts) (w : List ℕ) → IsRows places (facts .follows) → Names places w → fact (withWord facts w) ≡ (fact facts || test w)) where
+  words-shown : (facts : Facts) (ws : List (List ℕ)) → IsRows places (facts .follows) → Over places ws →
       fact (withWords facts ws) ≡ (fact facts || someWord test ws)
   unfolding withWords someWord withWord
   words-shown facts [] l h = sym (or-false (fact facts))
@@ -147,13 +145,13 @@ module _ (fact : Facts → Bool) (test : List ℕ → Bool)
       ∙ ap (λ (t : Bool). t || someWord test ws) (step facts w l (h .0))
       ∙ or-assoc (fact facts) (test w) (someWord test ws)
 
-no-row : (a b : ℕ) → inRow noRows a b ≡ false
-unfolding inRow noRows
-no-row a b = ap (λ (row : ℕ). member (ofWord row) b) (replicate-at places a 0) ∙ ap (λ (s : NameSet). member s b) of-zero ∙ member-empty b
+no-row : (a b : ℕ) → inRow (noRows places) a b ≡ false
+unfolding inRow
+no-row a b = ap (λ (s : NameSet). member s b) (row-of-none places a) ∙ member-empty b
 
-length-none : length (noFacts .follows) ≡ places
-unfolding noFacts noRows
-length-none = length-replicate {A = ℕ} places 0
+length-none : IsRows places (noFacts .follows)
+unfolding noFacts
+length-none = no-rows places
 
 -- The struct of a sample over at most as many names as there are places holds its facts, and no others.
 pub facts-shown : (n : ℕ) (words : List (List ℕ)) → n ≤ places → Over n words → viewOf n (factsOf words) ≡ followOf n words
@@ -169,7 +167,7 @@ facts-shown n words l h =
     }
   where
     shown : (fact : Facts → Bool) (test : List ℕ → Bool) →
-        ((facts : Facts) (w : List ℕ) → length (facts .follows) ≡ places → Names places w → fact (withWord facts w) ≡ (fact facts || test w)) →
+        ((facts : Facts) (w : List ℕ) → IsRows places (facts .follows) → Names places w → fact (withWord facts w) ≡ (fact facts || test w)) →
         fact noFacts ≡ false → fact (withWords noFacts words) ≡ someWord test words
     shown fact test step none =
         words-shown fact test step noFacts words length-none (fewer-over n places words l h) ∙ ap (λ (t : Bool). t || someWord test words) none

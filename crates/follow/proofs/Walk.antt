@@ -12,6 +12,7 @@ use borrow.Author.Tests.{eq-eqb, ne-eqb, ltb-true, lt-ltb}
 use Rattle.nameset.specs.Places.{places}
 use Rattle.nameset.specs.declared.NameSet.{NameSet}
 use Rattle.nameset.specs.Set.{empty as noNames}
+use Rattle.nameset.specs.Rows.{noRows}
 use Rattle.book.specs.declared.Layout.{Layout}
 use Rattle.book.specs.declared.BlockPlace.{BlockPlace}
 use Rattle.book.specs.Book.{Block, allBelow, blocksIn}
@@ -24,7 +25,7 @@ use Rattle.model.proofs.Tests.{both, and-left, and-right}
 use Rattle.follow.specs.declared.Facts.{Facts}
 use Rattle.follow.specs.Follow.{isEmpty}
 use Rattle.follow.specs.Sample.{wordsOf}
-use Rattle.follow.specs.Adding.{noRows, noFacts, withFirst, withLast, withPairs, withWord, withWords, factsOf}
+use Rattle.follow.specs.Adding.{noFacts, withFirst, withLast, withPairs, withWord, withWords, factsOf}
 
 -- what a word adds, field by field
 pub word-added : (facts : Facts) (s e : NameSet) (r w : List ℕ) (b : Bool) →
@@ -57,7 +58,7 @@ pub record Walk (s : List ℕ) (parent : ℕ) (facts : Facts) (blocks at left : 
   pub gathered : factsOf (wordsOf parent (blocksIn s)) ≡ withWords facts (wordsOf parent (ahead .blocks))
 
 pub walk-begin : (s : List ℕ) (l : Layout) (parent : ℕ) (starts ends : NameSet) → LaidOut s l → starts ≡ noNames → ends ≡ noNames →
-    Walk s parent (record { starts = starts; ends = ends; follows = noRows; empty = false }) 0 (l .body) (l .blocks)
+    Walk s parent (record { starts = starts; ends = ends; follows = noRows places; empty = false }) 0 (l .body) (l .blocks)
 unfolding factsOf noFacts
 walk-begin s l parent starts ends laid es ee =
     rw (es, ee)

@@ -6,10 +6,11 @@ use mathlib.Core.Bool.{Bool, true, _||_, or-true, or-false}
 use mathlib.Core.List.{List, [], _∷_}
 use native.Mathlib.Omega.{arith}
 use native.Mathlib.Numerals.{add-one}
-use lib.ListN.{length, getD, set, drop, drop-of-length-le}
+use lib.ListN.{length, getD, drop, drop-of-length-le}
 use lib.Seq.{drop-cons}
 use Rattle.nameset.specs.declared.NameSet.{NameSet}
-use Rattle.nameset.specs.Set.{with, ofWord, wordOf}
+use Rattle.nameset.specs.Set.{with}
+use Rattle.nameset.specs.Rows.{rowAt, putRow}
 use Rattle.follow.specs.Follow.{isEmpty}
 use Rattle.follow.specs.Adding.{withFirst, withLast, withPair, withPairs}
 
@@ -65,10 +66,10 @@ unfolding pairsLeft withPairs
 pairs-begin rows [] a e = refl
 pairs-begin rows (x ∷ w) a e = rw e
 
-pub pairs-next : (rows w : List ℕ) (i a b v : ℕ) (r s : NameSet) → i < length w → b ≡ getD w i 0 →
-    r ≡ ofWord (getD rows a 0) → s ≡ with r b → v ≡ wordOf s → pairsLeft rows a w i ≡ pairsLeft (set rows a v) b w (i + 1)
+pub pairs-next : (rows next w : List ℕ) (i a b : ℕ) (r s : NameSet) → i < length w → b ≡ getD w i 0 →
+    r ≡ rowAt rows a → s ≡ with r b → next ≡ putRow rows a s → pairsLeft rows a w i ≡ pairsLeft next b w (i + 1)
 unfolding pairsLeft withPairs withPair
-pairs-next rows w i a b v r s h eb er es ev = rw (ev, es, er, add-one i, drop-cons w i 0 h, ← eb)
+pairs-next rows next w i a b r s h eb er es en = rw (en, es, er, add-one i, drop-cons w i 0 h, ← eb)
 
 pub pairs-done : (rows w : List ℕ) (a i : ℕ) → length w ≤ i → pairsLeft rows a w i ≡ rows
 unfolding pairsLeft withPairs

@@ -4,20 +4,16 @@
 use Prim.Native.Nat.{ℕ}
 use mathlib.Core.Bool.{false, _||_}
 use mathlib.Core.List.{List, [], _∷_}
-use lib.ListN.{getD, set, replicate}
 use Rattle.nameset.specs.Places.{places}
 use Rattle.nameset.specs.declared.NameSet.{NameSet}
-use Rattle.nameset.specs.Set.{empty as noNames, with, ofWord, wordOf}
+use Rattle.nameset.specs.Set.{empty as noNames, with}
+use Rattle.nameset.specs.Rows.{rowAt, putRow, noRows}
 use Rattle.follow.specs.declared.Facts.{Facts}
 use Rattle.follow.specs.Follow.{Follow, beginsWith, endsWith, hasPair, isEmpty}
 
--- a row for each place, with no name in it
-unfoldable pub noRows : List ℕ
-noRows = replicate places 0
-
 -- No fact at all.
 unfoldable pub noFacts : Facts
-noFacts = record { starts = noNames; ends = noNames; follows = noRows; empty = false }
+noFacts = record { starts = noNames; ends = noNames; follows = noRows places; empty = false }
 
 -- the set with the first name of the word put in
 unfoldable pub withFirst : NameSet → List ℕ → NameSet
@@ -32,7 +28,7 @@ withLast s (x ∷ (y ∷ w)) = withLast s (y ∷ w)
 
 -- the rows with b put into row a
 unfoldable pub withPair : List ℕ → ℕ → ℕ → List ℕ
-withPair rows a b = set rows a (wordOf (with (ofWord (getD rows a 0)) b))
+withPair rows a b = putRow rows a (with (rowAt rows a) b)
 
 -- the rows with each pair of neighbours of the word put in
 unfoldable pub withPairs : List ℕ → List ℕ → List ℕ

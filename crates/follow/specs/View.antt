@@ -1,8 +1,8 @@
 -- A means: the facts that a struct holds; `facts-shown` in crates/follow/proofs/Laws.antt joins them to `followOf`.
 -- Assumes nothing.
 use Prim.Native.Nat.{ℕ}
-use lib.ListN.{getD}
-use Rattle.nameset.specs.Set.{member, ofWord}
+use Rattle.nameset.specs.Set.{member}
+use Rattle.nameset.specs.Rows.{rowAt}
 use Rattle.follow.specs.declared.Facts.{Facts}
 use Rattle.follow.specs.Follow.{Follow}
 
@@ -13,6 +13,6 @@ viewOf n facts =
       names = n;
       starts = member (facts .starts);
       ends = member (facts .ends);
-      follows = λ a b. member (ofWord (getD (facts .follows) a 0)) b;
+      follows = λ a b. member (rowAt (facts .follows) a) b;
       empty = facts .empty;
     }

@@ -4,23 +4,26 @@ use book::Layout;
 use book::part;
 use book_access::block_at_place;
 use nameset::NameSet;
-use nameset::PLACES;
+use nameset::ROWS;
+use nameset::put_row;
+use nameset::row_at;
 ghost use mathlib.Core.Path.{_≡_};
 ghost use mathlib.Core.Bool.{true, _||_};
 ghost use Prim.Native.Nat.{_<_};
 ghost use lib.ListN.{length, getD};
 ghost use Rattle.nameset.specs.Places.{places};
+ghost use Rattle.nameset.specs.Rows.{IsRows};
 ghost use Rattle.book.specs.Book.{allBelow, blocksIn};
 ghost use Rattle.book.specs.Access.{LaidOut};
 ghost use Rattle.follow.specs.Follow.{isEmpty};
 ghost use Rattle.follow.specs.Sample.{wordsOf};
 ghost use Rattle.follow.specs.Adding.{withFirst, withLast, withPairs, withWord, factsOf};
 
-// Row a of `follows` keeps the names that follow a, as a word of `nameset`.
+// Row a of `follows` keeps the names that follow a.
 pub struct Facts {
     pub starts: NameSet,
     pub ends: NameSet,
-    pub follows: [u64; PLACES],
+    pub follows: [u64; ROWS],
     pub empty: bool,
 }
 
@@ -83,14 +86,15 @@ fn or_empty(empty: bool, word: &[u8]) -> bool
 
 // Puts each pair of neighbours of a word into the rows.
 pub fn add_pairs(rows: &mut [u64], word: &[u8])
-    requires { ⌜ (length (now rows) ≡ places) × (allBelow places (now word) ≡ true) ⌝ }
-    ensures { λ _. ⌜ (now (rows .exit) ≡ withPairs (now (rows .entry)) (now (word .entry))) × (length (now (rows .exit)) ≡ places) ⌝ }
+    requires { ⌜ IsRows places (now rows) × (allBelow places (now word) ≡ true) ⌝ }
+    ensures { λ _. ⌜ (now (rows .exit) ≡ withPairs (now (rows .entry)) (now (word .entry))) × IsRows places (now (rows .exit)) ⌝ }
 {
     let mut a = first_name(word);
     let mut i = 1;
     while i < word.len() {
         let b = name_at(word, i);
-        rows[a] = NameSet::of_word(rows[a]).with(b).word();
+        let names = row_at(rows, a).with(b);
+        put_row(rows, a, names);
         a = b;
         i += 1;
     }
@@ -118,7 +122,7 @@ pub fn parent_facts(bytes: &[u8], layout: Layout, parent: usize) -> ParentFacts
 {
     let mut starts = NameSet::empty();
     let mut ends = NameSet::empty();
-    let mut rows = [0u64; PLACES];
+    let mut rows = [0u64; ROWS];
     let mut empty = false;
     let mut blocks = 0;
     let mut at = layout.body;

@@ -2,13 +2,27 @@
 use book::Layout;
 use follow::Facts;
 use nameset::NameSet;
+use nameset::row_at;
 use refusal::Outcome;
 ghost use Rattle.book.specs.Access.{LaidOut};
 
-// A set of names below 8, one bit for each name.
+// A number with a bit for each name below 8 that is in a set.
+fn bits_of(names: NameSet) -> u64 {
+    let mut bits = 0u64;
+    let mut i = 0;
+    while i < 8 {
+        if names.has(i) {
+            bits = bits | (1u64 << i);
+        }
+        i += 1;
+    }
+    bits
+}
+
+// The names below 8 of a set, one bit for each.
 fn print_set(label: &[u8], names: NameSet) {
     test_lines::print(label);
-    io::print_hex(1, names.word(), 2);
+    io::print_hex(1, bits_of(names), 2);
     test_lines::print(b"\n");
 }
 
@@ -16,9 +30,9 @@ fn print_facts(facts: Facts) {
     let rows = facts.follows;
     print_set(b"starts ", facts.starts);
     print_set(b"ends ", facts.ends);
-    print_set(b"after 0 ", NameSet::of_word(rows[0]));
-    print_set(b"after 2 ", NameSet::of_word(rows[2]));
-    print_set(b"after 3 ", NameSet::of_word(rows[3]));
+    print_set(b"after 0 ", row_at(&rows, 0));
+    print_set(b"after 2 ", row_at(&rows, 2));
+    print_set(b"after 3 ", row_at(&rows, 3));
     if facts.empty {
         test_lines::print(b"empty\n");
     }

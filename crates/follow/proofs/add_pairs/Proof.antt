@@ -3,16 +3,17 @@
 use Prim.Native.Nat.{_-_, _<_}
 use mathlib.Core.Path.{_≡_, sym, _∙_}
 use native.Mathlib.Omega.{arith}
-use lib.ListN.{length, length-set}
+use lib.ListN.{length}
 use borrow.Author.Needs.{needs}
 use Rattle.nameset.specs.Places.{places}
+use Rattle.nameset.specs.Rows.{IsRows}
 use Rattle.follow.specs.Adding.{withPairs}
 use Rattle.follow.proofs.Words.{pairsLeft, pairs-begin, pairs-next, pairs-done}
 use Rattle.follow.proofs.add_pairs.Statement.{statement}
 use Rattle.follow.proofs.add_pairs.Tie as tie
 
 abbrev Inv-loop : tie.InvT-loop
-Inv-loop rows₀ word a₀ i₀ rows a i = (a < places) × (length rows ≡ places) × (withPairs rows₀ word ≡ pairsLeft rows a word i)
+Inv-loop rows₀ word a₀ i₀ rows a i = (a < places) × IsRows places rows × (withPairs rows₀ word ≡ pairsLeft rows a word i)
 
 abbrev μ-loop : tie.MeasureT-loop
 μ-loop rows₀ word a₀ i₀ rows a i = length word - i
@@ -27,26 +28,14 @@ loop-holds c =
 name-at-requires : tie.Need-name-at-requires Inv-loop μ-loop
 name-at-requires c κs = (c .before .before .before .before .before .pre .1, c .loop-test .taken)
 
-mul-of-word : tie.Need-mul-of-word Inv-loop μ-loop
-mul-of-word c = omega arith
-
-slice-read-of-word : tie.Need-slice-read-of-word Inv-loop μ-loop
-slice-read-of-word c = omega arith
-
-of-word-requires : tie.Need-of-word-requires Inv-loop μ-loop
-of-word-requires c κs = search needs
+row-at-requires : tie.Need-row-at-requires Inv-loop μ-loop
+row-at-requires c κs = omega arith
 
 with-requires : tie.Need-with-requires Inv-loop μ-loop
 with-requires c κs = search needs
 
-word-requires : tie.Need-word-requires Inv-loop μ-loop
-word-requires c κs = search needs
-
-mul-rows : tie.Need-mul-rows Inv-loop μ-loop
-mul-rows c = omega arith
-
-slice-write-rows : tie.Need-slice-write-rows Inv-loop μ-loop
-slice-write-rows c = omega arith
+put-row-requires : tie.Need-put-row-requires Inv-loop μ-loop
+put-row-requires c κs = omega arith
 
 add-i : tie.Need-add-i Inv-loop μ-loop
 add-i c = omega arith
@@ -56,11 +45,14 @@ loop-less c = omega arith
 
 loop-again : tie.Need-loop-again Inv-loop μ-loop
 loop-again c =
-    let name = c .before .before .before .before in
+    let put = c .before .before in
+    let set = put .before .before in
+    let row = set .before in
+    let name = row .before .before in
     let inv = name .before .before .loop .inv in (
       name .name-at .ensures .1,
-      simp length-set (inv .1),
-      inv .2 ∙ pairs-next _ _ _ _ _ _ _ _ (name .before .loop-test .taken) (name .name-at .ensures .0) (c .before .before .of-word .ensures) (c .before .with .ensures .same) (c .word .ensures),
+      put .put-row .ensures .1 ∙ inv .1,
+      inv .2 ∙ pairs-next _ _ _ _ _ _ _ _ (name .before .loop-test .taken) (name .name-at .ensures .0) (row .row-at .ensures) (set .with .ensures .same) (put .put-row .ensures .0),
     )
 
 same-length : tie.Need-same-length Inv-loop μ-loop
@@ -78,13 +70,9 @@ add-pairs-spec =
     first-name-requires
     loop-holds
     name-at-requires
-    mul-of-word
-    slice-read-of-word
-    of-word-requires
+    row-at-requires
     with-requires
-    word-requires
-    mul-rows
-    slice-write-rows
+    put-row-requires
     add-i
     loop-less
     loop-again

@@ -6,18 +6,19 @@ use mathlib.Core.Bool.{true}
 use mathlib.Core.List.{List}
 use mathlib.Core.Logic.{⊎-elim}
 use native.Mathlib.Omega.{arith}
-use lib.ListN.{length, length-replicate}
+use lib.ListN.{length}
 use borrow.Author.Needs.{needs}
 use Rattle.nameset.specs.Places.{places}
+use Rattle.nameset.specs.Rows.{IsRows, noRows}
+use Rattle.nameset.proofs.Rows.{no-rows}
 use Rattle.book.specs.Book.{allBelow}
-use Rattle.follow.specs.Adding.{noRows}
 use Rattle.follow.proofs.Walk.{Walk, word-added, none-added, walk-begin, walk-done, turn, goes-on, part-fits, word-below, own-turn, other-turn}
 use Rattle.follow.proofs.parent_facts.Statement.{statement}
 use Rattle.follow.proofs.parent_facts.Tie as tie
 
 abbrev Inv-loop : tie.InvT-loop
 Inv-loop bytes parent starts₀ ends₀ rows₀ empty₀ blocks₀ at₀ left₀ starts ends rows empty blocks at left =
-    Walk bytes parent (record { starts = starts; ends = ends; follows = rows; empty = empty }) blocks at left × (length rows ≡ places) × (blocks ≤ at)
+    Walk bytes parent (record { starts = starts; ends = ends; follows = rows; empty = empty }) blocks at left × IsRows places rows × (blocks ≤ at)
 
 abbrev μ-loop : tie.MeasureT-loop
 μ-loop bytes parent starts₀ ends₀ rows₀ empty₀ blocks₀ at₀ left₀ starts ends rows empty blocks at left =
@@ -37,7 +38,7 @@ empty-requires-2 c κs = search needs
 loop-holds : tie.Need-loop-holds Inv-loop μ-loop
 unfolding noRows
 loop-holds c =
-    (walk-begin _ _ _ _ _ (c .before .before .before .pre) (c .before .empty .ensures .same) (c .empty2 .ensures .same), length-replicate {A = ℕ} places 0, omega arith)
+    (walk-begin _ _ _ _ _ (c .before .before .before .pre) (c .before .empty .ensures .same) (c .empty2 .ensures .same), no-rows places, omega arith)
 
 block-at-place-requires : tie.Need-block-at-place-requires Inv-loop μ-loop
 block-at-place-requires c κs = turn _ _ _ _ _ _ (c .before .loop .inv .0) (c .loop-test .taken) .fits
