@@ -12,14 +12,14 @@ use lib.ListN.{length}
 use borrow.Author.Tests.{lt-ltb, le-ltb, ltb-true, ltb-false, not-true, not-false}
 use Rattle.refusal.specs.declared.Refusal.{Refusal}
 use Rattle.refusal.specs.declared.Refusal.the-variants.{BytesMissing, NumberNotBelow}
-use Rattle.refusal.specs.Answer.{Answer, given, refused, onward, refuseIf}
+use Rattle.refusal.specs.Answer.{given, refused, onward}
 use Rattle.refusal.proofs.Answers.{refused-same, given-refused, onward-refused, check-refused}
 use Rattle.book.specs.Field.{Field, field, byteOf, bytesOf}
 use Rattle.book.specs.Book.{Block, allBelow, blockOf, blocksOf}
 use Rattle.book.specs.Bytes.{blockBytes, blocksBytes}
 use Rattle.book.specs.Stops.{BlocksBelow, BlockMissing, BlockBad}
-use Rattle.book.proofs.Told.{bytes-told, block-told}
-use Rattle.book.proofs.FieldStops.{bytes-missing, bytes-given, bytes-stop, joined}
+use Rattle.book.proofs.Told.{bytes-told, joined, taken, block-told}
+use Rattle.book.proofs.FieldStops.{bytes-missing, bytes-given, bytes-stop}
 
 -- ---- a block
 
@@ -27,10 +27,6 @@ use Rattle.book.proofs.FieldStops.{bytes-missing, bytes-given, bytes-st
 pub data BlockStop (n : ℕ) (rest : List ℕ) (r : Refusal) : Type 0 where
   cut : BlockMissing n rest → BytesMissing ≡ r → BlockStop n rest r
   over : BlockBad n rest → NumberNotBelow ≡ r → BlockStop n rest r
-
--- a block whose children were taken
-abbrev pub taken : ℕ → ℕ → Field (List ℕ) → Answer (Field Block)
-taken n p w = refuseIf (not (allBelow n (w .value))) NumberNotBelow (given (field (record { parent = p; word = w .value }) (w .rest)))
 
 pub block-stop : (n : ℕ) (s : List ℕ) (r : Refusal) → blockOf n s ≡ refused r → BlockStop n s r
 unfolding blockOf byteOf blockBytes

@@ -2,7 +2,7 @@
 -- Assumes nothing.
 use Prim.Native.Nat.{ℕ, _≤_, _<_}
 use mathlib.Core.Path.{_≡_}
-use mathlib.Core.List.{List, _∷_, _++_}
+use mathlib.Core.List.{List, _++_}
 use mathlib.Core.Logic.{⊎-elim}
 use native.Mathlib.Omega.{arith}
 use lib.Dec.{ltb}
@@ -11,11 +11,9 @@ use lib.Seq.{take-append-seam, drop-append-seam}
 use borrow.Author.Tests.{lt-ltb, le-ltb, ltb-true}
 use Rattle.refusal.specs.declared.Refusal.{Refusal}
 use Rattle.refusal.specs.declared.Refusal.the-variants.{BytesMissing}
-use Rattle.refusal.specs.Answer.{Answer, given, refused}
+use Rattle.refusal.specs.Answer.{given, refused}
 use Rattle.refusal.proofs.Answers.{given-refused, onward-refused, check-refused}
-use Rattle.book.specs.Field.{Field, field, bytesOf, countSize, countOf}
-
--- ---- bytes and counts
+use Rattle.book.specs.Field.{field, bytesOf, countSize, countOf}
 
 pub bytes-missing : (n : ℕ) (s : List ℕ) → length s < n → bytesOf n s ≡ refused BytesMissing
 unfolding bytesOf
@@ -34,8 +32,3 @@ bytes-stop n s r e = ⊎-elim (λ h. (ltb-true (length s) n (h .0), h .1)) (λ h
 pub count-stop : (s : List ℕ) (r : Refusal) → countOf s ≡ refused r → (length s < countSize) × (BytesMissing ≡ r)
 unfolding countOf
 count-stop s r e = ⊎-elim (bytes-stop countSize s r) (λ h. absurd (given-refused _ r (h .2))) (onward-refused (bytesOf countSize s) _ r e)
-
--- ---- one before the others, names as well as blocks
-
-abbrev pub joined : {A : Type 0} → Field A → Field (List A) → Answer (Field (List A))
-joined x others = given (field (x .value ∷ others .value) (others .rest))

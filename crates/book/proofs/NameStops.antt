@@ -11,7 +11,7 @@ use lib.ListN.{length}
 use borrow.Author.Tests.{not-true, not-false}
 use Rattle.refusal.specs.declared.Refusal.{Refusal}
 use Rattle.refusal.specs.declared.Refusal.the-variants.{BytesMissing, BadName, NameNotAbove}
-use Rattle.refusal.specs.Answer.{Answer, given, refused, onward, refuseIf}
+use Rattle.refusal.specs.Answer.{given, refused, onward}
 use Rattle.refusal.proofs.Answers.{refused-same, given-refused, onward-refused, check-refused}
 use Rattle.name.specs.Rule.{goodLength, goodBytes}
 use Rattle.name.specs.Order.{rises}
@@ -19,8 +19,8 @@ use Rattle.book.specs.Field.{Field, field, byteOf, bytesOf}
 use Rattle.book.specs.Book.{nameOf, namesOf}
 use Rattle.book.specs.Bytes.{nameBytes, namesBytes}
 use Rattle.book.specs.Stops.{Rising, none, one, lastOf, NameMissing, NameBad, NameLow}
-use Rattle.book.proofs.Told.{bytes-told, name-told}
-use Rattle.book.proofs.FieldStops.{bytes-missing, bytes-given, bytes-stop, joined}
+use Rattle.book.proofs.Told.{bytes-told, judged, joined, name-told}
+use Rattle.book.proofs.FieldStops.{bytes-missing, bytes-given, bytes-stop}
 
 -- ---- a name
 
@@ -29,10 +29,6 @@ pub data NameStop (last rest : List ℕ) (r : Refusal) : Type 0 where
   missing : NameMissing rest → BytesMissing ≡ r → NameStop last rest r
   bad : NameBad rest → BadName ≡ r → NameStop last rest r
   low : NameLow last rest → NameNotAbove ≡ r → NameStop last rest r
-
--- a name whose bytes were taken
-abbrev judged : List ℕ → Field (List ℕ) → Answer (Field (List ℕ))
-judged last name = refuseIf (not (goodBytes (name .value))) BadName (refuseIf (not (rises last (name .value))) NameNotAbove (given name))
 
 pub name-stop : (last s : List ℕ) (r : Refusal) → nameOf last s ≡ refused r → NameStop last s r
 unfolding nameOf byteOf nameBytes

@@ -9,7 +9,7 @@ use lib.ListN.{length, take, drop, take-append-drop}
 use lib.Seq.{length-take-le}
 use borrow.Author.Tests.{ltb-true, ltb-false, not-false}
 use Rattle.refusal.specs.declared.Refusal.the-variants.{BytesMissing, BadName, NameNotAbove, NumberNotBelow}
-use Rattle.refusal.specs.Answer.{given, onward, refuseIf}
+use Rattle.refusal.specs.Answer.{Answer, given, onward, refuseIf}
 use Rattle.refusal.proofs.Answers.{onward-given, check-given, given-same, given-refused}
 use Rattle.name.specs.Rule.{goodLength, goodBytes}
 use Rattle.name.specs.Order.{rises}
@@ -32,6 +32,16 @@ bytes-told n s f e =
       ap (λ (x : Field (List ℕ)). length (x .value)) (sym g) ∙ length-take-le n s (ltb-false (length s) n (c .0)),
     )
 
+-- ---- names
+
+-- a name whose bytes were taken, behind the name `before`
+abbrev pub judged : List ℕ → Field (List ℕ) → Answer (Field (List ℕ))
+judged before name = refuseIf (not (goodBytes (name .value))) BadName (refuseIf (not (rises before (name .value))) NameNotAbove (given name))
+
+-- one before the others, names as well as blocks
+abbrev pub joined : {A : Type 0} → Field A → Field (List A) → Answer (Field (List A))
+joined x others = given (field (x .value ∷ others .value) (others .rest))
+
 -- a name that was read
 pub record NameTold (before s : List ℕ) (f : Field (List ℕ)) : Type 0 where
   pub bytes : s ≡ nameBytes (f .value) (f .rest)
@@ -43,11 +53,9 @@ pub name-told : (before s : List ℕ) (f : Field (List ℕ)) → nameOf before s
 unfolding nameOf nameBytes
 name-told before s f e = sized (onward-given (byteOf s) _ f e)
   where
-    judged : (size : Field ℕ) (name : Field (List ℕ)) → s ≡ size .value ∷ size .rest → goodLength (size .value) ≡ true →
-        bytesOf (size .value) (size .rest) ≡ given name →
-        refuseIf (not (goodBytes (name .value))) BadName (refuseIf (not (rises before (name .value))) NameNotAbove (given name)) ≡ given f →
-        NameTold before s f
-    judged size name h g b e =
+    named : (size : Field ℕ) (name : Field (List ℕ)) → s ≡ size .value ∷ size .rest → goodLength (size .value) ≡ true →
+        bytesOf (size .value) (size .rest) ≡ given name → judged before name ≡ given f → NameTold before s f
+    named size name h g b e =
         let t = bytes-told (size .value) (size .rest) name b in
         let c = check-given (not (goodBytes (name .value))) BadName _ f e in
         let d = check-given (not (rises before (name .value))) NameNotAbove _ f (c .1) in
@@ -60,14 +68,12 @@ name-told before s f e = sized (onward-given (byteOf s) _ f e)
         })
 
     sized : ((size : Field ℕ) × (byteOf s ≡ given size)
-        × (refuseIf (not (goodLength (size .value))) BadName
-        (onward (bytesOf (size .value) (size .rest)) (λ name.
-        refuseIf (not (goodBytes (name .value))) BadName (refuseIf (not (rises before (name .value))) NameNotAbove (given name)))) ≡ given f)) →
+        × (refuseIf (not (goodLength (size .value))) BadName (onward (bytesOf (size .value) (size .rest)) (judged before)) ≡ given f)) →
         NameTold before s f
     sized (size, h, e) =
         let c = check-given (not (goodLength (size .value))) BadName _ f e in
         let n = onward-given (bytesOf (size .value) (size .rest)) _ f (c .1) in
-        judged size (n .0) (byte-told s size h) (not-false _ (c .0)) (n .1) (n .2)
+        named size (n .0) (byte-told s size h) (not-false _ (c .0)) (n .1) (n .2)
 
 pub record NamesTold (n : ℕ) (before s : List ℕ) (f : Field (List (List ℕ))) : Type 0 where
   pub bytes : s ≡ namesBytes (f .value) (f .rest)
@@ -81,7 +87,7 @@ names-told (suc n) before s f e = more (λ b t g. names-told n b t g) (onward-gi
   where
     more : ((b t : List ℕ) (g : Field (List (List ℕ))) → namesOf n b t ≡ given g → NamesTold n b t g) →
         ((x : Field (List ℕ)) × (nameOf before s ≡ given x)
-        × (onward (namesOf n (x .value) (x .rest)) (λ others. given (field (x .value ∷ others .value) (others .rest))) ≡ given f)) →
+        × (onward (namesOf n (x .value) (x .rest)) (joined x) ≡ given f)) →
         NamesTold (suc n) before s f
     more again (x, h, e) =
         let o = onward-given (namesOf n (x .value) (x .rest)) _ f e in
@@ -94,22 +100,27 @@ names-told (suc n) before s f e = more (λ b t g. names-told n b t g) (onward-gi
           rising = one (t .long) (t .good) (t .above) (u .rising);
         })
 
+-- ---- blocks
+
+-- a block whose children were taken, of a parent that is below n
+abbrev pub made : ℕ → Field (List ℕ) → Field Block
+made parent word = field (record { parent = parent; word = word .value }) (word .rest)
+
+abbrev pub taken : ℕ → ℕ → Field (List ℕ) → Answer (Field Block)
+taken n parent word = refuseIf (not (allBelow n (word .value))) NumberNotBelow (given (made parent word))
+
 -- a block that was read over n names
 pub record BlockTold (n : ℕ) (s : List ℕ) (f : Field Block) : Type 0 where
   pub bytes : s ≡ blockBytes (f .value) (f .rest)
   pub parent : f .value .parent < n
   pub children : allBelow n (f .value .word) ≡ true
 
-abbrev made : ℕ → Field (List ℕ) → Field Block
-made parent word = field (record { parent = parent; word = word .value }) (word .rest)
-
 pub block-told : (n : ℕ) (s : List ℕ) (f : Field Block) → blockOf n s ≡ given f → BlockTold n s f
 unfolding blockOf blockBytes
 block-told n s f e = started (onward-given (byteOf s) _ f e)
   where
     ended : (p k : Field ℕ) (w : Field (List ℕ)) → byteOf s ≡ given p → p .value < n → byteOf (p .rest) ≡ given k →
-        bytesOf (k .value) (k .rest) ≡ given w → refuseIf (not (allBelow n (w .value))) NumberNotBelow (given (made (p .value) w)) ≡ given f →
-        BlockTold n s f
+        bytesOf (k .value) (k .rest) ≡ given w → taken n (p .value) w ≡ given f → BlockTold n s f
     ended p k w hp below hk hw e =
         let t = bytes-told (k .value) (k .rest) w hw in
         let c = check-given (not (allBelow n (w .value))) NumberNotBelow _ f e in
@@ -121,17 +132,13 @@ block-told n s f e = started (onward-given (byteOf s) _ f e)
         })
 
     counted : (p : Field ℕ) → byteOf s ≡ given p → p .value < n →
-        ((k : Field ℕ) × (byteOf (p .rest) ≡ given k)
-        × (onward (bytesOf (k .value) (k .rest)) (λ w. refuseIf (not (allBelow n (w .value))) NumberNotBelow (given (made (p .value) w))) ≡ given f)) →
-        BlockTold n s f
+        ((k : Field ℕ) × (byteOf (p .rest) ≡ given k) × (onward (bytesOf (k .value) (k .rest)) (taken n (p .value)) ≡ given f)) → BlockTold n s f
     counted p hp below (k, hk, e) =
         let o = onward-given (bytesOf (k .value) (k .rest)) _ f e in
         ended p k (o .0) hp below hk (o .1) (o .2)
 
     started : ((p : Field ℕ) × (byteOf s ≡ given p)
-        × (refuseIf (not (ltb (p .value) n)) NumberNotBelow
-        (onward (byteOf (p .rest)) (λ k.
-        onward (bytesOf (k .value) (k .rest)) (λ w. refuseIf (not (allBelow n (w .value))) NumberNotBelow (given (made (p .value) w))))) ≡ given f)) →
+        × (refuseIf (not (ltb (p .value) n)) NumberNotBelow (onward (byteOf (p .rest)) (λ k. onward (bytesOf (k .value) (k .rest)) (taken n (p .value)))) ≡ given f)) →
         BlockTold n s f
     started (p, hp, e) =
         let c = check-given (not (ltb (p .value) n)) NumberNotBelow _ f e in
@@ -149,7 +156,7 @@ blocks-told n (suc m) s f e = more (λ t g. blocks-told n m t g) (onward-given (
   where
     more : ((t : List ℕ) (g : Field (List Block)) → blocksOf n m t ≡ given g → BlocksTold n m t g) →
         ((b : Field Block) × (blockOf n s ≡ given b)
-        × (onward (blocksOf n m (b .rest)) (λ others. given (field (b .value ∷ others .value) (others .rest))) ≡ given f)) →
+        × (onward (blocksOf n m (b .rest)) (joined b) ≡ given f)) →
         BlocksTold n (suc m) s f
     more again (b, h, e) =
         let o = onward-given (blocksOf n m (b .rest)) _ f e in

@@ -57,14 +57,15 @@ abbrev μ-loop : tie.MeasureT-loop
 abbrev middle : tie.After-compare-at-place Inv-loop μ-loop → ℕ
 middle c = let l = c .before .before .loop in l .low + (l .high - l .low) / 2
 
-among-names : (c : tie.After-compare-at-place Inv-loop μ-loop) → middle c < c .before .before .before .before .before .before .args .layout .names
+among-names : (c : tie.After-compare-at-place Inv-loop μ-loop) → let w = c .before .before .before .before .before .before in middle c < w .args .layout .names
 among-names c = omega arith
 
 -- and what that tells of the name with this number
 middle-told : (c : tie.After-compare-at-place Inv-loop μ-loop) (p : Order) → c .compare-at-place .result ≡ p →
-    orderOf (getD (namesIn (c .before .before .before .before .before .before .args .bytes .now)) (middle c) [])
-    (c .before .before .before .before .before .before .args .text .now) ≡ p
-middle-told c p e = told _ _ (c .before .before .before .before .before .before .pre) _ _ (among-names c) _ p (c .compare-at-place .ensures) e
+    let w = c .before .before .before .before .before .before in orderOf (getD (namesIn (w .args .bytes .now)) (middle c) []) (w .args .text .now) ≡ p
+middle-told c p e =
+    let w = c .before .before .before .before .before .before in
+    told _ _ (w .pre) _ _ (among-names c) _ p (c .compare-at-place .ensures) e
 
 loop-holds : tie.Need-loop-holds Inv-loop μ-loop
 loop-holds c = (omega arith, λ k h. absurd (omega arith), λ k h l. absurd (omega arith))

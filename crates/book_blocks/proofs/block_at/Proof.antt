@@ -14,8 +14,8 @@ use Rattle.book_blocks.specs.declared.BlockStep.the-variants.{Block, Sto
 use Rattle.book.specs.Field.{field, byteOf, bytesOf}
 use Rattle.book.specs.Book.{allBelow, blockOf}
 use Rattle.book.specs.Bytes.{headSize, childCountAt}
+use Rattle.book.proofs.Told.{taken}
 use Rattle.book.proofs.FieldStops.{bytes-missing}
-use Rattle.book.proofs.BlockStops.{taken}
 use Rattle.book_blocks.specs.Tables.{blockStep}
 use borrow.Author.Needs.{needs}
 use Rattle.book_blocks.proofs.block_at.Statement.{statement}

@@ -52,8 +52,9 @@ abbrev μ-loop : tie.MeasureT-loop
 
 -- what is known where a block was read
 placed : (c : tie.After-known-told Inv-loop μ-loop) →
-    BlockRead (c .before .before .before .before .before .before .before .args .n) (c .before .before .before .before .before .before .before .args .bytes .now)
-    (c .before .before .before .before .before .loop .at) (c .before .size .given .0 .0)
+    let l = c .before .before .before .before .before in
+    let a = l .before .before .args in
+    BlockRead (a .n) (a .bytes .now) (l .loop .at) (c .before .size .given .0 .0)
 placed c = block-read _ _ _ _ (sym (c .before .before .before .block-at .ensures) ∙ c .before .size .given .1)
 
 loop-holds : tie.Need-loop-holds Inv-loop μ-loop

@@ -89,8 +89,9 @@ abbrev μ-loop : tie.MeasureT-loop
 
 -- what is known where a name was read
 named : (c : tie.After-known-told Inv-loop μ-loop) →
-    NameRead (c .before .before .before .before .part .result .now) (c .before .before .before .before .before .before .before .before .args .bytes .now)
-    (c .before .before .before .before .before .before .loop .at) (c .before .size .given .0 .0)
+    let p = c .before .before .before .before in
+    let l = p .before .before in
+    NameRead (p .part .result .now) (l .before .before .args .bytes .now) (l .loop .at) (c .before .size .given .0 .0)
 named c = name-read _ _ _ _ (sym (c .before .before .before .name-at .ensures) ∙ c .before .size .given .1)
 
 loop-holds : tie.Need-loop-holds Inv-loop μ-loop
