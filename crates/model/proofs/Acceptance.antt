@@ -3,14 +3,13 @@
 -- Assumes nothing.
 use Prim.Native.Nat.{ℕ, zero, suc, _+_, _-_, _≤_, _<_}
 use mathlib.Core.Path.{_≡_, refl, sym, _∙_, ap}
-use mathlib.Core.Bool.{Bool, true, false, _&&_, and-false, false≢true}
+use mathlib.Core.Bool.{Bool, true, false, false≢true}
 use mathlib.Core.List.{List, [], _∷_, _++_}
 use mathlib.Core.Logic.{_⊎_, inl, inr, _↔_}
 use native.Mathlib.Omega.{arith}
 use native.Mathlib.Numerals.{add-one}
-use native.Mathlib.Decide.{decLt}
-use borrow.Author.Tests.{eqb-true, eq-eqb, ne-eqb, lt-ltb, le-ltb}
-use lib.Dec.{eqb, ltb}
+use borrow.Author.Tests.{eqb-true, eq-eqb, ne-eqb}
+use lib.Dec.{eqb}
 use Rattle.model.specs.declared.Model.{Model}
 use Rattle.model.specs.declared.Turn.{Turn}
 use Rattle.model.specs.declared.Turn.the-variants.{Take, Leave, Refuse}
@@ -60,24 +59,16 @@ turn-take (suc (suc (suc (suc f)))) t e = refuse≢take e
 abbrev pub Goes : Model → ℕ → Bool → List ℕ → Bool
 Goes m i t w = mayEnd m (run m (To (state i t)) w)
 
--- The factor behind the last one holds no name.
-no-name-behind : (own count i : ℕ) → i ≡ count → (ltb own count && eqb own i) ≡ false
-no-name-behind own count i e = go (decLt own count)
-  where
-    go : Dec (own < count) → (ltb own count && eqb own i) ≡ false
-    go (yes l) = rw (lt-ltb own count l) (ne-eqb own i (λ q. omega arith))
-    go (no l) = rw (le-ltb own count (omega arith))
-
 module _ (m : Model) (i : ℕ) (t : Bool) where
   -- At the end of the word it is factor i's turn with no name of its own.
   pub goes-end : (u : Turn) → i < m .count → turnOf (modeOf m i) t false ≡ u → Goes m i t [] ≡ after u true (Goes m (suc i) false [])
   unfolding run mayEnd modeOf
-  goes-end u l e = rw (← add-one i) (goes-turn (m .mode) (m .count) i t (m .count) l refl refl (rw (ne-eqb (m .count) i (λ q. omega arith)) e))
+  goes-end u l e = rw (← add-one i) (goes-turn (m .mode) (m .count) i t (m .count) true l refl refl (rw (ne-eqb (m .count) i (λ q. omega arith)) e))
 
   onward : (x : ℕ) (u : Turn) → i < m .count → turnOf (modeOf m i) t (eqb (factorOf m x) i) ≡ u
-      → goesTo (m .count) (m .mode) (factorOf m x) (state i t) ≡ after u true (goesTo (m .count) (m .mode) (factorOf m x) (state (suc i) false))
+      → goesTo (m .count) (m .mode) (factorOf m x) false (state i t) ≡ after u true (goesTo (m .count) (m .mode) (factorOf m x) false (state (suc i) false))
   unfolding modeOf
-  onward x u l e = rw (← add-one i) (goes-turn (m .mode) (m .count) i t (factorOf m x) l refl refl e)
+  onward x u l e = rw (← add-one i) (goes-turn (m .mode) (m .count) i t (factorOf m x) false l refl refl e)
 
   -- At a name x it is factor i's turn: it takes x and the rest leads on from there, it is left and x comes to the next
   -- factor, or the word is not accepted.
@@ -89,20 +80,20 @@ module _ (m : Model) (i : ℕ) (t : Bool) where
       go : (h : Bool) → eqb (factorOf m x) i ≡ h → Goes m i t (x ∷ w) ≡ Goes m i true w
       go true q =
           let p : factorOf m x ≡ i = eqb-true (factorOf m x) i q in
-          rw (onward x Take l e, lt-ltb (factorOf m x) (m .count) (rw p l), p)
+          rw (onward x Take l e, p)
       go false q = absurd (turn-take (modeOf m i) t (rw q at e))
   goes-name x w Leave l e = rw (onward x Leave l e)
-  goes-name x w Refuse l e = rw (onward x Refuse l e, and-false (ltb (factorOf m x) (m .count)), run-nowhere m w)
+  goes-name x w Refuse l e = rw (onward x Refuse l e, run-nowhere m w)
 
   -- Behind the last factor the word may end.
   pub past-end : i ≡ m .count → Goes m i t [] ≡ true
   unfolding run mayEnd
-  past-end e = goes-past (m .mode) (m .count) i t (m .count) (omega arith) ∙ eq-eqb (m .count) i (sym e)
+  past-end e = goes-past (m .mode) (m .count) i t (m .count) true (omega arith)
 
   -- Behind the last factor no name is accepted.
   pub past-name : (x : ℕ) (w : List ℕ) → i ≡ m .count → Goes m i t (x ∷ w) ≡ false
   unfolding run move mayEnd
-  past-name x w e = rw (goes-past (m .mode) (m .count) i t (factorOf m x) (omega arith), no-name-behind (factorOf m x) (m .count) i e, run-nowhere m w)
+  past-name x w e = rw (goes-past (m .mode) (m .count) i t (factorOf m x) false (omega arith), run-nowhere m w)
 
 found : (m : Model) (w : List ℕ) (left i : ℕ) (t : Bool) → i + left ≡ m .count → Goes m i t w ≡ true → Run m i t w
 unfolding run mayEnd after

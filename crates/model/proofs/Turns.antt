@@ -28,14 +28,14 @@ refuse≢leave e = never (cc)
 
 -- ---- one turn
 
-module _ (modes : List ℕ) (count i : ℕ) (t : Bool) (own : ℕ) where
+module _ (modes : List ℕ) (count i : ℕ) (t : Bool) (own : ℕ) (through : Bool) where
   -- The state stands in factor i < count, f is that factor's mode, and u its turn.
   pub goes-turn : {f : ℕ} {r u : Turn} → i < count → f ≡ getD modes i 0 → r ≡ turnOf f t (eqb own i) → r ≡ u
-      → goesTo count modes own (state i t) ≡ after u true (goesTo count modes own (state (i + 1) false))
+      → goesTo count modes own through (state i t) ≡ after u true (goesTo count modes own through (state (i + 1) false))
   unfolding goesTo goesFrom
   goes-turn l e g h = let n : count - i ≡ suc (count - (i + 1)) = omega arith in rw (n, ← e, ← g, h)
 
   -- The state stands behind the last factor.
-  pub goes-past : count ≤ i → goesTo count modes own (state i t) ≡ eqb own i
+  pub goes-past : count ≤ i → goesTo count modes own through (state i t) ≡ through
   unfolding goesTo goesFrom
   goes-past l = let n : count - i ≡ 0 = omega arith in rw n

@@ -2,9 +2,9 @@
 -- state is the factor that the word is in, and whether a name of it was taken; it does not depend on the word's length.
 -- Assumes nothing.
 use Prim.Native.Nat.{ℕ, zero, suc, _+_, _-_}
-use mathlib.Core.Bool.{Bool, true, false, cond, _&&_}
+use mathlib.Core.Bool.{Bool, true, false, cond}
 use mathlib.Core.List.{List, [], _∷_}
-use lib.Dec.{eqb, ltb}
+use lib.Dec.{eqb}
 use lib.ListN.{getD}
 use Rattle.model.specs.declared.Model.{Model}
 use Rattle.model.specs.declared.State.{State}
@@ -38,20 +38,20 @@ after Take there onward = there
 after Leave there onward = onward
 after Refuse there onward = false
 
--- Whether a run goes on from the state s to factor `own`: the factors before that one are left, and it takes a name.
--- The state has `left` factors from its own on; the number behind the last factor is that of the word's end.
-unfoldable pub goesFrom : List ℕ → ℕ → ℕ → State → Bool
-goesFrom modes own zero s = eqb own (s .factor)
-goesFrom modes own (suc left) s =
-    after (turnOf (getD modes (s .factor) 0) (s .taken) (eqb own (s .factor))) true (goesFrom modes own left (state (s .factor + 1) false))
+-- Whether a run goes on from the state s to a name of factor `own`: factors are left until one takes the name or
+-- refuses. The state has `left` factors from its own on; `through` is the answer if all of them are left.
+unfoldable pub goesFrom : List ℕ → ℕ → Bool → ℕ → State → Bool
+goesFrom modes own through zero s = through
+goesFrom modes own through (suc left) s =
+    after (turnOf (getD modes (s .factor) 0) (s .taken) (eqb own (s .factor))) true (goesFrom modes own through left (state (s .factor + 1) false))
 
 -- The same, with the number of all factors.
-unfoldable pub goesTo : ℕ → List ℕ → ℕ → State → Bool
-goesTo count modes own s = goesFrom modes own (count - s .factor) s
+unfoldable pub goesTo : ℕ → List ℕ → ℕ → Bool → State → Bool
+goesTo count modes own through s = goesFrom modes own through (count - s .factor) s
 
--- One more name x: to the factor that holds it, if the record has that factor and the run goes there.
+-- One more name x: some factor has to take it, the one that holds it.
 unfoldable pub move : Model → Moved → ℕ → Moved
-move m (To s) x = cond (ltb (factorOf m x) (m .count) && goesTo (m .count) (m .mode) (factorOf m x) s) (To (state (factorOf m x) true)) Nowhere
+move m (To s) x = cond (goesTo (m .count) (m .mode) (factorOf m x) false s) (To (state (factorOf m x) true)) Nowhere
 move m Nowhere x = Nowhere
 
 -- All names of w.
@@ -59,9 +59,9 @@ unfoldable pub run : Model → Moved → List ℕ → Moved
 run m s [] = s
 run m s (x ∷ w) = run m (move m s x) w
 
--- Whether the word may end there.
+-- Whether the word may end there: all factors can be left, with no next name. No factor has the number F.
 unfoldable pub mayEnd : Model → Moved → Bool
-mayEnd m (To s) = goesTo (m .count) (m .mode) (m .count) s
+mayEnd m (To s) = goesTo (m .count) (m .mode) (m .count) true s
 mayEnd m Nowhere = false
 
 -- m accepts the word w: it starts before factor 0's names.

@@ -44,10 +44,10 @@ pub fn next_turn(mode: u8, taken: bool, here: bool) -> Turn
     }
 }
 
-// Whether a run goes on from a state to the factor `own`: factors are left until one takes the name or refuses. At the
-// end of a word no factor has the name, and `own` is the number behind the last one, `count`.
-fn goes_to(count: usize, mode: &[u8], own: usize, from: State) -> bool
-    ensures { λ r. ⌜ r ≡ goesTo count (now (mode .entry)) own from ⌝ }
+// Whether a run goes on from a state to a name of the factor `own`: factors are left until one takes the name or
+// refuses. `through` is the answer if all are left. Where there is no name, `own` is a number that no factor has.
+fn goes_to(count: usize, mode: &[u8], own: usize, through: bool, from: State) -> bool
+    ensures { λ r. ⌜ r ≡ goesTo count (now (mode .entry)) own through from ⌝ }
 {
     let mut factor = from.factor;
     let mut taken = from.taken;
@@ -64,18 +64,15 @@ fn goes_to(count: usize, mode: &[u8], own: usize, from: State) -> bool
         factor += 1;
         taken = false;
     }
-    own == factor
+    through
 }
 
-// The state after the name x: the factor that holds it has taken a name.
+// The state after the name x: the factor that holds x has taken it.
 pub fn step(count: usize, factor: &[u8], mode: &[u8], x: u8, from: State) -> Moved
     ensures { λ r. ⌜ r ≡ move (ofRows count (now (factor .entry)) (now (mode .entry))) (To from) x ⌝ }
 {
     let own = entry(factor, x as usize, NONE) as usize;
-    if count <= own {
-        return Moved::Nowhere;
-    }
-    if goes_to(count, mode, own, from) {
+    if goes_to(count, mode, own, false, from) {
         Moved::To(State {
             factor: own,
             taken: true,
@@ -89,7 +86,7 @@ pub fn step(count: usize, factor: &[u8], mode: &[u8], x: u8, from: State) -> Mov
 pub fn may_end(count: usize, mode: &[u8], from: State) -> bool
     ensures { λ r. ⌜ ((factors : List ℕ) → r ≡ mayEnd (ofRows count factors (now (mode .entry))) (To from)) ⌝ }
 {
-    goes_to(count, mode, count, from)
+    goes_to(count, mode, count, true, from)
 }
 
 // Whether the record of these rows accepts the word: from left to right, one step for each name.

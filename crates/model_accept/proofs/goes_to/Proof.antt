@@ -11,10 +11,10 @@ use Rattle.model_accept.proofs.goes_to.Statement.{statement}
 use Rattle.model_accept.proofs.goes_to.Tie as tie
 
 abbrev Inv-loop : tie.InvT-loop
-Inv-loop count mode own factor₀ taken₀ factor taken = goesTo count mode own (state factor taken) ≡ goesTo count mode own (state factor₀ taken₀)
+Inv-loop count mode own through factor₀ taken₀ factor taken = goesTo count mode own through (state factor taken) ≡ goesTo count mode own through (state factor₀ taken₀)
 
 abbrev μ-loop : tie.MeasureT-loop
-μ-loop count mode own factor₀ taken₀ factor taken = count - factor
+μ-loop count mode own through factor₀ taken₀ factor taken = count - factor
 
 loop-holds : tie.Need-loop-holds Inv-loop μ-loop
 loop-holds c = refl
@@ -29,12 +29,12 @@ next-turn-requires c κs = search needs
 turned : (c : tie.After-next-turn Inv-loop μ-loop) → {u : Turn} → c .next-turn .result ≡ u →
     let l = c .before .before .before in
     let a = l .before .before .args in
-    after u true (goesTo (a .count) (a .mode .now) (a .own) (state (l .loop .factor + 1) false)) ≡ goesTo (a .count) (a .mode .now) (a .own) (a .from)
+    after u true (goesTo (a .count) (a .mode .now) (a .own) (a .through) (state (l .loop .factor + 1) false)) ≡ goesTo (a .count) (a .mode .now) (a .own) (a .through) (a .from)
 turned c e =
     let t = c .before .before in
     let l = t .before .loop in
     let a = t .before .before .before .args in
-    sym (goes-turn (a .mode .now) (a .count) (l .factor) (l .taken) (a .own) (t .loop-test .taken) (c .before .entry .ensures) (c .next-turn .ensures) e) ∙ l .inv
+    sym (goes-turn (a .mode .now) (a .count) (l .factor) (l .taken) (a .own) (a .through) (t .loop-test .taken) (c .before .entry .ensures) (c .next-turn .ensures) e) ∙ l .inv
 
 enum-told : tie.Need-enum-told Inv-loop μ-loop
 enum-told c = search needs
@@ -67,7 +67,7 @@ returns-3 : tie.Need-returns-3 Inv-loop μ-loop
 returns-3 c =
     let a = c .before .before .before .args in
     let l = c .before .loop in
-    sym (sym (l .inv) ∙ goes-past (a .mode .now) (a .count) (l .factor) (l .taken) (a .own) (c .loop-test .left))
+    sym (sym (l .inv) ∙ goes-past (a .mode .now) (a .count) (l .factor) (l .taken) (a .own) (a .through) (c .loop-test .left))
 
 pub goes-to-spec : {M : Type 1} → statement M
 goes-to-spec =

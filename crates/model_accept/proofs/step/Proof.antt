@@ -1,11 +1,10 @@
 -- `model_accept::step` meets its contract.
 -- Assumes nothing.
-use Prim.Native.Nat.{ℕ, _≤_, _<_}
+use Prim.Native.Nat.{ℕ}
 use mathlib.Core.Path.{_≡_}
 use mathlib.Core.Bool.{Bool, true, false}
 use mathlib.Core.List.{List}
 use borrow.Author.Needs.{needs}
-use borrow.Author.Tests.{lt-ltb, le-ltb}
 use lib.ListN.{getD}
 use Rattle.model.specs.declared.State.{State}
 use Rattle.model.specs.declared.Moved.the-variants.{To, Nowhere}
@@ -14,20 +13,15 @@ use Rattle.model.specs.Run.{state, goesTo, move}
 use Rattle.model_accept.proofs.step.Statement.{statement}
 use Rattle.model_accept.proofs.step.Tie as tie
 
--- `own` is the factor of the name x.
-module _ (count : ℕ) (factors modes : List ℕ) (x : ℕ) (s : State) {own : ℕ} (e : own ≡ getD factors x none) where
-  no-factor : count ≤ own → Nowhere ≡ move (ofRows count factors modes) (To s) x
+-- `own` is the factor of the name x, and r says whether the run goes there.
+module _ (count : ℕ) (factors modes : List ℕ) (x : ℕ) (s : State) {own : ℕ} (e : own ≡ getD factors x none) {r : Bool} (g : r ≡ goesTo count modes own false s) where
+  there : r ≡ true → To (state own true) ≡ move (ofRows count factors modes) (To s) x
   unfolding move factorOf
-  no-factor l = rw (← e, le-ltb own count l)
+  there h = rw (← e, ← g, h)
 
-  module _ (l : own < count) {r : Bool} (g : r ≡ goesTo count modes own s) where
-    there : r ≡ true → To (state own true) ≡ move (ofRows count factors modes) (To s) x
-    unfolding move factorOf
-    there h = rw (← e, lt-ltb own count l, ← g, h)
-
-    not-there : r ≡ false → Nowhere ≡ move (ofRows count factors modes) (To s) x
-    unfolding move factorOf
-    not-there h = rw (← e, lt-ltb own count l, ← g, h)
+  not-there : r ≡ false → Nowhere ≡ move (ofRows count factors modes) (To s) x
+  unfolding move factorOf
+  not-there h = rw (← e, ← g, h)
 
 entry-requires : tie.Need-entry-requires
 entry-requires c κs = search needs
@@ -35,26 +29,20 @@ entry-requires c κs = search needs
 cast-own : tie.Need-cast-own
 cast-own c = search needs
 
-returns : tie.Need-returns
-returns c =
-    let e = c .before in
-    let a = e .before .before .before .args in
-    no-factor (a .count) (a .factor .now) (a .mode .now) (a .x) (a .from) (e .entry .ensures) (c .if1 .taken)
-
 goes-to-requires : tie.Need-goes-to-requires
 goes-to-requires c κs = search needs
 
+returns : tie.Need-returns
+returns c =
+    let e = c .before .before in
+    let a = e .before .before .before .args in
+    there (a .count) (a .factor .now) (a .mode .now) (a .x) (a .from) (e .entry .ensures) (c .before .goes-to .ensures) (c .if1 .taken)
+
 returns-2 : tie.Need-returns-2
 returns-2 c =
-    let o = c .before .before in
-    let a = o .before .before .before .before .args in
-    there (a .count) (a .factor .now) (a .mode .now) (a .x) (a .from) (o .before .entry .ensures) (o .if1 .left) (c .before .goes-to .ensures) (c .if2 .taken)
-
-returns-3 : tie.Need-returns-3
-returns-3 c =
-    let o = c .before .before in
-    let a = o .before .before .before .before .args in
-    not-there (a .count) (a .factor .now) (a .mode .now) (a .x) (a .from) (o .before .entry .ensures) (o .if1 .left) (c .before .goes-to .ensures) (c .if2 .left)
+    let e = c .before .before in
+    let a = e .before .before .before .args in
+    not-there (a .count) (a .factor .now) (a .mode .now) (a .x) (a .from) (e .entry .ensures) (c .before .goes-to .ensures) (c .if1 .left)
 
 pub step-spec : {M : Type 1} → statement M
-step-spec = tie.close (tie.spec entry-requires cast-own returns goes-to-requires returns-2 returns-3)
+step-spec = tie.close (tie.spec entry-requires cast-own goes-to-requires returns returns-2)
