@@ -19,7 +19,7 @@ use Rattle.model.specs.Record.{factorOf}
 use Rattle.declaration_spelling.specs.House.{members, nameAt, namesAt}
 use Rattle.byte_buffer.specs.Put.{shown}
 use Rattle.model_factors.specs.Names.{NamesOf}
-use Rattle.declaration_factor.specs.Parts.{leadByte, memberText, namesText, rising, Within, leads, setText, manyIn}
+use Rattle.declaration_factor.specs.Parts.{leadByte, memberText, namesText, rising, MembersBelow, leads, setText, manyIn}
 
 -- ---- the list of a set
 
@@ -47,12 +47,12 @@ rising-first s t x here least law k (suc r) h l = go (ℕ-discrete k x) (rising-
     go (yes q) ih = rw (q, here, law x, eq-eqb x x refl, and-false (member s x), rising-same s t (suc x) r behind)
     go (no q) ih = rw (law k, least k (omega arith)) (ih (omega arith) (omega arith))
 
-pub rising-next : (n : ℕ) (s : NameSet) (x : ℕ) → Smallest s x → isEmpty s ≡ false → Within n s → rising s 0 n ≡ x ∷ rising (rest s) 0 n
+pub rising-next : (n : ℕ) (s : NameSet) (x : ℕ) → Smallest s x → isEmpty s ≡ false → MembersBelow n s → rising s 0 n ≡ x ∷ rising (rest s) 0 n
 rising-next n s x f e w =
     let m : member s x ≡ true = f .found e .1 in
     rising-first s (rest s) x m (f .least) (λ j. member-rest s j ∙ ap (λ (y : ℕ). member s j && not (eqb y j)) (sym (f .same))) 0 n (omega arith) (let l = w x m in omega arith)
 
-pub within-rest : (n : ℕ) (s t : NameSet) → t ≡ rest s → Within n s → Within n t
+pub within-rest : (n : ℕ) (s t : NameSet) → t ≡ rest s → MembersBelow n s → MembersBelow n t
 within-rest n s t e w x m = w x (left (member s x) (not (eqb (first s) x)) (sym (ap (λ (u : NameSet). member u x) e ∙ member-rest s x) ∙ m))
   where
     left : (a b : Bool) → (a && b) ≡ true → a ≡ true
@@ -64,7 +64,7 @@ within-rest n s t e w x m = w x (left (member s x) (not (eqb (first s) x)) (sym 
 smallest : (s : NameSet) → Sized s → Smallest s (first s)
 smallest s h = record { same = refl; bound = first-bound s; least = first-least s; found = first-in s h }
 
-pub more-than-one : (n : ℕ) (s : NameSet) → Sized s → Within n s → not (isEmpty (rest s)) ≡ ltb 1 (length (rising s 0 n))
+pub more-than-one : (n : ℕ) (s : NameSet) → Sized s → MembersBelow n s → not (isEmpty (rest s)) ≡ ltb 1 (length (rising s 0 n))
 more-than-one n s h w = go (isEmpty s) (isEmpty (rest s)) refl refl
   where
     go : (a b : Bool) → isEmpty s ≡ a → isEmpty (rest s) ≡ b → not (isEmpty (rest s)) ≡ ltb 1 (length (rising s 0 n))
@@ -97,7 +97,7 @@ names-leads names m i many some k (suc r) = go (eqb (factorOf m k) i) (names-lea
     go false p q = q
 
 module _ (m : Model) (n i : ℕ) (s : NameSet) (holds : NamesOf m n i s) where
-  pub names-within : Within n s
+  pub names-within : MembersBelow n s
   names-within x e = go (decLt x n)
     where
       go : Dec (x < n) → x < n

@@ -52,8 +52,8 @@ rising s k zero = []
 rising s k (suc r) = cond (member s k) (k ∷ rising s (suc k) r) (rising s (suc k) r)
 
 -- The set has names below n alone.
-abbrev pub Within : ℕ → NameSet → Type 0
-Within n s = (x : ℕ) → member s x ≡ true → x < n
+abbrev pub MembersBelow : ℕ → NameSet → Type 0
+MembersBelow n s = (x : ℕ) → member s x ≡ true → x < n
 
 -- Names, each behind its lead; `some` says whether one stands before them.
 unfoldable pub leads : Bool → Bool → List (List ℕ) → List ℕ

@@ -15,7 +15,7 @@ ghost use Rattle.model.specs.Record.{modeOf};
 ghost use Rattle.declaration_spelling.specs.House.{nameAt};
 ghost use Rattle.byte_buffer.specs.Put.{Put};
 ghost use Rattle.model_factors.specs.Names.{NamesOf};
-ghost use Rattle.declaration_factor.specs.Parts.{leadByte, closeByte, modeByte, Within, setText, partText};
+ghost use Rattle.declaration_factor.specs.Parts.{leadByte, closeByte, modeByte, MembersBelow, setText, partText};
 
 // The mode of factor i.
 fn mode_of(m: Model, i: usize) -> u8
@@ -72,7 +72,7 @@ fn put_names(
     names: NameSet,
     many: bool,
 ) -> usize
-    requires { ⌜ LaidOut (now bytes) layout × (at + length (setText (namesIn (now bytes)) (layout .names) names many false) ≤ length (now buffer)) × Within (layout .names) names ⌝ }
+    requires { ⌜ LaidOut (now bytes) layout × (at + length (setText (namesIn (now bytes)) (layout .names) names many false) ≤ length (now buffer)) × MembersBelow (layout .names) names ⌝ }
     ensures { λ r. ⌜ Put (now (buffer .entry)) at (setText (namesIn (now (bytes .entry))) (layout .names) names many false) r (now (buffer .exit)) ⌝ }
 {
     let mut to = at;

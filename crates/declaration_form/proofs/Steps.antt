@@ -4,16 +4,13 @@ use Prim.Native.Nat.{ℕ, zero, suc, _+_, _*_, _-_, _≤_, _<_}
 use mathlib.Core.Path.{_≡_, refl, sym, _∙_, ap}
 use mathlib.Core.Bool.{Bool, true, false, cond, not, _&&_}
 use mathlib.Core.List.{List, [], _∷_}
-use mathlib.Core.Logic.{⊎-elim}
 use native.Mathlib.Omega.{arith}
 use native.Mathlib.Nat.{le-of-suc-le-suc}
-use native.Mathlib.Decide.{ℕ-discrete}
-use lib.Dec.{eqb, leb}
+use lib.Dec.{leb}
 use lib.ListN.{length, getD, take, drop}
-use borrow.Author.Tests.{leb-true, eqb-false, eq-eqb, ne-eqb, le-leb, lt-leb}
-use Rattle.name.specs.Class.{between, startByte, classOf}
-use Rattle.name.specs.Rule.{goodLength, isName}
-use Rattle.name.proofs.Classes.{class-start, class-not-start}
+use borrow.Author.Tests.{leb-true, le-leb, lt-leb}
+use Rattle.name.specs.Class.{between}
+use Rattle.name.specs.Rule.{isName}
 use Rattle.declaration_spelling.specs.Token.{Token, word}
 use Rattle.declaration_spelling.specs.House.{emptyWord}
 use Rattle.declaration_spelling.specs.Form.{same}
@@ -22,7 +19,7 @@ use Rattle.declaration_walk.specs.Walk.{signalOf, table, stepOf, fitsAfter, goo
 use Rattle.declaration_scan.specs.Unread.{nextOf, kindOf}
 use Rattle.declaration_scan.specs.Piece.{wordEnd}
 use Rattle.declaration_form.specs.Step.{signals, kindFits, tokenAt, advance}
-use Rattle.declaration_form.proofs.Tokens.{here, here-fits}
+use Rattle.declaration_form.proofs.Tokens.{here-fits, here-bytes, here-sign}
 
 -- ---- tables
 
@@ -93,18 +90,6 @@ module _ (bw gap : Bool) (k : ℕ) where
   unfolding kindFits
   fits-rest h = rw (between-over 1 2 k (omega arith), between-over 7 9 k h)
 
--- ---- the rule for names
-
-pub good-size : (size first : ℕ) → goodLength size ≡ false → false ≡ (goodLength size && startByte first)
-good-size size first e = rw e
-
-pub good-start : (size first class : ℕ) → goodLength size ≡ true → class ≡ classOf first → eqb class 2 ≡ (goodLength size && startByte first)
-good-start size first class e q = rw e (go (ℕ-discrete class 2))
-  where
-    go : Dec (class ≡ 2) → eqb class 2 ≡ startByte first
-    go (yes k) = eq-eqb class 2 k ∙ sym (class-start first (sym q ∙ k))
-    go (no n) = ne-eqb class 2 n ∙ sym (class-not-start first (λ k. n (q ∙ k)))
-
 -- ---- the state behind a token
 
 module _ (state : ℕ) (bw gap : Bool) (t : Token) where
@@ -140,27 +125,19 @@ module _ (s : List ℕ) (kind from to : ℕ) (is : kind ≡ kindOf (nextOf (drop
   pub step-unfit : kindFits bw gap kind ≡ false → 11 ≡ advance state bw gap (tokenAt s from)
   step-unfit e = unfit state bw gap (tokenAt s from) (sym (here-fits s kind from to is ends h bw gap) ∙ e)
 
-  pub step-bad : kind ≡ 1 → (goodLength (to - from) && startByte (getD s from 0)) ≡ false → 11 ≡ advance state bw gap (tokenAt s from)
-  step-bad k e = ⊎-elim
-      (λ w. bad state bw gap (tokenAt s from) (word-bad (tokenAt s from) (take (to - from) (drop from s)) (w .1) (w .2 ∙ e)))
-      (λ q. absurd (eqb-false kind 1 (q .5) k))
-      (here s kind from to is ends h)
+  pub step-bad : kind ≡ 1 → isName (take (to - from) (drop from s)) ≡ false → 11 ≡ advance state bw gap (tokenAt s from)
+  step-bad k e = bad state bw gap (tokenAt s from) (word-bad (tokenAt s from) (take (to - from) (drop from s)) (here-bytes s kind from to is ends h k) e)
 
   module _ (f : kindFits bw gap kind ≡ true) where
     fit : fitsAfter bw gap (tokenAt s from) ≡ true
     fit = sym (here-fits s kind from to is ends h bw gap) ∙ f
 
     pub step-sign : (signal : ℕ) → signal ≡ getD signals kind 0 → (kind ≡ 1 → ⊥) → stepOf state signal ≡ advance state bw gap (tokenAt s from)
-    step-sign signal e n = ⊎-elim
-        (λ w. absurd (n (w .0)))
-        (λ q. ap (stepOf state) (e ∙ q .0) ∙ good state bw gap (tokenAt s from) fit (q .2))
-        (here s kind from to is ends h)
+    step-sign signal e n = let q = here-sign s kind from to is ends h n in ap (stepOf state) (e ∙ q .0) ∙ good state bw gap (tokenAt s from) fit (q .1)
 
-    pub step-word : (signal : ℕ) → signal ≡ cond (same (take (to - from) (drop from s)) emptyWord) 2 1 → kind ≡ 1 → (goodLength (to - from) && startByte (getD s from 0)) ≡ true
+    pub step-word : (signal : ℕ) → signal ≡ cond (same (take (to - from) (drop from s)) emptyWord) 2 1 → kind ≡ 1 → isName (take (to - from) (drop from s)) ≡ true
         → stepOf state signal ≡ advance state bw gap (tokenAt s from)
-    step-word signal e k g = ⊎-elim
-        (λ w.
-        ap (stepOf state) (e ∙ word-signal (tokenAt s from) (take (to - from) (drop from s)) (w .1))
-        ∙ good state bw gap (tokenAt s from) fit (word-good (tokenAt s from) (take (to - from) (drop from s)) (w .1) (w .2 ∙ g)))
-        (λ q. absurd (eqb-false kind 1 (q .5) k))
-        (here s kind from to is ends h)
+    step-word signal e k g =
+        let w = here-bytes s kind from to is ends h k in
+        ap (stepOf state) (e ∙ word-signal (tokenAt s from) (take (to - from) (drop from s)) w)
+        ∙ good state bw gap (tokenAt s from) fit (word-good (tokenAt s from) (take (to - from) (drop from s)) w g)

@@ -2,18 +2,15 @@
 use declaration_scan::Piece;
 use declaration_scan::WORD;
 ghost use mathlib.Core.Path.{_≡_};
-ghost use mathlib.Core.Bool.{true, cond, _&&_};
+ghost use mathlib.Core.Bool.{true, cond};
 ghost use Prim.Native.Nat.{_-_, _≤_, _<_};
 ghost use lib.ListN.{length, getD, take, drop};
-ghost use Rattle.name.specs.Class.{startByte};
-ghost use Rattle.name.specs.Rule.{goodLength};
+ghost use Rattle.name.specs.Class.{classTable};
+ghost use Rattle.name.specs.Rule.{isName};
 ghost use Rattle.declaration_spelling.specs.House.{emptyWord};
 ghost use Rattle.declaration_spelling.specs.Form.{same};
 ghost use Rattle.declaration_walk.specs.Walk.{stepOf, hasForm};
 ghost use Rattle.declaration_form.specs.Step.{begins, signals, kindFits, tokenAt, advance, Stands, acceptsFrom};
-
-// The class of a byte that may start a name.
-const START: u8 = 2;
 
 // Behind `>`, and nowhere.
 const CLOSED: u8 = 10;
@@ -81,16 +78,12 @@ fn sign_signal(kind: u8) -> u8
     SIGNALS[kind as usize]
 }
 
-// Whether a word of this length that begins with this byte keeps the rule for names; its other bytes may all stand in
-// one.
-fn good_word(size: usize, first: u8) -> bool
-    ensures { λ r. ⌜ r ≡ (goodLength size && startByte first) ⌝ }
+// Whether a word is a name, by the table of classes.
+fn good_word(classes: &[u8; 256], text: &[u8], from: usize, to: usize) -> bool
+    requires { ⌜ (now classes ≡ classTable) × (from ≤ to) × (to ≤ length (now text)) ⌝ }
+    ensures { λ r. ⌜ r ≡ isName (take (to - from) (drop from (now (text .entry)))) ⌝ }
 {
-    if name::good_length(size) {
-        name::class_of(first) == START
-    } else {
-        false
-    }
+    name::is_name(classes, book::part(text, from, to))
 }
 
 // Whether white space stands where it has to, behind a word.
@@ -121,9 +114,9 @@ fn next_state(state: u8, signal: u8) -> u8
     STATES[9 * state as usize + signal as usize]
 }
 
-// The state behind a token.
-fn step(text: &[u8], state: u8, behind: bool, piece: Piece) -> u8
-    requires { ⌜ Stands (now text) piece × (state ≤ 11) ⌝ }
+// The state behind a token, by the table of classes.
+fn step(classes: &[u8; 256], text: &[u8], state: u8, behind: bool, piece: Piece) -> u8
+    requires { ⌜ Stands (now text) piece × (state ≤ 11) × (now classes ≡ classTable) ⌝ }
     ensures { λ r. ⌜ (r ≡ advance state behind (piece .gap) (tokenAt (now (text .entry)) (piece .from))) × (r ≤ 11) ⌝ }
 {
     if !fits(behind, piece.gap, piece.kind) {
@@ -134,7 +127,7 @@ fn step(text: &[u8], state: u8, behind: bool, piece: Piece) -> u8
     }
     let from = piece.from;
     let to = piece.to;
-    if !good_word(to - from, text[from]) {
+    if !good_word(classes, text, from, to) {
         return NOWHERE;
     }
     next_state(state, word_signal(text, from, to))
@@ -145,6 +138,7 @@ fn walks(text: &[u8], at: usize) -> bool
     requires { ⌜ at ≤ length (now text) ⌝ }
     ensures { λ r. ⌜ r ≡ acceptsFrom (now (text .entry)) 0 true at ⌝ }
 {
+    let classes = name::class_table();
     let mut i = at;
     let mut state = 0;
     let mut behind = true;
@@ -153,7 +147,7 @@ fn walks(text: &[u8], at: usize) -> bool
         if text.len() <= piece.from {
             return false;
         }
-        state = step(text, state, behind, piece);
+        state = step(&classes, text, state, behind, piece);
         if state == NOWHERE {
             return false;
         }

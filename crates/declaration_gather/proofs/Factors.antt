@@ -18,7 +18,7 @@ use Rattle.declaration_spelling.specs.Read.{total, placeFrom, modeAt}
 use Rattle.declaration_spelling.proofs.Tests.{some-injective}
 use Rattle.declaration_spelling.proofs.Names.{Below, AllBelow}
 use Rattle.declaration_gather.specs.Gather.{Rows, nextFactor, withMode, andThen}
-use Rattle.declaration_gather.proofs.Rows.{placeNames, placeFactor, placeOthers, then-some, then-join, row, moved, next-told, next-free, Placed, names-placed, names-place}
+use Rattle.declaration_gather.proofs.Rows.{placeNames, placeFactor, placeOthers, then-some, then-join, row, moved, next-told, next-free, NamesFilled, names-placed, names-place}
 
 abbrev pub mark : List ℕ → ℕ → ℕ
 mark mode k = getD mode k 0
@@ -78,7 +78,7 @@ mode-factor (suc m) g = refl
 
 -- one factor more before them
 module _ (i : ℕ) (f : Factor ℕ) (fs : List (Factor ℕ)) (g h k : Rows) (at : g .index ≡ i) (small : i < noFactor) (inside : i < length (g .mode))
-    (zeros : (j : ℕ) → i ≤ j → mark (g .mode) j ≡ 0) (P : Placed (f .names) g h) (F : Filled (suc i) fs (withMode (f .mode) h .factor) (withMode (f .mode) h .mode) k) where
+    (zeros : (j : ℕ) → i ≤ j → mark (g .mode) j ≡ 0) (P : NamesFilled (f .names) g h) (F : Filled (suc i) fs (withMode (f .mode) h .factor) (withMode (f .mode) h .mode) k) where
   same : (y : ℕ) → row (withMode (f .mode) h .factor) y ≡ row (h .factor) y
   same y = ap (λ (l : List ℕ). row l y) (mode-factor (f .mode) h)
 
@@ -144,7 +144,7 @@ module _ (i : ℕ) (f : Factor ℕ) (fs : List (Factor ℕ)) (g h k : Rows) (at 
   }
 
 -- what is left of zeros behind factor i
-zeros-on : (i : ℕ) (f : Factor ℕ) (g h : Rows) → g .index ≡ i → Placed (f .names) g h → ((j : ℕ) → i ≤ j → mark (g .mode) j ≡ 0) → (j : ℕ) → suc i ≤ j → mark (withMode (f .mode) h .mode) j ≡ 0
+zeros-on : (i : ℕ) (f : Factor ℕ) (g h : Rows) → g .index ≡ i → NamesFilled (f .names) g h → ((j : ℕ) → i ≤ j → mark (g .mode) j ≡ 0) → (j : ℕ) → suc i ≤ j → mark (withMode (f .mode) h .mode) j ≡ 0
 zeros-on i f g h e P z j l = mode-there (f .mode) h j (λ q. omega (arith, P .index)) ∙ ap (λ (l : List ℕ). mark l j) (P .mode) ∙ z j (omega arith)
 
 module _ (size n : ℕ) (fits : size ≤ 255) (few : n ≤ size) where
@@ -152,11 +152,11 @@ module _ (size n : ℕ) (fits : size ≤ 255) (few : n ≤ size) where
   abbrev Wide : Rows → Type 0
   Wide g = (length (g .factor) ≡ size) × (length (g .mode) ≡ size)
 
-  wide-on : (f : Factor ℕ) (g h : Rows) → Wide g → Placed (f .names) g h → Wide (withMode (f .mode) h)
+  wide-on : (f : Factor ℕ) (g h : Rows) → Wide g → NamesFilled (f .names) g h → Wide (withMode (f .mode) h)
   wide-on f g h (a, b) P = (ap length (mode-factor (f .mode) h) ∙ P .size ∙ a, mode-long (f .mode) h ∙ ap length (P .mode) ∙ b)
 
   factor-told : (f : Factor ℕ) (g k : Rows) → g .index < size → Wide g → Below n (f .names) → placeFactor f g ≡ some k →
-      (h : Rows) × Placed (f .names) g h × (withMode (f .mode) h ≡ k)
+      (h : Rows) × NamesFilled (f .names) g h × (withMode (f .mode) h ≡ k)
   unfolding placeFactor
   factor-told f g k l w b e =
       let t = then-some (placeNames (f .names) g) (λ h. some (withMode (f .mode) h)) k e in
@@ -174,7 +174,7 @@ module _ (size n : ℕ) (fits : size ≤ 255) (few : n ≤ size) where
           → Filled (suc (g .index)) (f ∷ fs) (g .factor) (g .mode) k
       at-factor r (h, p, q) ih = told (factor-told f (moved g) h r w (b .0) p)
         where
-          told : ((m : Rows) × Placed (f .names) (moved g) m × (withMode (f .mode) m ≡ h)) → Filled (suc (g .index)) (f ∷ fs) (g .factor) (g .mode) k
+          told : ((m : Rows) × NamesFilled (f .names) (moved g) m × (withMode (f .mode) m ≡ h)) → Filled (suc (g .index)) (f ∷ fs) (g .factor) (g .mode) k
           told (m, P, s) =
               let x : withMode (f .mode) m .index ≡ suc (g .index) = mode-index (f .mode) m ∙ P .index in
               let v = zeros-on (suc (g .index)) f (moved g) m refl P z in
@@ -193,7 +193,7 @@ module _ (size n : ℕ) (fits : size ≤ 255) (few : n ≤ size) where
       andThen (placeFactor f g) (placeOthers size fs) ≡ some k → Filled 0 (f ∷ fs) (g .factor) (g .mode) k
   all-filled f fs g k o s w b z e = at-factor (then-some (placeFactor f g) (placeOthers size fs) k e)
     where
-      told : (h : Rows) → placeOthers size fs h ≡ some k → ((m : Rows) × Placed (f .names) g m × (withMode (f .mode) m ≡ h)) → Filled 0 (f ∷ fs) (g .factor) (g .mode) k
+      told : (h : Rows) → placeOthers size fs h ≡ some k → ((m : Rows) × NamesFilled (f .names) g m × (withMode (f .mode) m ≡ h)) → Filled 0 (f ∷ fs) (g .factor) (g .mode) k
       told h q (m, P, r) =
           let x : withMode (f .mode) m .index ≡ 0 = mode-index (f .mode) m ∙ P .index ∙ o in
           let v = zeros-on 0 f g m o P (λ j y. z j) in

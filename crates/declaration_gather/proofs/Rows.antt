@@ -95,7 +95,7 @@ times-nil y = refl
 
 -- ---- the names of one factor
 
-pub record Placed (xs : List ℕ) (g h : Rows) : Type 0 where
+pub record NamesFilled (xs : List ℕ) (g h : Rows) : Type 0 where
   pub index : h .index ≡ g .index
   pub mode : h .mode ≡ g .mode
   pub size : length (h .factor) ≡ length (g .factor)
@@ -104,7 +104,7 @@ pub record Placed (xs : List ℕ) (g h : Rows) : Type 0 where
   pub held : (y : ℕ) → 0 < times y xs → row (h .factor) y ≡ g .index
   pub kept : (y : ℕ) → times y xs ≡ 0 → row (h .factor) y ≡ row (g .factor) y
 
-placed-nil : (g : Rows) → Placed [] g g
+placed-nil : (g : Rows) → NamesFilled [] g g
 placed-nil g = record {
   index = refl;
   mode = refl;
@@ -116,7 +116,7 @@ placed-nil g = record {
 }
 
 -- one name more before them
-module _ (x : ℕ) (xs : List ℕ) (g h : Rows) (small : g .index < noFactor) (inside : x < length (g .factor)) (free : row (g .factor) x ≡ noFactor) (P : Placed xs (named x g) h) where
+module _ (x : ℕ) (xs : List ℕ) (g h : Rows) (small : g .index < noFactor) (inside : x < length (g .factor)) (free : row (g .factor) x ≡ noFactor) (P : NamesFilled xs (named x g) h) where
   here : row (set (g .factor) x (g .index)) x ≡ g .index
   here = getD-set-same (g .factor) x (g .index) noFactor inside
 
@@ -146,7 +146,7 @@ module _ (x : ℕ) (xs : List ℕ) (g h : Rows) (small : g .index < noFactor) (i
   kept-more y l (yes e) = absurd (omega (arith, times-here y x xs e))
   kept-more y l (no d) = P .kept y (omega (arith, times-there y x xs d)) ∙ there y d
 
-  placed-more : Placed (x ∷ xs) g h
+  placed-more : NamesFilled (x ∷ xs) g h
   placed-more = record {
     index = P .index;
     mode = P .mode;
@@ -160,12 +160,12 @@ module _ (x : ℕ) (xs : List ℕ) (g h : Rows) (small : g .index < noFactor) (i
 below-set : (n : ℕ) (l : List ℕ) (x v : ℕ) → n ≤ length l → n ≤ length (set l x v)
 below-set n l x v h = omega (arith, length-set l x v)
 
-pub names-placed : (n : ℕ) (xs : List ℕ) (g h : Rows) → g .index < noFactor → n ≤ length (g .factor) → Below n xs → placeNames xs g ≡ some h → Placed xs g h
+pub names-placed : (n : ℕ) (xs : List ℕ) (g h : Rows) → g .index < noFactor → n ≤ length (g .factor) → Below n xs → placeNames xs g ≡ some h → NamesFilled xs g h
 unfolding placeNames
-names-placed n [] g h s l b e = subst (Placed [] g) (some-injective e) (placed-nil g)
+names-placed n [] g h s l b e = subst (NamesFilled [] g) (some-injective e) (placed-nil g)
 names-placed n (x ∷ xs) g h s l b e = go (then-some (withName x g) (placeNames xs) h e) (λ k q. names-placed n xs (named x g) k s (below-set n (g .factor) x (g .index) l) (b .1) q)
   where
-    go : ((k : Rows) × (withName x g ≡ some k) × (placeNames xs k ≡ some h)) → ((k : Rows) → placeNames xs (named x g) ≡ some k → Placed xs (named x g) k) → Placed (x ∷ xs) g h
+    go : ((k : Rows) × (withName x g ≡ some k) × (placeNames xs k ≡ some h)) → ((k : Rows) → placeNames xs (named x g) ≡ some k → NamesFilled xs (named x g) k) → NamesFilled (x ∷ xs) g h
     go (k, p, q) ih =
         let t = name-told x g k p in
         placed-more x xs g h s (omega (arith, b .0)) (t .0) (ih h (ap (placeNames xs) (t .1) ∙ q))

@@ -1,4 +1,3 @@
-pub mod ByKind
 pub mod Places
 pub mod Steps
 pub mod Calls

@@ -13,30 +13,26 @@ use lib.Dec.{eqb, ltb}
 use lib.ListN.{length, getD, set, take, drop, drop-of-length-le}
 use lib.Seq.{drop-cons}
 use borrow.Author.Tests.{ne-eqb, lt-ltb}
-use Rattle.name.specs.Class.{laterByte}
 use Rattle.refusal.specs.declared.Refusal.the-variants.{NotADeclaration, UnknownName}
-use Rattle.refusal.specs.Answer.{refused, refuseIf}
+use Rattle.refusal.specs.Answer.{Answer, refused, refuseIf}
 use Rattle.declaration_spelling.specs.Token.{isSpace, Token}
 use Rattle.declaration_spelling.specs.Form.{Cut, atFront, cut, tokens}
-use Rattle.declaration_spelling.specs.Read.{known, numberFor}
+use Rattle.declaration_spelling.specs.Read.{known, numberFor, Declared}
 use Rattle.declaration_walk.specs.Walk.{isWord}
 use Rattle.declaration_scan.specs.Unread.{nextOf, runOf, kindOf}
 use Rattle.declaration_scan.specs.Piece.{tokenLength, wordEnd, spaceEnd, pieceAt, tokenOf}
 use Rattle.declaration_scan.proofs.Runs.{end-kind}
 use Rattle.declaration_scan.proofs.Pieces.{piece-over, piece-first}
+use Rattle.declaration_scan.proofs.ByKind.{EachKind, front, token-some, by-kind}
 use Rattle.declaration_gather.specs.Gather.{knownToken, knownTokens, Rows, isFree, withName, nextFactor, withMode, takeToken, andThen, gatherFrom, beginsWithWord, contentAnswer, tokensAnswer}
 use Rattle.declaration_reading.specs.Place.{tokensAt, partOf, knownKind, kindMode, takeKind, freeAt, freeKind, factorAfter, modeAfter, indexAfter}
-use Rattle.declaration_reading.proofs.ByKind.{Agree, token-kind}
-
-abbrev first : ℕ → List ℕ → List ℕ
-first b bs = take (tokenLength (b ∷ bs)) (b ∷ bs)
 
 -- nothing is left, or a token and what stands behind it
 abbrev Next : List ℕ → ℕ → Type 0
 Next s at =
     ((pieceAt s at .kind ≡ 0) × (tokensAt s at ≡ []) × (tokensAt s (pieceAt s at .to) ≡ []))
-    ⊎ ((b : ℕ) × (bs : List ℕ) × (pieceAt s at .kind ≡ kindOf b) × (tokensAt s at ≡ tokenOf (first b bs) ∷ tokensAt s (pieceAt s at .to))
-    × (partOf s (pieceAt s at .from) (pieceAt s at .to) ≡ first b bs))
+    ⊎ ((b : ℕ) × (bs : List ℕ) × (pieceAt s at .kind ≡ kindOf b) × (tokensAt s at ≡ tokenOf (front (b ∷ bs)) ∷ tokensAt s (pieceAt s at .to))
+    × (partOf s (pieceAt s at .from) (pieceAt s at .to) ≡ front (b ∷ bs)))
 
 pub tokens-over : (s : List ℕ) (at : ℕ) → length s ≤ at → tokensAt s at ≡ []
 unfolding tokensAt cut tokens
@@ -51,7 +47,7 @@ at-end s at e = (
 )
 
 at-token : (s : List ℕ) (at b : ℕ) (bs : List ℕ) → drop (spaceEnd s at) s ≡ b ∷ bs →
-    (pieceAt s at .kind ≡ kindOf b) × (tokensAt s at ≡ tokenOf (first b bs) ∷ tokensAt s (pieceAt s at .to)) × (partOf s (pieceAt s at .from) (pieceAt s at .to) ≡ first b bs)
+    (pieceAt s at .kind ≡ kindOf b) × (tokensAt s at ≡ tokenOf (front (b ∷ bs)) ∷ tokensAt s (pieceAt s at .to)) × (partOf s (pieceAt s at .from) (pieceAt s at .to) ≡ front (b ∷ bs))
 unfolding pieceAt nextOf wordEnd tokensAt tokens atFront partOf
 at-token s at b bs e =
     let k : spaceEnd s at + tokenLength (drop (spaceEnd s at) s) - spaceEnd s at ≡ tokenLength (drop (spaceEnd s at) s) = omega arith in
@@ -70,72 +66,35 @@ pub piece-order : (s : List ℕ) (at : ℕ) → pieceAt s at .from ≤ pieceAt s
 unfolding pieceAt wordEnd
 piece-order s at = omega arith
 
-length-token : (b : ℕ) (bs : List ℕ) → 0 < tokenLength (b ∷ bs)
-unfolding tokenLength runOf
-length-token b bs = go (laterByte b) refl
-  where
-    go : (k : Bool) → laterByte b ≡ k → 0 < cond k (cond (laterByte b) (suc (runOf laterByte bs)) 0) 1
-    go true e = rw e (omega arith)
-    go false e = omega arith
-
 -- the walk goes on
 pub piece-onward : (s : List ℕ) (at : ℕ) → at < length s → at < pieceAt s at .to
 unfolding pieceAt wordEnd spaceEnd
 piece-onward s at h = go (runOf isSpace (drop at s)) refl
   where
     go : (k : ℕ) → runOf isSpace (drop at s) ≡ k → at < at + k + tokenLength (drop (at + k) s)
-    go zero e = let z : at + 0 ≡ at = omega arith in rw (z, drop-cons s at 0 h) (omega (arith, length-token (getD s at 0) (drop (suc at) s)))
+    go zero e = let z : at + 0 ≡ at = omega arith in rw (z, drop-cons s at 0 h) (omega (arith, token-some (getD s at 0) (drop (suc at) s)))
     go (suc k) e = omega arith
 
 -- ---- by kinds
 
+-- f of a token is F of its kind and its bytes
+abbrev Agree : {X : Type 0} → (Token → X) → (ℕ → List ℕ → X) → Type 0
+Agree f F = EachKind (λ kind t w. f t ≡ F kind w)
+
+token-kind : {X : Type 0} (f : Token → X) (F : ℕ → List ℕ → X) → Agree f F → (b : ℕ) (bs : List ℕ) → f (tokenOf (front (b ∷ bs))) ≡ F (kindOf b) (front (b ∷ bs))
+token-kind f F agree = by-kind (λ kind t w. f t ≡ F kind w) agree
+
 known-agrees : (names : List (List ℕ)) → Agree (knownToken names) (knownKind names)
 unfolding knownToken knownKind
-known-agrees names = record {
-  words = λ w. refl;
-  lpars = λ w. refl;
-  rpars = λ w. refl;
-  commas = λ w. refl;
-  bars = λ w. refl;
-  ends = λ w. refl;
-  optionals = λ w. refl;
-  repeats = λ w. refl;
-  anys = λ w. refl;
-  nones = λ b w. refl;
-  others = λ b w. refl;
-}
+known-agrees names w b = (refl, refl, refl, refl, refl, refl, refl, refl, refl, refl, refl)
 
 take-agrees : (size : ℕ) (names : List (List ℕ)) (g : Rows) → Agree (λ t. takeToken size names t g) (λ kind w. takeKind size kind (numberFor names w) g)
 unfolding takeToken takeKind kindMode withMode
-take-agrees size names g = record {
-  words = λ w. refl;
-  lpars = λ w. refl;
-  rpars = λ w. refl;
-  commas = λ w. refl;
-  bars = λ w. refl;
-  ends = λ w. refl;
-  optionals = λ w. refl;
-  repeats = λ w. refl;
-  anys = λ w. refl;
-  nones = λ b w. refl;
-  others = λ b w. refl;
-}
+take-agrees size names g w b = (refl, refl, refl, refl, refl, refl, refl, refl, refl, refl, refl)
 
 word-agrees : Agree isWord (λ kind w. eqb kind 1)
 unfolding isWord
-word-agrees = record {
-  words = λ w. refl;
-  lpars = λ w. refl;
-  rpars = λ w. refl;
-  commas = λ w. refl;
-  bars = λ w. refl;
-  ends = λ w. refl;
-  optionals = λ w. refl;
-  repeats = λ w. refl;
-  anys = λ w. refl;
-  nones = λ b w. refl;
-  others = λ b w. refl;
-}
+word-agrees w b = (refl, refl, refl, refl, refl, refl, refl, refl, refl, refl, refl)
 
 known-end : (names : List (List ℕ)) (w : List ℕ) → true ≡ (knownKind names 0 w && true)
 unfolding knownKind
@@ -177,43 +136,29 @@ word-next s at = go (next-is s at)
     go (inl (k, e, f)) = rw (k, e)
     go (inr (b, bs, k, e, f)) = rw (k, e) (token-kind isWord (λ kind w. eqb kind 1) word-agrees b bs)
 
--- the first token of a declaration: its parent
-answer-agrees : (size : ℕ) (names : List (List ℕ)) (ts : List Token) →
-    Agree (λ t. tokensAnswer size names (t ∷ ts)) (λ kind w. cond (eqb kind 1) (refuseIf (not (known names w)) UnknownName (contentAnswer size names (numberFor names w) ts)) (refused NotADeclaration))
+-- the answer by the first token of a declaration, its parent, and the tokens behind it
+abbrev answerBy : ℕ → List (List ℕ) → List Token → ℕ → List ℕ → Answer Declared
+answerBy size names ts kind w = cond (eqb kind 1) (refuseIf (not (known names w)) UnknownName (contentAnswer size names (numberFor names w) ts)) (refused NotADeclaration)
+
+answer-agrees : (size : ℕ) (names : List (List ℕ)) (ts : List Token) → Agree (λ t. tokensAnswer size names (t ∷ ts)) (answerBy size names ts)
 unfolding tokensAnswer
-answer-agrees size names ts = record {
-  words = λ w. refl;
-  lpars = λ w. refl;
-  rpars = λ w. refl;
-  commas = λ w. refl;
-  bars = λ w. refl;
-  ends = λ w. refl;
-  optionals = λ w. refl;
-  repeats = λ w. refl;
-  anys = λ w. refl;
-  nones = λ b w. refl;
-  others = λ b w. refl;
-}
+answer-agrees size names ts w b = (refl, refl, refl, refl, refl, refl, refl, refl, refl, refl, refl)
 
 answer-end : (size : ℕ) (names : List (List ℕ)) → tokensAnswer size names [] ≡ refused NotADeclaration
 unfolding tokensAnswer
 answer-end size names = refl
 
 pub answer-next : (size : ℕ) (names : List (List ℕ)) (s : List ℕ) (at : ℕ) →
-    tokensAnswer size names (tokensAt s at)
-    ≡ cond (eqb (pieceAt s at .kind) 1)
-    (refuseIf (not (known names (partOf s (pieceAt s at .from) (pieceAt s at .to)))) UnknownName
-    (contentAnswer size names (numberFor names (partOf s (pieceAt s at .from) (pieceAt s at .to))) (tokensAt s (pieceAt s at .to))))
-    (refused NotADeclaration)
+    tokensAnswer size names (tokensAt s at) ≡ answerBy size names (tokensAt s (pieceAt s at .to)) (pieceAt s at .kind) (partOf s (pieceAt s at .from) (pieceAt s at .to))
 answer-next size names s at = go (next-is s at)
   where
     go : Next s at → tokensAnswer size names (tokensAt s at)
-        ≡ cond (eqb (pieceAt s at .kind) 1)
-        (refuseIf (not (known names (partOf s (pieceAt s at .from) (pieceAt s at .to)))) UnknownName
-        (contentAnswer size names (numberFor names (partOf s (pieceAt s at .from) (pieceAt s at .to))) (tokensAt s (pieceAt s at .to))))
-        (refused NotADeclaration)
+        ≡ answerBy size names (tokensAt s (pieceAt s at .to)) (pieceAt s at .kind) (partOf s (pieceAt s at .from) (pieceAt s at .to))
     go (inl (k, e, f)) = rw (k, e) (answer-end size names)
-    go (inr (b, bs, k, e, f)) = rw (k, e, f) (token-kind (λ t. tokensAnswer size names (t ∷ tokensAt s (pieceAt s at .to))) _ (answer-agrees size names (tokensAt s (pieceAt s at .to))) b bs)
+    go (inr (b, bs, k, e, f)) =
+        rw (k, e, f)
+        (token-kind (λ t. tokensAnswer size names (t ∷ tokensAt s (pieceAt s at .to))) (answerBy size names (tokensAt s (pieceAt s at .to)))
+        (answer-agrees size names (tokensAt s (pieceAt s at .to))) b bs)
 
 -- ---- one token, row by row
 

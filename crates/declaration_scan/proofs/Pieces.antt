@@ -9,49 +9,49 @@ use lib.Dec.{ltb}
 use lib.ListN.{length, getD, take, drop, drop-of-length-le}
 use lib.Seq.{drop-cons, drop-drop}
 use borrow.Author.Tests.{lt-ltb, le-ltb}
-use Rattle.name.specs.Class.{laterByte}
+use Rattle.name.specs.Word.{wordByte}
 use Rattle.declaration_spelling.specs.Token.{isSpace, word}
 use Rattle.declaration_spelling.specs.Form.{Cut, sign, atFront, cut}
 use Rattle.declaration_scan.specs.Unread.{nextOf, runOf, signKind, kindOf}
 use Rattle.declaration_scan.specs.Piece.{tokenLength, wordEnd, spaceEnd, pieceFrom, pieceAt, tokenOf}
-use Rattle.declaration_scan.proofs.Runs.{next-here, stop, stop-is, run-there, run-over, run-some, later-end, sign-no-word}
+use Rattle.declaration_scan.proofs.Runs.{next-here, stop, stop-is, run-there, run-over, run-some, word-end, sign-no-word}
 use Rattle.declaration_scan.proofs.Cuts.{some-of, cut-spaces, cut-sign, cut-word}
 
 -- ---- where a token ends
 
 module _ (s : List ℕ) (from n : ℕ) (is : n ≡ nextOf (drop from s)) where
-  pub end-word : (r : ℕ) → laterByte n ≡ true → r ≡ from + runOf laterByte (drop from s) → r ≡ wordEnd s from
+  pub end-word : (r : ℕ) → wordByte n ≡ true → r ≡ from + runOf wordByte (drop from s) → r ≡ wordEnd s from
   unfolding wordEnd tokenLength
   end-word r e q =
-      let h : from < length s = run-there laterByte later-end s from n is e in
-      let k : laterByte (getD s from 0) ≡ true = ap laterByte (next-here s from h ∙ sym is) ∙ e in
+      let h : from < length s = run-there wordByte word-end s from n is e in
+      let k : wordByte (getD s from 0) ≡ true = ap wordByte (next-here s from h ∙ sym is) ∙ e in
       q ∙ rw (drop-cons s from 0 h, k)
 
-  pub end-sign : laterByte n ≡ false → from < length s → from + 1 ≡ wordEnd s from
+  pub end-sign : wordByte n ≡ false → from < length s → from + 1 ≡ wordEnd s from
   unfolding wordEnd tokenLength
   end-sign e h =
-      let k : laterByte (getD s from 0) ≡ false = ap laterByte (next-here s from h ∙ sym is) ∙ e in
+      let k : wordByte (getD s from 0) ≡ false = ap wordByte (next-here s from h ∙ sym is) ∙ e in
       rw (drop-cons s from 0 h, k)
 
--- the place e where the run of name bytes at `from` ends tells whether a word begins there
-module _ (s : List ℕ) (from n : ℕ) (is : n ≡ nextOf (drop from s)) (e : ℕ) (ends : e ≡ from + runOf laterByte (drop from s)) where
-  pub word-here : from < e → laterByte n ≡ true
-  word-here h = go (laterByte n) refl
+-- the place e where the run of the bytes of words at `from` ends tells whether a word begins there
+module _ (s : List ℕ) (from n : ℕ) (is : n ≡ nextOf (drop from s)) (e : ℕ) (ends : e ≡ from + runOf wordByte (drop from s)) where
+  pub word-here : from < e → wordByte n ≡ true
+  word-here h = go (wordByte n) refl
     where
-      go : (k : Bool) → laterByte n ≡ k → k ≡ true
+      go : (k : Bool) → wordByte n ≡ k → k ≡ true
       go true q = refl
-      go false q = let z : stop laterByte s from ≡ from = run-over laterByte later-end s from n is q in absurd (omega (arith, stop-is laterByte s from))
+      go false q = let z : stop wordByte s from ≡ from = run-over wordByte word-end s from n is q in absurd (omega (arith, stop-is wordByte s from))
 
-  pub no-word-here : e ≤ from → laterByte n ≡ false
-  no-word-here h = go (laterByte n) refl
+  pub no-word-here : e ≤ from → wordByte n ≡ false
+  no-word-here h = go (wordByte n) refl
     where
-      go : (k : Bool) → laterByte n ≡ k → k ≡ false
-      go true q = absurd (omega (arith, run-some laterByte later-end s from n is q, stop-is laterByte s from))
+      go : (k : Bool) → wordByte n ≡ k → k ≡ false
+      go true q = absurd (omega (arith, run-some wordByte word-end s from n is q, stop-is wordByte s from))
       go false q = refl
 
--- a sign begins no run of name bytes
-pub sign-run : (s : List ℕ) (from k : ℕ) → k ≡ signKind (nextOf (drop from s)) → (k ≡ 10 → ⊥) → from ≡ from + runOf laterByte (drop from s)
-sign-run s from k q d = sym (run-over laterByte later-end s from (nextOf (drop from s)) refl (sign-no-word (nextOf (drop from s)) (λ z. d (q ∙ z)))) ∙ stop-is laterByte s from
+-- a sign begins no run of the bytes of words
+pub sign-run : (s : List ℕ) (from k : ℕ) → k ≡ signKind (nextOf (drop from s)) → (k ≡ 10 → ⊥) → from ≡ from + runOf wordByte (drop from s)
+sign-run s from k q d = sym (run-over wordByte word-end s from (nextOf (drop from s)) refl (sign-no-word (nextOf (drop from s)) (λ z. d (q ∙ z)))) ∙ stop-is wordByte s from
 
 pub end-over : (s : List ℕ) (from : ℕ) → length s ≤ from → from ≡ wordEnd s from
 unfolding wordEnd tokenLength
@@ -91,12 +91,12 @@ no-space (c ∷ t) b bs e = go (isSpace c) refl e (no-space t b bs)
 first-token : (b : ℕ) (bs : List ℕ) → isSpace b ≡ false →
     cut (b ∷ bs) ≡ atFront (tokenOf (take (tokenLength (b ∷ bs)) (b ∷ bs))) (cut (drop (tokenLength (b ∷ bs)) (b ∷ bs)))
 unfolding tokenLength runOf tokenOf
-first-token b bs e = go (laterByte b) refl (λ q. cut-word b bs q) (λ q. cut-sign b bs e q)
+first-token b bs e = go (wordByte b) refl (λ q. cut-word b bs q) (λ q. cut-sign b bs e q)
   where
-    go : (k : Bool) → laterByte b ≡ k
-        → (laterByte b ≡ true → cut (b ∷ bs) ≡ atFront (word (take (runOf laterByte (b ∷ bs)) (b ∷ bs))) (cut (drop (runOf laterByte (b ∷ bs)) (b ∷ bs))))
-        → (laterByte b ≡ false → cut (b ∷ bs) ≡ atFront (sign b) (cut bs))
-        → cut (b ∷ bs) ≡ atFront (tokenOf (take (cond k (runOf laterByte (b ∷ bs)) 1) (b ∷ bs))) (cut (drop (cond k (runOf laterByte (b ∷ bs)) 1) (b ∷ bs)))
+    go : (k : Bool) → wordByte b ≡ k
+        → (wordByte b ≡ true → cut (b ∷ bs) ≡ atFront (word (take (runOf wordByte (b ∷ bs)) (b ∷ bs))) (cut (drop (runOf wordByte (b ∷ bs)) (b ∷ bs))))
+        → (wordByte b ≡ false → cut (b ∷ bs) ≡ atFront (sign b) (cut bs))
+        → cut (b ∷ bs) ≡ atFront (tokenOf (take (cond k (runOf wordByte (b ∷ bs)) 1) (b ∷ bs))) (cut (drop (cond k (runOf wordByte (b ∷ bs)) 1) (b ∷ bs)))
     go true q w s = w q ∙ rw (q, q)
     go false q w s = s q ∙ rw q
 

@@ -2,17 +2,16 @@
 -- Assumes nothing.
 use Prim.Native.Nat.{ℕ, suc, _+_, _≤_, _<_}
 use mathlib.Core.Path.{_≡_, refl, sym, _∙_, ap}
-use mathlib.Core.Bool.{Bool, true, false, not, false≢true}
+use mathlib.Core.Bool.{Bool, true, false, false≢true}
 use mathlib.Core.List.{List, [], _∷_}
 use native.Mathlib.Omega.{arith}
 use native.Mathlib.Numerals.{add-one}
-use native.Mathlib.Decide.{ℕ-discrete, decLt}
-use lib.Dec.{eqb}
+use native.Mathlib.Decide.{decLt}
 use lib.ListN.{length, getD, drop, drop-of-length-le}
 use lib.Seq.{drop-cons}
-use borrow.Author.Tests.{eq-eqb, ne-eqb}
-use Rattle.name.specs.Class.{between, startByte, laterByte, classOf}
-use Rattle.name.proofs.Classes.{class-neither, class-later}
+use borrow.Author.Tests.{ne-eqb}
+use Rattle.name.specs.Word.{wordByte}
+use Rattle.name.proofs.Words.{no-word}
 use Rattle.declaration_spelling.specs.Token.{isSpace}
 use Rattle.declaration_scan.specs.Unread.{endOfText, nextOf, runOf, signKind, kindOf}
 
@@ -30,20 +29,11 @@ pub space-end : isSpace endOfText ≡ false
 unfolding isSpace
 space-end = refl
 
-pub later-end : laterByte endOfText ≡ false
-unfolding laterByte startByte between
-later-end = refl
+pub word-end : wordByte endOfText ≡ false
+word-end = no-word .1 .1 .1 .1 .1 .1 .1 .1 .1 .0
 
--- a byte's class says whether it may stand in a name
-pub class-test : (r b : ℕ) → r ≡ classOf b → not (eqb r 0) ≡ laterByte b
-class-test r b e = go (ℕ-discrete r 0)
-  where
-    go : Dec (r ≡ 0) → not (eqb r 0) ≡ laterByte b
-    go (yes z) = rw (eq-eqb r 0 z) (sym (class-neither b (sym e ∙ z)))
-    go (no n) = rw (ne-eqb r 0 n) (sym (class-later b (λ q. n (e ∙ q))))
-
-pub class-end : (n : ℕ) → n ≤ endOfText → endOfText ≤ n → false ≡ laterByte n
-class-end n h k = let e : n ≡ endOfText = omega arith in sym (ap laterByte e ∙ later-end)
+pub past-bytes : (n : ℕ) → n ≤ endOfText → endOfText ≤ n → false ≡ wordByte n
+past-bytes n h k = let e : n ≡ endOfText = omega arith in sym (ap wordByte e ∙ word-end)
 
 -- ---- a run
 
@@ -88,11 +78,11 @@ module _ (test : ℕ → Bool) (none : test endOfText ≡ false) (s : List ℕ) 
 
 -- ---- the kind of a token
 
-pub kind-word : (n : ℕ) → laterByte n ≡ true → 1 ≡ kindOf n
+pub kind-word : (n : ℕ) → wordByte n ≡ true → 1 ≡ kindOf n
 unfolding kindOf
 kind-word n e = rw e
 
-pub kind-sign : (n k : ℕ) → laterByte n ≡ false → k ≡ signKind n → k ≡ kindOf n
+pub kind-sign : (n k : ℕ) → wordByte n ≡ false → k ≡ signKind n → k ≡ kindOf n
 unfolding kindOf
 kind-sign n k e q = rw e q
 
@@ -110,7 +100,7 @@ unfolding signKind
 end-sign-kind = refl
 
 pub end-kind : 0 ≡ kindOf 256
-end-kind = kind-sign 256 0 later-end end-sign-kind
+end-kind = kind-sign 256 0 word-end end-sign-kind
 
 pub kind-at : (n k v : ℕ) → n ≡ k → v ≡ signKind k → v ≡ signKind n
 kind-at n k v e q = q ∙ ap signKind (sym e)
@@ -119,17 +109,20 @@ pub kind-other : (n : ℕ) → (n ≡ 40 → ⊥) → (n ≡ 41 → ⊥) → (n 
 unfolding signKind
 kind-other n a b c d f g h i j = rw (ne-eqb n 40 a, ne-eqb n 41 b, ne-eqb n 44 c, ne-eqb n 124 d, ne-eqb n 62 f, ne-eqb n 63 g, ne-eqb n 43 h, ne-eqb n 42 i, ne-eqb n 256 j)
 
--- no sign is a name byte
-other-byte : (n k : ℕ) → laterByte n ≡ true → laterByte k ≡ false → n ≡ k → ⊥
-other-byte n k e f q = false≢true (sym f ∙ ap laterByte (sym q) ∙ e)
+-- no sign is a byte of words
+other-byte : (n k : ℕ) → wordByte n ≡ true → wordByte k ≡ false → n ≡ k → ⊥
+other-byte n k e f q = false≢true (sym f ∙ ap wordByte (sym q) ∙ e)
 
-pub word-no-sign : (n : ℕ) → laterByte n ≡ true → 10 ≡ signKind n
-unfolding laterByte startByte between
-word-no-sign n e = kind-other n (other-byte n 40 e refl) (other-byte n 41 e refl) (other-byte n 44 e refl) (other-byte n 124 e refl) (other-byte n 62 e refl) (other-byte n 63 e refl) (other-byte n 43 e refl) (other-byte n 42 e refl) (other-byte n 256 e refl)
+pub word-no-sign : (n : ℕ) → wordByte n ≡ true → 10 ≡ signKind n
+word-no-sign n e =
+    let s = no-word .1 in
+    let o : (k : ℕ) → wordByte k ≡ false → n ≡ k → ⊥ = λ k f. other-byte n k e f in
+    kind-other n (o 40 (s .0)) (o 41 (s .1 .0)) (o 44 (s .1 .1 .0)) (o 124 (s .1 .1 .1 .0)) (o 62 (s .1 .1 .1 .1 .0)) (o 63 (s .1 .1 .1 .1 .1 .0))
+    (o 43 (s .1 .1 .1 .1 .1 .1 .0)) (o 42 (s .1 .1 .1 .1 .1 .1 .1 .0)) (o 256 word-end)
 
-pub sign-no-word : (n : ℕ) → (signKind n ≡ 10 → ⊥) → laterByte n ≡ false
-sign-no-word n d = go (laterByte n) refl
+pub sign-no-word : (n : ℕ) → (signKind n ≡ 10 → ⊥) → wordByte n ≡ false
+sign-no-word n d = go (wordByte n) refl
   where
-    go : (k : Bool) → laterByte n ≡ k → k ≡ false
+    go : (k : Bool) → wordByte n ≡ k → k ≡ false
     go true e = absurd (d (sym (word-no-sign n e)))
     go false e = refl

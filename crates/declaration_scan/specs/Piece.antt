@@ -6,17 +6,17 @@ use mathlib.Core.Bool.{cond}
 use mathlib.Core.List.{List, [], _∷_}
 use lib.Dec.{ltb}
 use lib.ListN.{drop}
-use Rattle.name.specs.Class.{laterByte}
+use Rattle.name.specs.Word.{wordByte}
 use Rattle.declaration_spelling.specs.Token.{isSpace, Token, word}
 use Rattle.declaration_spelling.specs.Form.{sign}
 use Rattle.declaration_scan.specs.declared.Piece.{Piece}
 use Rattle.declaration_scan.specs.Unread.{nextOf, runOf, kindOf}
 
--- How many bytes the token at the start of a text has: a run of name bytes, or one byte, or none at the end of the
--- text.
+-- How many bytes the token at the start of a text has: a run of the bytes of words, or one byte, or none at
+-- the end of the text.
 unfoldable pub tokenLength : List ℕ → ℕ
 tokenLength [] = 0
-tokenLength (b ∷ bs) = cond (laterByte b) (runOf laterByte (b ∷ bs)) 1
+tokenLength (b ∷ bs) = cond (wordByte b) (runOf wordByte (b ∷ bs)) 1
 
 -- Where the token that begins at a place ends.
 unfoldable pub wordEnd : List ℕ → ℕ → ℕ
@@ -37,4 +37,4 @@ pieceAt text at = pieceFrom text at (spaceEnd text at)
 -- The token whose bytes these are: a word, or a sign.
 unfoldable pub tokenOf : List ℕ → Token
 tokenOf [] = word []
-tokenOf (b ∷ bs) = cond (laterByte b) (word (b ∷ bs)) (sign b)
+tokenOf (b ∷ bs) = cond (wordByte b) (word (b ∷ bs)) (sign b)

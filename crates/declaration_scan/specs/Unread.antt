@@ -5,7 +5,7 @@ use Prim.Native.Nat.{ℕ, suc}
 use mathlib.Core.Bool.{Bool, cond}
 use mathlib.Core.List.{List, [], _∷_}
 use lib.Dec.{eqb}
-use Rattle.name.specs.Class.{laterByte}
+use Rattle.name.specs.Word.{wordByte}
 
 -- What stands for the next byte at the end of a text: no byte has this value.
 abbrev pub endOfText : ℕ
@@ -34,7 +34,7 @@ signKind next =
     (cond (eqb next 42) 9
     (cond (eqb next 256) 0 10))))))))
 
--- The kind of the token that begins with a byte: 1 a word, which begins with a name byte.
+-- The kind of the token that begins with a byte: 1 a word, which begins with a byte of words.
 unfoldable pub kindOf : ℕ → ℕ
 unfolding signKind
-kindOf next = cond (laterByte next) 1 (signKind next)
+kindOf next = cond (wordByte next) 1 (signKind next)

@@ -1,9 +1,10 @@
-// Steps along a text: its next unread byte, white space, a run of name bytes, a token.
+// Steps along a text: its next unread byte, white space, a run of the bytes of words, a token.
 ghost use mathlib.Core.Path.{_≡_};
 ghost use mathlib.Core.Bool.{false};
 ghost use Prim.Native.Nat.{_+_, _≤_};
 ghost use lib.ListN.{length, drop};
-ghost use Rattle.name.specs.Class.{laterByte, classTable};
+ghost use Rattle.name.specs.Class.{classTable};
+ghost use Rattle.name.specs.Word.{wordByte};
 ghost use Rattle.declaration_spelling.specs.Token.{isSpace};
 ghost use Rattle.declaration_scan.specs.Unread.{endOfText, nextOf, runOf, signKind};
 ghost use Rattle.declaration_scan.specs.Piece.{wordEnd, pieceFrom};
@@ -44,13 +45,13 @@ fn is_space(next: usize) -> bool
     next == 32
 }
 
-// Whether the next byte may stand in a name, by the table of classes.
-fn is_name_byte(classes: &[u8], next: usize) -> bool
+// Whether the next byte is a byte of words, by the table of classes.
+fn is_word_byte(classes: &[u8; 256], next: usize) -> bool
     requires { ⌜ (now classes ≡ classTable) × (next ≤ endOfText) ⌝ }
-    ensures { λ r. ⌜ r ≡ laterByte next ⌝ }
+    ensures { λ r. ⌜ r ≡ wordByte next ⌝ }
 {
     if next < END {
-        name::class_in(classes, next as u8) != 0
+        name::in_word(classes, next as u8)
     } else {
         false
     }
@@ -68,14 +69,14 @@ pub fn skip_spaces(text: &[u8], at: usize) -> usize
     i
 }
 
-// The first place from `at` on that holds no name byte.
-pub fn skip_name(text: &[u8], at: usize) -> usize
+// The first place from `at` on that holds no byte of words.
+fn skip_word(text: &[u8], at: usize) -> usize
     requires { ⌜ at ≤ length (now text) ⌝ }
-    ensures { λ r. ⌜ (r ≡ at + runOf laterByte (drop at (now (text .entry)))) × (r ≤ length (now (text .entry))) ⌝ }
+    ensures { λ r. ⌜ (r ≡ at + runOf wordByte (drop at (now (text .entry)))) × (r ≤ length (now (text .entry))) ⌝ }
 {
     let classes = name::class_table();
     let mut i = at;
-    while is_name_byte(&classes, next_unread(text, i)) {
+    while is_word_byte(&classes, next_unread(text, i)) {
         i += 1;
     }
     i
@@ -99,21 +100,21 @@ fn sign_kind(next: usize) -> u8
     }
 }
 
-// Where the run of name bytes at a place ends. None begins with a sign, so the table of classes is made for the others
-// alone.
+// Where the run of the bytes of words at a place ends. None begins with a sign, so the table of classes is made for the
+// others alone.
 fn run_end(text: &[u8], from: usize, sign: u8) -> usize
     requires { ⌜ (from ≤ length (now text)) × (sign ≡ signKind (nextOf (drop from (now text)))) ⌝ }
-    ensures { λ r. ⌜ (r ≡ from + runOf laterByte (drop from (now (text .entry)))) × (r ≤ length (now (text .entry))) ⌝ }
+    ensures { λ r. ⌜ (r ≡ from + runOf wordByte (drop from (now (text .entry)))) × (r ≤ length (now (text .entry))) ⌝ }
 {
     if sign != OTHER {
         return from;
     }
-    skip_name(text, from)
+    skip_word(text, from)
 }
 
 // Where the token at a place ends that is no word.
 fn sign_end(text: &[u8], from: usize) -> usize
-    requires { ⌜ (from ≤ length (now text)) × (laterByte (nextOf (drop from (now text))) ≡ false) ⌝ }
+    requires { ⌜ (from ≤ length (now text)) × (wordByte (nextOf (drop from (now text))) ≡ false) ⌝ }
     ensures { λ r. ⌜ (r ≡ wordEnd (now (text .entry)) from) × (r ≤ length (now (text .entry))) ⌝ }
 {
     if from < text.len() { from + 1 } else { from }

@@ -9,10 +9,10 @@ use native.Mathlib.Omega.{arith}
 use lib.Dec.{eqb}
 use borrow.Author.Tests.{eqb-true, not-true}
 use Rattle.declaration_spelling.specs.Token.{isSpace, Token, word, lpar, rpar, comma, bar, end, mark, other, markByte, spell, Room, tight, apart, free, behind, room, Fits, All, Spells}
-use Rattle.name.specs.Class.{laterByte}
-use Rattle.declaration_spelling.specs.Form.{Piece, Cut, sign, atFront, spaceBefore, longer, letterBefore, byteBefore, cut, fits, spaced, tokens}
+use Rattle.name.specs.Word.{wordByte}
+use Rattle.declaration_spelling.specs.Form.{SpacedToken, Cut, sign, atFront, spaceBefore, longer, letterBefore, byteBefore, cut, fits, spaced, tokens}
 use Rattle.declaration_spelling.proofs.Tests.{and-is, true-or-false}
-use Rattle.declaration_spelling.proofs.Bytes.{Word, later-not-space, signs}
+use Rattle.declaration_spelling.proofs.Bytes.{Word, word-not-space, signs}
 
 -- a sign's byte
 pub sign-spell : (b : ℕ) → spell (sign b) ≡ b ∷ []
@@ -36,7 +36,7 @@ filled [] = false
 filled (b ∷ bs) = true
 
 -- the text is the pieces in order, with white space where they say so
-abbrev Cuts : Bool → List Piece → List ℕ → Type 0
+abbrev Cuts : Bool → List SpacedToken → List ℕ → Type 0
 Cuts g [] text = All isSpace text × (filled text ≡ g)
 Cuts g (p ∷ ps) text =
     (gap : List ℕ) × (rest : List ℕ) × (text ≡ gap ++ (spell (p .token) ++ rest)) × All isSpace gap × (filled gap ≡ g) × Cuts (p .gap) ps rest
@@ -48,7 +48,7 @@ front : (t : Token) (c : Cut) (text whole : List ℕ) → CutAs c text → whole
 unfolding atFront filled
 front t c text whole h e = ([], text, e, tt, refl, h)
 
-space : (b : ℕ) (g : Bool) (ps : List Piece) (text : List ℕ) → isSpace b ≡ true → Cuts g ps text → Cuts true ps (b ∷ text)
+space : (b : ℕ) (g : Bool) (ps : List SpacedToken) (text : List ℕ) → isSpace b ≡ true → Cuts g ps text → Cuts true ps (b ∷ text)
 unfolding filled
 space b g [] text q h = ((q, h .0), refl)
 space b g (p ∷ ps) text q (gap, rest, e, a, f, k) = (b ∷ gap, rest, ap (λ (l : List ℕ). b ∷ l) e, (q, a), refl, k)
@@ -58,7 +58,7 @@ unfolding filled
 not-filled [] e = refl
 not-filled (b ∷ bs) e = absurd (true≢false e)
 
-grown : (b : ℕ) (t : Token) (g : Bool) (ps : List Piece) (text : List ℕ)
+grown : (b : ℕ) (t : Token) (g : Bool) (ps : List SpacedToken) (text : List ℕ)
     → Cuts false (record { token = t; gap = g } ∷ ps) text → CutAs (longer b t g ps) (b ∷ text)
 unfolding longer spell filled
 grown b (word w) g ps text (gap, rest, e, a, f, k) = ([], rest, ap (λ (l : List ℕ). b ∷ l) (e ∙ ap (λ (l : List ℕ). l ++ (w ++ rest)) (not-filled gap f)), tt, refl, k)
@@ -70,7 +70,7 @@ grown b end g ps text h = front (word (b ∷ [])) _ text (b ∷ text) h refl
 grown b (mark m) g ps text h = front (word (b ∷ [])) _ text (b ∷ text) h refl
 grown b (other d) g ps text h = front (word (b ∷ [])) _ text (b ∷ text) h refl
 
-letters : (b : ℕ) (g : Bool) (ps : List Piece) (text : List ℕ) → Cuts g ps text → CutAs (letterBefore b g ps) (b ∷ text)
+letters : (b : ℕ) (g : Bool) (ps : List SpacedToken) (text : List ℕ) → Cuts g ps text → CutAs (letterBefore b g ps) (b ∷ text)
 unfolding letterBefore spell
 letters b true ps text h = front (word (b ∷ [])) _ text (b ∷ text) h refl
 letters b false [] text h = front (word (b ∷ [])) _ text (b ∷ text) h refl
@@ -80,7 +80,7 @@ letters b false (p ∷ ps) text h = grown b (p .token) (p .gap) ps text h
 cut-is : (text : List ℕ) → CutAs (cut text) text
 unfolding cut filled byteBefore spaceBefore
 cut-is [] = (tt, refl)
-cut-is (b ∷ text) = go (isSpace b) (laterByte b) refl (cut-is text)
+cut-is (b ∷ text) = go (isSpace b) (wordByte b) refl (cut-is text)
   where
     go : (k l : Bool) → isSpace b ≡ k → CutAs (cut text) text → CutAs (byteBefore k l b (cut text)) (b ∷ text)
     go true l q h = space b (cut text .gap) (cut text .pieces) text q h
@@ -100,7 +100,7 @@ is-fits tight gap e = rw e
 is-fits apart gap (b, v, e) = rw e
 is-fits free gap e = refl
 
-spelled-cut : (t : Token) (g : Bool) (ps : List Piece) (text : List ℕ) → Cuts g ps text → spaced t g ps ≡ true → Spells t (tokens ps) text
+spelled-cut : (t : Token) (g : Bool) (ps : List SpacedToken) (text : List ℕ) → Cuts g ps text → spaced t g ps ≡ true → Spells t (tokens ps) text
 unfolding spaced tokens
 spelled-cut t g [] text h e = not-filled text (h .1 ∙ not-true g e)
 spelled-cut t g (p ∷ ps) text (gap, rest, q, a, f, k) e =
@@ -126,15 +126,15 @@ abbrev pub AllProper : List Token → Type 0
 AllProper [] = Unit {0}
 AllProper (t ∷ ts) = Proper t × AllProper ts
 
-byte : (b : ℕ) (text : List ℕ) → (isSpace b ≡ false) × (laterByte b ≡ false) → cut (b ∷ text) ≡ atFront (sign b) (cut text)
+byte : (b : ℕ) (text : List ℕ) → (isSpace b ≡ false) × (wordByte b ≡ false) → cut (b ∷ text) ≡ atFront (sign b) (cut text)
 unfolding cut byteBefore
 byte b text h = rw (h .0, h .1)
 
-lettered : (b : ℕ) (text : List ℕ) → laterByte b ≡ true → cut (b ∷ text) ≡ letterBefore b (cut text .gap) (cut text .pieces)
+lettered : (b : ℕ) (text : List ℕ) → wordByte b ≡ true → cut (b ∷ text) ≡ letterBefore b (cut text .gap) (cut text .pieces)
 unfolding cut byteBefore
-lettered b text h = rw (later-not-space b h, h)
+lettered b text h = rw (word-not-space b h, h)
 
-last-letter : (b : ℕ) (u : List ℕ) (g : Bool) (ps : List Piece) → spaced (word u) g ps ≡ true → letterBefore b g ps ≡ atFront (word (b ∷ [])) record { gap = g; pieces = ps }
+last-letter : (b : ℕ) (u : List ℕ) (g : Bool) (ps : List SpacedToken) → spaced (word u) g ps ≡ true → letterBefore b g ps ≡ atFront (word (b ∷ [])) record { gap = g; pieces = ps }
 unfolding letterBefore longer spaced fits room behind
 last-letter b u true ps e = refl
 last-letter b u false [] e = refl
@@ -150,7 +150,7 @@ last-letter b u false (p ∷ ps) e = go (p .token) (p .gap) e
     go (mark m) g e = refl
     go (other d) g e = refl
 
-cut-word : (b : ℕ) (v u text : List ℕ) → All laterByte (b ∷ v) → spaced (word u) (cut text .gap) (cut text .pieces) ≡ true
+cut-word : (b : ℕ) (v u text : List ℕ) → All wordByte (b ∷ v) → spaced (word u) (cut text .gap) (cut text .pieces) ≡ true
     → cut (b ∷ (v ++ text)) ≡ atFront (word (b ∷ v)) (cut text)
 unfolding atFront letterBefore longer
 cut-word b [] u text a e = lettered b text (a .0) ∙ last-letter b u _ _ e
@@ -158,7 +158,7 @@ cut-word b (c ∷ v) u text a e = lettered b (c ∷ (v ++ text)) (a .0) ∙ ap (
 
 cut-token : (t : Token) (text : List ℕ) → Proper t → spaced t (cut text .gap) (cut text .pieces) ≡ true → cut (spell t ++ text) ≡ atFront t (cut text)
 unfolding spell sign markByte
-cut-token (word w) text (b, v, q, a) e = subst (λ (x : List ℕ). All laterByte x → cut (x ++ text) ≡ atFront (word x) (cut text)) (sym q) (λ h. cut-word b v w text h e) a
+cut-token (word w) text (b, v, q, a) e = subst (λ (x : List ℕ). All wordByte x → cut (x ++ text) ≡ atFront (word x) (cut text)) (sym q) (λ h. cut-word b v w text h e) a
 cut-token lpar text h e = byte 40 text (signs .0)
 cut-token rpar text h e = byte 41 text (signs .1 .0)
 cut-token comma text h e = byte 44 text (signs .1 .1 .0)
@@ -170,7 +170,7 @@ cut-token (mark (suc (suc zero))) text h e = byte 42 text (signs .1 .1 .1 .1 .1 
 cut-token (mark (suc (suc (suc m)))) text h e = absurd (omega arith)
 cut-token (other b) text h e = absurd h
 
-cut-gap : (gap text : List ℕ) (ps : List Piece) → All isSpace gap → cut text ≡ record { gap = false; pieces = ps } → cut (gap ++ text) ≡ record { gap = filled gap; pieces = ps }
+cut-gap : (gap text : List ℕ) (ps : List SpacedToken) → All isSpace gap → cut text ≡ record { gap = false; pieces = ps } → cut (gap ++ text) ≡ record { gap = filled gap; pieces = ps }
 unfolding cut byteBefore spaceBefore filled
 cut-gap [] text ps a e = e
 cut-gap (b ∷ gap) text ps a e = rw (a .0) (ap (λ (k : Cut). spaceBefore k) (cut-gap gap text ps (a .1) e))
@@ -213,7 +213,7 @@ sign-mark b =
     pick-mark (eqb b 40) lpar _ tt (pick-mark (eqb b 41) rpar _ tt (pick-mark (eqb b 44) comma _ tt (pick-mark (eqb b 124) bar _ tt (pick-mark (eqb b 62) end _ tt
     (pick-mark (eqb b 63) (mark 0) _ (omega arith) (pick-mark (eqb b 43) (mark 1) _ (omega arith) (pick-mark (eqb b 42) (mark 2) (other b) (omega arith) tt)))))))
 
-longer-mark : (b : ℕ) (t : Token) (g : Bool) (ps : List Piece) → Mark3 t × Marks (tokens ps) → Marks (tokens (longer b t g ps .pieces))
+longer-mark : (b : ℕ) (t : Token) (g : Bool) (ps : List SpacedToken) → Mark3 t × Marks (tokens ps) → Marks (tokens (longer b t g ps .pieces))
 unfolding longer atFront tokens
 longer-mark b (word w) g ps h = h
 longer-mark b lpar g ps h = (tt, h)
@@ -224,7 +224,7 @@ longer-mark b end g ps h = (tt, h)
 longer-mark b (mark m) g ps h = (tt, h)
 longer-mark b (other d) g ps h = (tt, h)
 
-letter-mark : (b : ℕ) (g : Bool) (ps : List Piece) → Marks (tokens ps) → Marks (tokens (letterBefore b g ps .pieces))
+letter-mark : (b : ℕ) (g : Bool) (ps : List SpacedToken) → Marks (tokens ps) → Marks (tokens (letterBefore b g ps .pieces))
 unfolding letterBefore atFront tokens
 letter-mark b true ps h = (tt, h)
 letter-mark b false [] h = (tt, tt)
@@ -233,7 +233,7 @@ letter-mark b false (p ∷ ps) h = longer-mark b (p .token) (p .gap) ps h
 pub cut-marks : (text : List ℕ) → Marks (tokens (cut text .pieces))
 unfolding cut byteBefore spaceBefore atFront tokens
 cut-marks [] = tt
-cut-marks (b ∷ text) = go (isSpace b) (laterByte b) (cut-marks text)
+cut-marks (b ∷ text) = go (isSpace b) (wordByte b) (cut-marks text)
   where
     go : (k l : Bool) → Marks (tokens (cut text .pieces)) → Marks (tokens (byteBefore k l b (cut text) .pieces))
     go true l h = h

@@ -21,6 +21,11 @@ withMark m q = record { names = q .names; mode = suc m; more = q .more }
 abbrev begun : Run → Run
 begun q = record { names = []; mode = 0; more = record { names = q .names; mode = q .mode } ∷ q .more }
 
+-- for readers: a single name has no brackets of its own
+pub no-lone-group : (ts : List Token) → run second (rpar ∷ ts) ≡ none
+unfolding run
+no-lone-group ts = refl
+
 tailOf : Run → List Token
 tailOf r = markTokens (r .mode) (othersTokens (r .more))
 

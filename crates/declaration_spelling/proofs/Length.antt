@@ -15,7 +15,7 @@ use Rattle.model.specs.Record.{factorOf, IsChain}
 use Rattle.declaration_spelling.specs.House.{Factor, members, factorsFrom, factorsOf, nameAt, namesAt, named, opening, emptyWord, markText, barsText, groupText, factorText, othersText, bodyText, houseText, declaration}
 use Rattle.declaration_spelling.specs.Length.{longestDeclaration, markLength, namesLength, groupLength, factorsLength, bodyLength, declarationLength}
 use Rattle.declaration_spelling.specs.Stops.{Full}
-use Rattle.declaration_spelling.proofs.Bytes.{name-short}
+use Rattle.name.proofs.Words.{name-size}
 use Rattle.declaration_spelling.proofs.Names.{Below, AllBelow}
 use Rattle.declaration_spelling.proofs.House.{house-order}
 use Rattle.declaration_spelling.proofs.Numbers.{order-below, order-full}
@@ -69,7 +69,7 @@ countNames (f ∷ fs) = length (f .names) + countNames fs
 
 module _ (names : List (List ℕ)) (good : (x : ℕ) → x < length names → isName (nameAt names x) ≡ true) where
   short : (x : ℕ) → x < length names → length (nameAt names x) ≤ 32
-  short x l = name-short (nameAt names x) (good x l)
+  short x l = name-size (nameAt names x) (good x l) .1
 
   names-bound : (xs : List ℕ) → Below (length names) xs → namesLength (namesAt names xs) ≤ 33 * length xs
   unfolding namesLength namesAt

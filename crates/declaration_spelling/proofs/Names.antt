@@ -96,7 +96,7 @@ module _ (names : List (List ℕ)) (d : Distinct names) where
   unfolding known
   name-known x l = rw (number-found names d x l)
 
-  -- a name is known exactly when it is a name of the book
+  -- for readers: a name is known exactly when it is a name of the book
   pub known-is : (w : List ℕ) → (known names w ≡ true) ↔ ((x : ℕ) × (x < length names) × (nameAt names x ≡ w))
   known-is w = (
     λ e. let p = number-is names w e in (numberFor names w, p .0, p .1),

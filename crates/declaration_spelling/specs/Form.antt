@@ -6,8 +6,8 @@ use mathlib.Core.Bool.{Bool, true, false, cond, not, _&&_}
 use mathlib.Core.List.{List, [], _∷_}
 use mathlib.Core.Option.{Option, none, some}
 use lib.Dec.{eqb}
-use Rattle.name.specs.Class.{laterByte}
 use Rattle.name.specs.Rule.{isName}
+use Rattle.name.specs.Word.{wordByte}
 use Rattle.declaration_spelling.specs.Token.{isSpace, Token, word, lpar, rpar, comma, bar, end, mark, other, Room, tight, apart, free, room}
 use Rattle.declaration_spelling.specs.House.{Factor, opening, emptyWord}
 use Rattle.declaration_spelling.specs.Stops.{Form}
@@ -28,16 +28,16 @@ strip (a ∷ as′) (b ∷ bs) = cond (eqb a b) (strip as′ bs) none
 -- ---- a text cut into tokens
 
 -- A token, and whether white space stands behind it.
-pub record Piece : Type 0 where
+pub record SpacedToken : Type 0 where
   pub token : Token
   pub gap : Bool
 
 -- A text: whether white space stands before its first token, and its pieces.
 pub record Cut : Type 0 where
   pub gap : Bool
-  pub pieces : List Piece
+  pub pieces : List SpacedToken
 
--- The token of a byte that is no name byte.
+-- The token of a byte that is in no word.
 unfoldable pub sign : ℕ → Token
 sign b =
     cond (eqb b 40) lpar
@@ -55,8 +55,8 @@ atFront t c = record { gap = false; pieces = record { token = t; gap = c .gap } 
 unfoldable pub spaceBefore : Cut → Cut
 spaceBefore c = record { gap = true; pieces = c .pieces }
 
--- A name byte right before a token makes a word longer, and is a word of its own before any other.
-unfoldable pub longer : ℕ → Token → Bool → List Piece → Cut
+-- A word's byte right before a token makes a word longer, and is a word of its own before any other.
+unfoldable pub longer : ℕ → Token → Bool → List SpacedToken → Cut
 longer b (word w) g ps = record { gap = false; pieces = record { token = word (b ∷ w); gap = g } ∷ ps }
 longer b lpar g ps = atFront (word (b ∷ [])) record { gap = false; pieces = record { token = lpar; gap = g } ∷ ps }
 longer b rpar g ps = atFront (word (b ∷ [])) record { gap = false; pieces = record { token = rpar; gap = g } ∷ ps }
@@ -66,12 +66,12 @@ longer b end g ps = atFront (word (b ∷ [])) record { gap = false; pieces = rec
 longer b (mark m) g ps = atFront (word (b ∷ [])) record { gap = false; pieces = record { token = mark m; gap = g } ∷ ps }
 longer b (other d) g ps = atFront (word (b ∷ [])) record { gap = false; pieces = record { token = other d; gap = g } ∷ ps }
 
-unfoldable pub letterBefore : ℕ → Bool → List Piece → Cut
+unfoldable pub letterBefore : ℕ → Bool → List SpacedToken → Cut
 letterBefore b true ps = atFront (word (b ∷ [])) record { gap = true; pieces = ps }
 letterBefore b false [] = atFront (word (b ∷ [])) record { gap = false; pieces = [] }
 letterBefore b false (p ∷ ps) = longer b (p .token) (p .gap) ps
 
--- One byte more before a text: white space, a name byte, or any other.
+-- One byte more before a text: white space, a word's byte, or any other.
 unfoldable pub byteBefore : Bool → Bool → ℕ → Cut → Cut
 byteBefore true l b c = spaceBefore c
 byteBefore false true b c = letterBefore b (c .gap) (c .pieces)
@@ -79,7 +79,7 @@ byteBefore false false b c = atFront (sign b) c
 
 unfoldable pub cut : List ℕ → Cut
 cut [] = record { gap = false; pieces = [] }
-cut (b ∷ bs) = byteBefore (isSpace b) (laterByte b) b (cut bs)
+cut (b ∷ bs) = byteBefore (isSpace b) (wordByte b) b (cut bs)
 
 -- ---- the white space
 
@@ -89,11 +89,11 @@ fits apart gap = gap
 fits free gap = true
 
 -- White space stands only where it may, and none at the end.
-unfoldable pub spaced : Token → Bool → List Piece → Bool
+unfoldable pub spaced : Token → Bool → List SpacedToken → Bool
 spaced t gap [] = not gap
 spaced t gap (p ∷ ps) = fits (room t (p .token)) gap && spaced (p .token) (p .gap) ps
 
-unfoldable pub tokens : List Piece → List Token
+unfoldable pub tokens : List SpacedToken → List Token
 tokens [] = []
 tokens (p ∷ ps) = p .token ∷ tokens ps
 

@@ -1,3 +1,4 @@
+pub mod Text
 pub mod Token
 pub mod House
 pub mod Length
@@ -5,3 +6,4 @@ pub mod Spelled
 pub mod Form
 pub mod Stops
 pub mod Read
+pub mod Texts

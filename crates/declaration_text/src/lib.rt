@@ -1,4 +1,4 @@
-// The text of a declaration, put into a lent buffer.
+// The text of a declaration, put into a borrowed buffer.
 use book::Layout;
 use byte_buffer::put_all;
 use byte_buffer::put_some;
@@ -16,7 +16,7 @@ ghost use Rattle.book.specs.Access.{LaidOut};
 ghost use Rattle.model.specs.Record.{IsChain};
 ghost use Rattle.declaration_spelling.specs.House.{declaration};
 ghost use Rattle.byte_buffer.specs.Put.{Put};
-ghost use Rattle.declaration_factor.specs.Parts.{beforeByte, factorsText, modelText, textOf};
+ghost use Rattle.declaration_factor.specs.Parts.{beforeByte, factorsText, modelText};
 
 // What stands before factor i.
 fn before(i: usize) -> u8
@@ -53,25 +53,6 @@ fn put_model(buffer: &mut [u8], at: usize, bytes: &[u8], layout: Layout, m: Mode
     put_some(buffer, to, b')')
 }
 
-// The whole.
-fn put_text(
-    buffer: &mut [u8],
-    at: usize,
-    bytes: &[u8],
-    layout: Layout,
-    parent: usize,
-    m: Model,
-) -> usize
-    requires { ⌜ LaidOut (now bytes) layout × (parent < layout .names) × (at + length (textOf (namesIn (now bytes)) (layout .names) parent m) ≤ length (now buffer)) × (m .count ≤ places) ⌝ }
-    ensures { λ r. ⌜ Put (now (buffer .entry)) at (textOf (namesIn (now (bytes .entry))) (layout .names) parent m) r (now (buffer .exit)) ⌝ }
-{
-    let opened = put_all(buffer, at, b"<!ELEMENT ");
-    let named = put_name(buffer, opened, bytes, layout, parent);
-    let spaced = put_some(buffer, named, b' ');
-    let modelled = put_model(buffer, spaced, bytes, layout, m);
-    put_some(buffer, modelled, b'>')
-}
-
 // The declaration of a chain for a parent, of a book that was read, put into a buffer with room for it.
 pub fn put_declaration(
     buffer: &mut [u8],
@@ -84,5 +65,9 @@ pub fn put_declaration(
     requires { ⌜ LaidOut (now bytes) layout × (parent < layout .names) × IsChain places (layout .names) m × (at + length (declaration (namesIn (now bytes)) parent m) ≤ length (now buffer)) ⌝ }
     ensures { λ r. ⌜ Put (now (buffer .entry)) at (declaration (namesIn (now (bytes .entry))) parent m) r (now (buffer .exit)) ⌝ }
 {
-    put_text(buffer, at, bytes, layout, parent, m)
+    let opened = put_all(buffer, at, b"<!ELEMENT ");
+    let named = put_name(buffer, opened, bytes, layout, parent);
+    let spaced = put_some(buffer, named, b' ');
+    let modelled = put_model(buffer, spaced, bytes, layout, m);
+    put_some(buffer, modelled, b'>')
 }

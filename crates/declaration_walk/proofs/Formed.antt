@@ -8,7 +8,7 @@ use mathlib.Core.Option.{Option, none, some}
 use Rattle.name.specs.Rule.{isName}
 use Rattle.declaration_spelling.specs.Token.{Token, word, lpar, rpar, comma, bar, end, mark, other, behind, room}
 use Rattle.declaration_spelling.specs.House.{opening}
-use Rattle.declaration_spelling.specs.Form.{strip, Piece, Cut, cut, fits, spaced, tokens, parse, allForm, keptIf, formCut, formRest, formOf}
+use Rattle.declaration_spelling.specs.Form.{strip, SpacedToken, Cut, cut, fits, spaced, tokens, parse, allForm, keptIf, formCut, formRest, formOf}
 use Rattle.declaration_spelling.specs.Stops.{Form}
 use Rattle.declaration_spelling.proofs.Form.{parse-sound}
 use Rattle.declaration_walk.specs.Walk.{signalOf, stepOf, walk, isWord, fitsAfter, goodToken, accepts, acceptsRest, hasForm}
@@ -43,7 +43,7 @@ shuffle true true b h c = refl
 shuffle true false true h c = refl
 shuffle true false false h c = refl
 
-accepts-is : (s : ℕ) (t : Token) (gap : Bool) (ps : List Piece) → accepts s (isWord t) gap ps ≡ (spaced t gap ps && (allGood (tokens ps) && walk s (tokens ps)))
+accepts-is : (s : ℕ) (t : Token) (gap : Bool) (ps : List SpacedToken) → accepts s (isWord t) gap ps ≡ (spaced t gap ps && (allGood (tokens ps) && walk s (tokens ps)))
 unfolding accepts spaced tokens allGood walk
 accepts-is s t gap [] = refl
 accepts-is s t gap (p ∷ ps) =
@@ -58,11 +58,11 @@ and-false : (a : Bool) → (a && false) ≡ false
 and-false true = refl
 and-false false = refl
 
-lost-behind : (t : Token) (gap : Bool) (ps : List Piece) → accepts 11 (isWord t) gap ps ≡ false
+lost-behind : (t : Token) (gap : Bool) (ps : List SpacedToken) → accepts 11 (isWord t) gap ps ≡ false
 lost-behind t gap ps = accepts-is 11 t gap ps ∙ rw (← lost (tokens ps), and-false (allGood (tokens ps))) (and-false (spaced t gap ps))
 
 -- from nowhere nothing is accepted
-pub accepts-lost : (behindWord gap : Bool) (ps : List Piece) → accepts 11 behindWord gap ps ≡ false
+pub accepts-lost : (behindWord gap : Bool) (ps : List SpacedToken) → accepts 11 behindWord gap ps ≡ false
 unfolding isWord
 accepts-lost true gap ps = lost-behind (word []) gap ps
 accepts-lost false gap ps = lost-behind lpar gap ps

@@ -4,13 +4,13 @@ use Prim.Native.Nat.{ℕ, zero, suc}
 use mathlib.Core.Path.{_≡_, refl, _∙_, ap}
 use mathlib.Core.Bool.{Bool, true, false, _&&_}
 use mathlib.Core.List.{List, [], _∷_}
-use Rattle.name.specs.Class.{between, startByte, laterByte}
-use Rattle.name.specs.Rule.{goodLength, allLater, goodBytes, isName}
+use Rattle.name.specs.Rule.{isName}
 use Rattle.declaration_spelling.specs.Token.{Token, word}
-use Rattle.declaration_spelling.specs.House.{Factor, emptyWord}
+use Rattle.declaration_spelling.specs.House.{Factor}
 use Rattle.declaration_spelling.specs.Spelled.{markTokens, barsTokens, groupTokens, factorTokens, othersTokens, bodyTokens}
 use Rattle.declaration_spelling.specs.Form.{allNames, allFactors, allForm}
 use Rattle.declaration_spelling.specs.Stops.{Form}
+use Rattle.declaration_spelling.proofs.Bytes.{empty-name}
 use Rattle.declaration_walk.specs.Walk.{goodToken}
 
 unfoldable pub allGood : List Token → Bool
@@ -46,13 +46,9 @@ unfolding allGood goodToken othersTokens allFactors
 others-good [] = refl
 others-good (f ∷ fs) = factor-good f (othersTokens fs) ∙ ap (λ (b : Bool). allNames isName (f .names) && b) (others-good fs)
 
-empty-good : isName emptyWord ≡ true
-unfolding isName goodLength goodBytes allLater emptyWord laterByte startByte between
-empty-good = refl
-
 body-good : (fs : List (Factor (List ℕ))) → allGood (bodyTokens fs) ≡ allFactors isName fs
 unfolding allGood goodToken bodyTokens allFactors
-body-good [] = rw empty-good
+body-good [] = rw empty-name
 body-good (f ∷ fs) = factor-good f (othersTokens fs) ∙ ap (λ (b : Bool). allNames isName (f .names) && b) (others-good fs)
 
 pub form-good : (d : Form) → allGood (word (d .parent) ∷ bodyTokens (d .factors)) ≡ allForm isName d

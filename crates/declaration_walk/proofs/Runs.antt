@@ -54,6 +54,11 @@ lost (t ∷ ts) = lost ts ∙ sym (ap (λ (s : ℕ). walk s ts) (nowhere t))
     nowhere (mark m) = refl
     nowhere (other b) = refl
 
+-- for readers: the table leads nowhere from a single name in brackets, nor from a bar between factors
+pub borders : (stepOf 4 (signalOf rpar) ≡ 11) × (stepOf 7 (signalOf bar) ≡ 11)
+unfolding stepOf table signalOf
+borders = (refl, refl)
+
 -- but for the model, `EMPTY` is a word like any other
 either-word : (s r : ℕ) → stepOf s 2 ≡ r → stepOf s 1 ≡ r → (b : Bool) (ts : List Token) → walk r ts ≡ walk (stepOf s (cond b 2 1)) ts
 either-word s r p q true ts = ap (λ (k : ℕ). walk k ts) (sym p)

@@ -10,7 +10,7 @@ use lib.ListN.{getD}
 use Rattle.name.specs.Rule.{isName}
 use Rattle.declaration_spelling.specs.Token.{Token, word, lpar, rpar, comma, bar, end, mark, other}
 use Rattle.declaration_spelling.specs.House.{opening, emptyWord}
-use Rattle.declaration_spelling.specs.Form.{same, strip, Piece, cut}
+use Rattle.declaration_spelling.specs.Form.{same, strip, SpacedToken, cut}
 
 -- What a token is to the walk: 0 any other byte, 1 a word, 2 the word `EMPTY`, 3 `(`, 4 `)`, 5 `,`, 6 `|`, 7 `>`, 8 a
 -- mark.
@@ -85,7 +85,7 @@ goodToken (mark m) = true
 goodToken (other b) = true
 
 -- One walk for white space, names and form, from a state on.
-unfoldable pub accepts : ℕ → Bool → Bool → List Piece → Bool
+unfoldable pub accepts : ℕ → Bool → Bool → List SpacedToken → Bool
 accepts state behindWord gap [] = not gap && eqb state 10
 accepts state behindWord gap (p ∷ ps) =
     fitsAfter behindWord gap (p .token) && (goodToken (p .token) && accepts (stepOf state (signalOf (p .token))) (isWord (p .token)) (p .gap) ps)

@@ -12,7 +12,7 @@ use Rattle.chain_levels.specs.Chain.{singleAt, leadsAt, factors, factorsAt, fix
 use Rattle.chain_sample.specs.Sample.{chainOfWords}
 use Rattle.declaration_spelling.specs.Token.{markByte}
 use Rattle.declaration_spelling.specs.House.{members, factorsFrom, factorsOf, nameAt, namesAt, named, opening, emptyWord, markText, barsText, groupText, factorText, othersText, bodyText, houseText, declaration}
-use Rattle.demands_samples.specs.Text.{bytes}
+use Rattle.declaration_spelling.specs.Text.{bytes}
 use Rattle.demands_samples.specs.Samples.{lines, lineNames, letterNumber, lineWords, lineModel, lineDeclaration, printedDeclaration}
 
 -- Line by line, the declaration of the model that the rules give is the printed one.

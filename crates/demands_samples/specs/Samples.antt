@@ -10,7 +10,7 @@ use Rattle.nameset.specs.Places.{places}
 use Rattle.model.specs.declared.Model.{Model}
 use Rattle.chain_sample.specs.Sample.{chainOfWords}
 use Rattle.declaration_spelling.specs.House.{declaration}
-use Rattle.demands_samples.specs.Text.{bytes}
+use Rattle.declaration_spelling.specs.Text.{bytes}
 
 -- A line of the table: its names, its sample and its model.
 pub record Line : Type 0 where

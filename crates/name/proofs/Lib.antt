@@ -1,3 +1,4 @@
 pub mod Table
 pub mod Classes
+pub mod Words
 pub mod Ordering

@@ -1,3 +1,4 @@
 pub mod Class
 pub mod Rule
+pub mod Word
 pub mod Order

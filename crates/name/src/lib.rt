@@ -1,7 +1,8 @@
 // The rule for a name's bytes, and the order of names.
 ghost use mathlib.Core.Path.{_≡_};
 ghost use Rattle.name.specs.Class.{classOf, classTable};
-ghost use Rattle.name.specs.Rule.{goodLength, goodBytes};
+ghost use Rattle.name.specs.Rule.{goodLength, goodBytes, isName};
+ghost use Rattle.name.specs.Word.{wordByte};
 ghost use Rattle.name.specs.Order.{orderOf, rises};
 
 // The most bytes that a name has.
@@ -39,7 +40,7 @@ pub enum Order {
     Above,
 }
 
-// The whole table. It is made anew wherever it is asked for, so a loop asks once and lends it.
+// The whole table. It is made again wherever it is asked for, so a loop asks once and lends it.
 pub fn class_table() -> [u8; 256]
     ensures { λ r. ⌜ r ≡ classTable ⌝ }
 {
@@ -47,18 +48,19 @@ pub fn class_table() -> [u8; 256]
 }
 
 // The class of a byte by the table.
-pub fn class_in(classes: &[u8], byte: u8) -> u8
+fn class_in(classes: &[u8; 256], byte: u8) -> u8
     requires { ⌜ now classes ≡ classTable ⌝ }
     ensures { λ r. ⌜ r ≡ classOf byte ⌝ }
 {
     classes[byte as usize]
 }
 
-// The class of one byte.
-pub fn class_of(byte: u8) -> u8
-    ensures { λ r. ⌜ r ≡ classOf byte ⌝ }
+// Whether a byte is one of those that words are made of, by the table.
+pub fn in_word(classes: &[u8; 256], byte: u8) -> bool
+    requires { ⌜ now classes ≡ classTable ⌝ }
+    ensures { λ r. ⌜ r ≡ wordByte byte ⌝ }
 {
-    class_in(&class_table(), byte)
+    class_in(classes, byte) != NEITHER
 }
 
 // Whether a name may have this many bytes.
@@ -71,25 +73,44 @@ pub fn good_length(size: usize) -> bool
     size <= LONGEST
 }
 
-// Whether the bytes are those of a name, its length aside.
-pub fn good_bytes(bytes: &[u8]) -> bool
+// Whether the bytes are those of a name, its length aside, by the table.
+fn good_bytes_in(classes: &[u8; 256], bytes: &[u8]) -> bool
+    requires { ⌜ now classes ≡ classTable ⌝ }
     ensures { λ r. ⌜ r ≡ goodBytes (now (bytes .entry)) ⌝ }
 {
     if bytes.len() == 0 {
         return false;
     }
-    let classes = class_table();
-    if class_in(&classes, bytes[0]) != START {
+    if class_in(classes, bytes[0]) != START {
         return false;
     }
     let mut i = 1;
     while i < bytes.len() {
-        if class_in(&classes, bytes[i]) == NEITHER {
+        if class_in(classes, bytes[i]) == NEITHER {
             return false;
         }
         i += 1;
     }
     true
+}
+
+// Whether the bytes are those of a name, its length aside.
+pub fn good_bytes(bytes: &[u8]) -> bool
+    ensures { λ r. ⌜ r ≡ goodBytes (now (bytes .entry)) ⌝ }
+{
+    good_bytes_in(&class_table(), bytes)
+}
+
+// Whether the bytes are a name, by the table.
+pub fn is_name(classes: &[u8; 256], bytes: &[u8]) -> bool
+    requires { ⌜ now classes ≡ classTable ⌝ }
+    ensures { λ r. ⌜ r ≡ isName (now (bytes .entry)) ⌝ }
+{
+    if good_length(bytes.len()) {
+        good_bytes_in(classes, bytes)
+    } else {
+        false
+    }
 }
 
 pub fn compare(a: &[u8], b: &[u8]) -> Order

@@ -13,8 +13,9 @@ use Rattle.declaration_factor.proofs.put_factor.Tie as tie
 -- `many` says whether the factor has more than one name
 many : (c : tie.After-is-empty) → not (c .is-empty .result) ≡ manyIn (c .before .before .before .before .args .layout .names) (c .before .before .before .before .args .m) (c .before .before .before .before .args .i)
 many c =
-    let sized : Sized (c .before .before .before .before .args .names) = search needs in
-    many-is _ _ _ _ (c .before .before .before .before .pre .2) sized _ _ (c .before .rest .ensures .same) (c .is-empty .ensures .same)
+    let start = c .before .before .before .before in
+    let sized : Sized (start .args .names) = search needs in
+    many-is _ _ _ _ (start .pre .2) sized _ _ (c .before .rest .ensures .same) (c .is-empty .ensures .same)
 
 rest-requires : tie.Need-rest-requires
 rest-requires c κs = search needs
@@ -32,8 +33,10 @@ closing-requires c κs = search needs
 
 put-some-requires : tie.Need-put-some-requires
 put-some-requires c κs =
-    let pre = c .before .before .before .before .before .before .before .before .before .before .pre in
-    close-room _ _ _ _ _ (pre .2) _ (many (c .before .before .before .before .before .before)) _ _ (pre .1) _ _ (c .before .before .before .before .put-names .ensures) _ (c .closing .ensures)
+    let named = c .before .before .before .before in
+    let tested = named .before .before in
+    let pre = tested .before .before .before .before .pre in
+    close-room _ _ _ _ _ (pre .2) _ (many tested) _ _ (pre .1) _ _ (named .put-names .ensures) _ (c .closing .ensures)
 
 mode-of-requires : tie.Need-mode-of-requires
 mode-of-requires c κs = search needs
@@ -43,16 +46,27 @@ mark-requires c κs = search needs
 
 put-some-requires-2 : tie.Need-put-some-requires-2
 put-some-requires-2 c κs =
-    let pre = c .before .before .before .before .before .before .before .before .before .before .before .before .before .before .before .before .pre in
-    mark-room _ _ _ _ _ (pre .2) _ (many (c .before .before .before .before .before .before .before .before .before .before .before .before)) _ _ (pre .1) _ _ (c .before .before .before .before .before .before .before .before .before .before .put-names .ensures) _ (c .before .before .before .before .before .before .closing .ensures) _ _ (c .before .before .before .before .before .put-some .ensures) _ _ (c .mark .ensures) (c .before .mode-of .ensures)
+    let closed = c .before .before .before .before .before in
+    let named = closed .before .before .before .before .before in
+    let tested = named .before .before in
+    let pre = tested .before .before .before .before .pre in
+    mark-room _ _ _ _ _ (pre .2) _ (many tested) _ _ (pre .1) _ _ (named .put-names .ensures) _ (closed .before .closing .ensures) _ _ (closed .put-some .ensures) _ _ (c .mark .ensures) (c .before .mode-of .ensures)
 
 same-length : tie.Need-same-length
-same-length c = c .before .before .put-some2 .ensures .same ∙ c .before .before .before .before .before .before .before .before .put-some .ensures .same ∙ c .before .before .before .before .before .before .before .before .before .before .before .before .before .put-names .ensures .same
+same-length c =
+    let marked = c .before .before in
+    let closed = marked .before .before .before .before .before .before in
+    let named = closed .before .before .before .before .before in
+    marked .put-some2 .ensures .same ∙ closed .put-some .ensures .same ∙ named .put-names .ensures .same
 
 returns : tie.Need-returns
 returns c =
-    let pre = c .before .before .before .before .before .before .before .before .before .before .before .before .before .before .before .before .before .before .before .pre in
-    factor-put _ _ _ _ _ (pre .2) _ (many (c .before .before .before .before .before .before .before .before .before .before .before .before .before .before .before)) _ _ (pre .1) _ _ (c .before .before .before .before .before .before .before .before .before .before .before .before .before .put-names .ensures) _ (c .before .before .before .before .before .before .before .before .before .closing .ensures) _ _ (c .before .before .before .before .before .before .before .before .put-some .ensures) _ _ (c .before .before .before .mark .ensures) (c .before .before .before .before .mode-of .ensures) _ _ (c .before .before .put-some2 .ensures)
+    let marked = c .before .before in
+    let closed = marked .before .before .before .before .before .before in
+    let named = closed .before .before .before .before .before in
+    let tested = named .before .before in
+    let pre = tested .before .before .before .before .pre in
+    factor-put _ _ _ _ _ (pre .2) _ (many tested) _ _ (pre .1) _ _ (named .put-names .ensures) _ (closed .before .closing .ensures) _ _ (closed .put-some .ensures) _ _ (marked .before .mark .ensures) (marked .before .before .mode-of .ensures) _ _ (marked .put-some2 .ensures)
 
 pub put-factor-spec : {M : Type 1} → statement M
 put-factor-spec =

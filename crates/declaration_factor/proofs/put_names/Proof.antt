@@ -8,7 +8,7 @@ use borrow.Author.Tests.{not-true, not-false}
 use Rattle.nameset.specs.Set.{isEmpty, rest, size}
 use Rattle.book.specs.Book.{namesIn}
 use Rattle.byte_buffer.proofs.Puts.{Left, left-start}
-use Rattle.declaration_factor.specs.Parts.{rising, Within, setText}
+use Rattle.declaration_factor.specs.Parts.{rising, MembersBelow, setText}
 use Rattle.declaration_factor.proofs.Rising.{rising-next, within-rest}
 use Rattle.declaration_factor.proofs.Steps.{lead-room, member-room, names-more, names-done}
 use Rattle.declaration_factor.proofs.put_names.Statement.{statement}
@@ -16,7 +16,7 @@ use Rattle.declaration_factor.proofs.put_names.Tie as tie
 
 abbrev Inv-loop : tie.InvT-loop
 Inv-loop buffer₀ at bytes layout many to₀ some₀ left₀ buffer to some left =
-    Left buffer₀ at (setText (namesIn bytes) (layout .names) left₀ many false) buffer to (setText (namesIn bytes) (layout .names) left many some) × Within (layout .names) left
+    Left buffer₀ at (setText (namesIn bytes) (layout .names) left₀ many false) buffer to (setText (namesIn bytes) (layout .names) left many some) × MembersBelow (layout .names) left
 
 abbrev μ-loop : tie.MeasureT-loop
 μ-loop buffer₀ at bytes layout many to₀ some₀ left₀ buffer to some left = size left
@@ -43,28 +43,38 @@ lead-requires : tie.Need-lead-requires Inv-loop μ-loop
 lead-requires c κs = search needs
 
 put-some-requires : tie.Need-put-some-requires Inv-loop μ-loop
-put-some-requires c κs = lead-room _ _ _ _ _ _ _ (turn (c .before .before)) (c .lead .ensures) _ _ _ _ _ (c .before .before .before .before .before .loop .inv .0) (c .before .before .before .before .before .before .before .before .pre .1)
+put-some-requires c κs =
+    let first = c .before .before in
+    let head = first .before .before .before in
+    lead-room _ _ _ _ _ _ _ (turn first) (c .lead .ensures) _ _ _ _ _ (head .loop .inv .0) (head .before .before .before .pre .1)
 
 put-name-requires : tie.Need-put-name-requires Inv-loop μ-loop
 put-name-requires c κs =
-    let first = c .before .before .before .before .before .before in
-    let inv = first .before .before .before .loop .inv in (
-      first .before .before .before .before .before .before .pre .0,
-      inv .1 _ (first .first .ensures .found (some-left (first .before)) .1),
-      member-room _ _ _ _ _ _ _ (turn first) (c .before .before .before .before .lead .ensures) _ _ _ _ _ (inv .0) _ _ (c .before .before .before .put-some .ensures) (first .before .before .before .before .before .before .pre .1),
+    let put = c .before .before .before in
+    let first = put .before .before .before in
+    let head = first .before .before .before in
+    let pre = head .before .before .before .pre in (
+      pre .0,
+      head .loop .inv .1 _ (first .first .ensures .found (some-left (first .before)) .1),
+      member-room _ _ _ _ _ _ _ (turn first) (put .before .lead .ensures) _ _ _ _ _ (head .loop .inv .0) _ _ (put .put-some .ensures) (pre .1),
     )
 
 rest-requires : tie.Need-rest-requires Inv-loop μ-loop
 rest-requires c κs = search needs
 
 loop-less : tie.Need-loop-less Inv-loop μ-loop
-loop-less c = c .rest .ensures .smaller (some-left (c .before .before .before .before .before .before .before .before .before .before .before))
+loop-less c =
+    let named = c .before .before .before in
+    let put = named .before .before .before .before in
+    c .rest .ensures .smaller (some-left (put .before .before .before .before))
 
 loop-again : tie.Need-loop-again Inv-loop μ-loop
 loop-again c =
-    let first = c .before .before .before .before .before .before .before .before .before .before in
+    let named = c .before .before .before in
+    let put = named .before .before .before .before in
+    let first = put .before .before .before in
     let inv = first .before .before .before .loop .inv in (
-      names-more _ _ _ _ _ _ _ (turn first) (c .before .before .before .before .before .before .before .before .lead .ensures) _ _ _ _ _ (inv .0) _ _ (c .before .before .before .before .before .before .before .put-some .ensures) _ _ (c .before .before .before .put-name .ensures) _ (c .rest .ensures .same),
+      names-more _ _ _ _ _ _ _ (turn first) (put .before .lead .ensures) _ _ _ _ _ (inv .0) _ _ (put .put-some .ensures) _ _ (named .put-name .ensures) _ (c .rest .ensures .same),
       within-rest _ _ _ (c .rest .ensures .same) (inv .1),
     )
 

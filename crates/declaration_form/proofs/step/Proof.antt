@@ -13,37 +13,60 @@ fits-requires : tie.Need-fits-requires
 fits-requires c κs = search needs
 
 returns : tie.Need-returns
-returns c = (step-unfit (c .before .before .before .args .text .now) _ _ _ (c .before .before .before .pre .0 .0) (c .before .before .before .pre .0 .1) (c .before .before .before .pre .0 .3) _ _ _ (sym (c .before .fits2 .ensures) ∙ not-true _ (c .if1 .taken)), omega arith)
+returns c =
+    let start = c .before .before .before in
+    let p = start .pre .0 in
+    (step-unfit (start .args .text .now) _ _ _ (p .0) (p .1) (p .3) _ _ _ (sym (c .before .fits2 .ensures) ∙ not-true _ (c .if1 .taken)), omega arith)
 
 sign-signal-requires : tie.Need-sign-signal-requires
-sign-signal-requires c κs = here-kind (c .before .before .before .before .before .args .text .now) _ _ _ (c .before .before .before .before .before .pre .0 .0) (c .before .before .before .before .before .pre .0 .1) (c .before .before .before .before .before .pre .0 .3)
+sign-signal-requires c κs =
+    let start = c .before .before .before .before .before in
+    let p = start .pre .0 in
+    here-kind (start .args .text .now) _ _ _ (p .0) (p .1) (p .3)
 
 next-state-requires : tie.Need-next-state-requires
 next-state-requires c κs = search needs
 
 returns-2 : tie.Need-returns-2
-returns-2 c = (c .next-state .ensures .0 ∙ step-sign (c .before .before .before .before .before .before .before .args .text .now) _ _ _ (c .before .before .before .before .before .before .before .pre .0 .0) (c .before .before .before .before .before .before .before .pre .0 .1) (c .before .before .before .before .before .before .before .pre .0 .3) _ _ _ (sym (c .before .before .before .before .before .fits2 .ensures) ∙ not-false _ (c .before .before .before .before .if1 .left)) _ (c .before .sign-signal .ensures .0) (c .before .before .if2 .taken), c .next-state .ensures .1)
-
-sub-good-word : tie.Need-sub-good-word
-sub-good-word c = let h = here-on (c .before .before .before .before .before .args .text .now) _ _ _ (c .before .before .before .before .before .pre .0 .0) (c .before .before .before .before .before .pre .0 .1) (c .before .before .before .before .before .pre .0 .3) in omega arith
-
-shared-slice-read-good-word : tie.Need-shared-slice-read-good-word
-shared-slice-read-good-word c = search needs
+returns-2 c =
+    let fitted = c .before .before .before .before in
+    let start = fitted .before .before .before in
+    let p = start .pre .0 in
+    let fit = sym (fitted .before .fits2 .ensures) ∙ not-false _ (fitted .if1 .left) in
+    (c .next-state .ensures .0 ∙ step-sign (start .args .text .now) _ _ _ (p .0) (p .1) (p .3) _ _ _ fit _ (c .before .sign-signal .ensures .0) (c .before .before .if2 .taken), c .next-state .ensures .1)
 
 good-word-requires : tie.Need-good-word-requires
-good-word-requires c κs = search needs
+good-word-requires c κs =
+    let start = c .before .before .before .before .before in
+    let p = start .pre .0 in
+    let h = here-on (start .args .text .now) _ _ _ (p .0) (p .1) (p .3) in
+    (start .pre .2, omega arith, p .2)
 
 returns-3 : tie.Need-returns-3
-returns-3 c = (step-bad (c .before .before .before .before .before .before .before .before .args .text .now) _ _ _ (c .before .before .before .before .before .before .before .before .pre .0 .0) (c .before .before .before .before .before .before .before .before .pre .0 .1) (c .before .before .before .before .before .before .before .before .pre .0 .3) _ _ _ (c .before .before .before .if2 .left) (sym (c .before .good-word .ensures) ∙ not-true _ (c .if3 .taken)), omega arith)
+returns-3 c =
+    let start = c .before .before .before .before .before .before .before in
+    let p = start .pre .0 in
+    (step-bad (start .args .text .now) _ _ _ (p .0) (p .1) (p .3) _ _ _ (c .before .before .if2 .left) (sym (c .before .good-word .ensures) ∙ not-true _ (c .if3 .taken)), omega arith)
 
 word-signal-requires : tie.Need-word-signal-requires
-word-signal-requires c κs = let h = here-on (c .before .before .before .before .before .before .before .before .args .text .now) _ _ _ (c .before .before .before .before .before .before .before .before .pre .0 .0) (c .before .before .before .before .before .before .before .before .pre .0 .1) (c .before .before .before .before .before .before .before .before .pre .0 .3) in (omega arith, c .before .before .before .before .before .before .before .before .pre .0 .2)
+word-signal-requires c κs =
+    let start = c .before .before .before .before .before .before .before in
+    let p = start .pre .0 in
+    let h = here-on (start .args .text .now) _ _ _ (p .0) (p .1) (p .3) in
+    (omega arith, p .2)
 
 next-state-requires-2 : tie.Need-next-state-requires-2
 next-state-requires-2 c κs = search needs
 
 returns-4 : tie.Need-returns-4
-returns-4 c = (c .next-state2 .ensures .0 ∙ step-word (c .before .before .before .before .before .before .before .before .before .before .args .text .now) _ _ _ (c .before .before .before .before .before .before .before .before .before .before .pre .0 .0) (c .before .before .before .before .before .before .before .before .before .before .pre .0 .1) (c .before .before .before .before .before .before .before .before .before .before .pre .0 .3) _ _ _ (sym (c .before .before .before .before .before .before .before .before .fits2 .ensures) ∙ not-false _ (c .before .before .before .before .before .before .before .if1 .left)) _ (c .before .word-signal .ensures .0) (c .before .before .before .before .before .if2 .left) (sym (c .before .before .before .good-word .ensures) ∙ not-false _ (c .before .before .if3 .left)), c .next-state2 .ensures .1)
+returns-4 c =
+    let judged = c .before .before .before in
+    let fitted = judged .before .before .before in
+    let start = fitted .before .before .before in
+    let p = start .pre .0 in
+    let fit = sym (fitted .before .fits2 .ensures) ∙ not-false _ (fitted .if1 .left) in
+    let good = sym (judged .good-word .ensures) ∙ not-false _ (c .before .before .if3 .left) in
+    (c .next-state2 .ensures .0 ∙ step-word (start .args .text .now) _ _ _ (p .0) (p .1) (p .3) _ _ _ fit _ (c .before .word-signal .ensures .0) (judged .before .if2 .left) good, c .next-state2 .ensures .1)
 
 pub step-spec : {M : Type 1} → statement M
 step-spec =
@@ -54,8 +77,6 @@ step-spec =
     sign-signal-requires
     next-state-requires
     returns-2
-    sub-good-word
-    shared-slice-read-good-word
     good-word-requires
     returns-3
     word-signal-requires

@@ -41,13 +41,21 @@ refused-requires : tie.Need-refused-requires Inv-loop μ-loop
 refused-requires c κs = tt
 
 returns : tie.Need-returns Inv-loop μ-loop
-returns c = factors-unknown _ _ _ _ _ _ _ _ (c .before .before .before .before .before .loop .inv .5) (c .before .before .before .before .before .loop .inv .4) _ (known-stop _ _ _ (c .before .before .before .piece-at .ensures .0) _ _ (unknown-kind _ _ (c .before .before .before .before .before .before .before .before .pre .0) _ _ _ (c .before .before .number-at .ensures .0) (c .before .if1 .taken)) refl) (c .refused .ensures)
+returns c =
+    let numbered = c .before .before in
+    let head = numbered .before .before .before in
+    let laid = head .before .before .before .pre .0 in
+    let unknown = unknown-kind _ _ laid _ _ _ (numbered .number-at .ensures .0) (c .before .if1 .taken) in
+    factors-unknown _ _ _ _ _ _ _ _ (head .loop .inv .5) (head .loop .inv .4) _ (known-stop _ _ _ (numbered .before .piece-at .ensures .0) _ _ unknown refl) (c .refused .ensures)
 
 slice-aggregate-place-piece : tie.Need-slice-aggregate-place-piece Inv-loop μ-loop
 slice-aggregate-place-piece c = search needs
 
 place-piece-requires : tie.Need-place-piece-requires Inv-loop μ-loop
-place-piece-requires c κs = (inside _ (c .before .before .before .before .before .loop .factor) (c .before .before .number-at .ensures .1) (c .before .if1 .left) (c .before .before .before .before .before .loop .inv .2), c .before .before .before .before .before .loop .inv .1)
+place-piece-requires c κs =
+    let numbered = c .before .before in
+    let head = numbered .before .before .before in
+    (inside _ (head .loop .factor) (numbered .number-at .ensures .1) (c .before .if1 .left) (head .loop .inv .2), head .loop .inv .1)
 
 slice-aggregate-put-mode : tie.Need-slice-aggregate-put-mode Inv-loop μ-loop
 slice-aggregate-put-mode c = search needs
@@ -56,35 +64,70 @@ mode-of-requires : tie.Need-mode-of-requires Inv-loop μ-loop
 mode-of-requires c κs = tt
 
 put-mode-requires : tie.Need-put-mode-requires Inv-loop μ-loop
-put-mode-requires c κs = omega (arith, c .before .before .before .before .before .before .before .before .before .loop .inv .1, c .before .before .before .before .before .before .before .before .before .loop .inv .3)
+put-mode-requires c κs =
+    let placed = c .before .before .before in
+    let head = placed .before .before .before .before .before .before in
+    omega (arith, head .loop .inv .1, head .loop .inv .3)
 
 next-index-requires : tie.Need-next-index-requires Inv-loop μ-loop
-next-index-requires c κs = c .before .before .before .before .before .before .before .before .before .before .before .loop .inv .1
+next-index-requires c κs =
+    let placed = c .before .before .before .before .before in
+    let head = placed .before .before .before .before .before .before in
+    head .loop .inv .1
 
 fine-requires : tie.Need-fine-requires Inv-loop μ-loop
 fine-requires c κs = tt
 
 twice-requires : tie.Need-twice-requires Inv-loop μ-loop
-twice-requires c κs = (c .before .before .before .before .before .before .before .before .before .before .before .before .before .before .before .before .before .pre .0, c .before .before .before .before .before .before .before .before .before .before .before .before .piece-at .ensures .1)
+twice-requires c κs =
+    let moded = c .before .before .before .before in
+    let placed = moded .before .before .before .before in
+    let numbered = placed .before .before .before in
+    let head = numbered .before .before .before in
+    (head .before .before .before .pre .0, numbered .before .piece-at .ensures .1)
 
 returns-2 : tie.Need-returns-2 Inv-loop μ-loop
 returns-2 c =
-    factors-twice _ _ _ _ _ _ _ _ (c .before .before .before .before .before .before .before .before .before .before .before .before .before .before .before .loop .inv .5) (c .before .before .before .before .before .before .before .before .before .before .before .before .before .before .before .loop .inv .4) _ _
-    (known-on _ _ _ (c .before .before .before .before .before .before .before .before .before .before .before .before .before .piece-at .ensures .0) _ _ (known-kind _ _ (c .before .before .before .before .before .before .before .before .before .before .before .before .before .before .before .before .before .before .pre .0) _ _ _ (c .before .before .before .before .before .before .before .before .before .before .before .before .number-at .ensures .0) (c .before .before .before .before .before .before .before .before .before .before .before .if1 .left)) refl)
-    (left-stop _ _ _ _ (c .before .before .before .before .before .before .before .before .before .before .before .before .before .piece-at .ensures .0) _ _ _ (c .before .before .before .before .before .before .before .before .before .before .before .before .before .before .before .loop .inv .1) _ _ (placed-same _ _ _ _ _ _ _ (number-same _ _ (c .before .before .before .before .before .before .before .before .before .before .before .before .before .before .before .before .before .before .pre .0) _ _ _ (c .before .before .before .before .before .before .before .before .before .before .before .before .number-at .ensures .0) (c .before .before .before .before .before .before .before .before .before .before .before .if1 .left)) (c .before .before .before .before .before .before .before .before .before .place-piece .ensures)) _ (c .before .before .before .before .before .before .mode-of .ensures) _ (c .before .before .before .before .before .put-mode .ensures) _ (c .before .before .before .next-index .ensures) _ (c .before .before .fine .ensures) (not-true _ (c .before .if2 .taken))) (c .twice .ensures)
+    let moded = c .before .before .before .before .before in
+    let placed = moded .before .before .before .before in
+    let numbered = placed .before .before .before in
+    let head = numbered .before .before .before in
+    let laid = head .before .before .before .pre .0 in
+    let piece = numbered .before .piece-at .ensures .0 in
+    let number = numbered .number-at .ensures .0 in
+    let there = placed .before .before .if1 .left in
+    factors-twice _ _ _ _ _ _ _ _ (head .loop .inv .5) (head .loop .inv .4) _ _
+    (known-on _ _ _ piece _ _ (known-kind _ _ laid _ _ _ number there) refl)
+    (left-stop _ _ _ _ piece _ _ _ (head .loop .inv .1) _ _ (placed-same _ _ _ _ _ _ _ (number-same _ _ laid _ _ _ number there) (placed .place-piece .ensures)) _ (moded .before .mode-of .ensures) _ (moded .put-mode .ensures) _ (c .before .before .before .next-index .ensures) _ (c .before .before .fine .ensures) (not-true _ (c .before .if2 .taken)))
+    (c .twice .ensures)
 
 loop-less : tie.Need-loop-less Inv-loop μ-loop
-loop-less c = let h = onward-to _ _ _ (c .before .before .before .before .before .before .before .before .before .before .before .before .piece-at .ensures .0) (c .before .before .before .before .before .before .before .before .before .before .before .before .before .loop-test .taken) in omega arith
+loop-less c =
+    let moded = c .before .before .before .before in
+    let placed = moded .before .before .before .before in
+    let numbered = placed .before .before .before in
+    let h = onward-to _ _ _ (numbered .before .piece-at .ensures .0) (numbered .before .before .loop-test .taken) in
+    omega arith
 
 loop-again : tie.Need-loop-again Inv-loop μ-loop
-loop-again c = (
-  c .before .before .before .before .before .before .before .before .before .before .before .before .piece-at .ensures .1,
-  inside-on _ _ _ _ (c .before .before .before .before .before .before .before .before .before .before .before .before .piece-at .ensures .0) _ _ _ (c .before .before .before .before .before .before .before .before .before .before .before .before .before .before .loop .inv .1) _ _ (placed-same _ _ _ _ _ _ _ (number-same _ _ (c .before .before .before .before .before .before .before .before .before .before .before .before .before .before .before .before .before .pre .0) _ _ _ (c .before .before .before .before .before .before .before .before .before .before .before .number-at .ensures .0) (c .before .before .before .before .before .before .before .before .before .before .if1 .left)) (c .before .before .before .before .before .before .before .before .place-piece .ensures)) _ (c .before .before .before .before .before .mode-of .ensures) _ (c .before .before .before .before .put-mode .ensures) _ (c .before .before .next-index .ensures) _ (c .before .fine .ensures) (not-false _ (c .if2 .left)),
-  c .before .before .before .before .before .before .before .before .place-piece .ensures .2 ∙ c .before .before .before .before .before .before .before .before .before .before .before .before .before .before .loop .inv .2,
-  c .before .before .before .before .put-mode .ensures .1 ∙ c .before .before .before .before .before .before .before .before .before .before .before .before .before .before .loop .inv .3,
-  c .before .before .before .before .before .before .before .before .before .before .before .before .before .before .loop .inv .4 ∙ left-on _ _ _ _ (c .before .before .before .before .before .before .before .before .before .before .before .before .piece-at .ensures .0) _ _ _ (c .before .before .before .before .before .before .before .before .before .before .before .before .before .before .loop .inv .1) _ _ (placed-same _ _ _ _ _ _ _ (number-same _ _ (c .before .before .before .before .before .before .before .before .before .before .before .before .before .before .before .before .before .pre .0) _ _ _ (c .before .before .before .before .before .before .before .before .before .before .before .number-at .ensures .0) (c .before .before .before .before .before .before .before .before .before .before .if1 .left)) (c .before .before .before .before .before .before .before .before .place-piece .ensures)) _ (c .before .before .before .before .before .mode-of .ensures) _ (c .before .before .before .before .put-mode .ensures) _ (c .before .before .next-index .ensures) _ (c .before .fine .ensures) (not-false _ (c .if2 .left)),
-  c .before .before .before .before .before .before .before .before .before .before .before .before .before .before .loop .inv .5 ∙ known-on _ _ _ (c .before .before .before .before .before .before .before .before .before .before .before .before .piece-at .ensures .0) _ _ (known-kind _ _ (c .before .before .before .before .before .before .before .before .before .before .before .before .before .before .before .before .before .pre .0) _ _ _ (c .before .before .before .before .before .before .before .before .before .before .before .number-at .ensures .0) (c .before .before .before .before .before .before .before .before .before .before .if1 .left)) refl,
-)
+loop-again c =
+    let moded = c .before .before .before .before in
+    let placed = moded .before .before .before .before in
+    let numbered = placed .before .before .before in
+    let head = numbered .before .before .before in
+    let laid = head .before .before .before .pre .0 in
+    let piece = numbered .before .piece-at .ensures .0 in
+    let number = numbered .number-at .ensures .0 in
+    let there = placed .before .before .if1 .left in
+    let next = c .before .before .next-index .ensures in
+    (
+      numbered .before .piece-at .ensures .1,
+      inside-on _ _ _ _ piece _ _ _ (head .loop .inv .1) _ _ (placed-same _ _ _ _ _ _ _ (number-same _ _ laid _ _ _ number there) (placed .place-piece .ensures)) _ (moded .before .mode-of .ensures) _ (moded .put-mode .ensures) _ next _ (c .before .fine .ensures) (not-false _ (c .if2 .left)),
+      placed .place-piece .ensures .2 ∙ head .loop .inv .2,
+      moded .put-mode .ensures .1 ∙ head .loop .inv .3,
+      head .loop .inv .4 ∙ left-on _ _ _ _ piece _ _ _ (head .loop .inv .1) _ _ (placed-same _ _ _ _ _ _ _ (number-same _ _ laid _ _ _ number there) (placed .place-piece .ensures)) _ (moded .before .mode-of .ensures) _ (moded .put-mode .ensures) _ next _ (c .before .fine .ensures) (not-false _ (c .if2 .left)),
+      head .loop .inv .5 ∙ known-on _ _ _ piece _ _ (known-kind _ _ laid _ _ _ number there) refl,
+    )
 
 add-t24 : tie.Need-add-t24 Inv-loop μ-loop
 add-t24 c = search needs

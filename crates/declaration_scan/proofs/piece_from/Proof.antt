@@ -1,7 +1,7 @@
--- `piece_from` meets its contract: a word where a run of name bytes begins, else a sign.
+-- `piece_from` meets its contract: a word where a run of the bytes of words begins, else a sign.
 -- Assumes nothing.
 use mathlib.Core.Path.{sym, _∙_, ap}
-use Rattle.name.specs.Class.{laterByte}
+use Rattle.name.specs.Word.{wordByte}
 use Rattle.declaration_scan.specs.Unread.{signKind}
 use Rattle.declaration_scan.proofs.Runs.{kind-word, kind-sign}
 use Rattle.declaration_scan.proofs.Pieces.{end-word, word-here, no-word-here, piece-is}
@@ -17,16 +17,22 @@ run-end-requires c κs = (c .before .before .pre .0, c .sign-kind .ensures ∙ a
 
 returns : tie.Need-returns
 returns c =
-    let w = word-here (c .before .before .before .before .args .text .now) _ _ (c .before .before .before .before .pre .1) _ (c .before .run-end .ensures .0) (c .if1 .taken) in
-    (piece-is (c .before .before .before .before .args .text .now) _ _ _ _ _ (c .before .before .before .before .pre .1) (kind-word _ w) (end-word (c .before .before .before .before .args .text .now) _ _ (c .before .before .before .before .pre .1) _ w (c .before .run-end .ensures .0)), c .before .run-end .ensures .1)
+    let start = c .before .before .before .before in
+    let ends = c .before .run-end .ensures in
+    let w = word-here (start .args .text .now) _ _ (start .pre .1) _ (ends .0) (c .if1 .taken) in
+    (piece-is (start .args .text .now) _ _ _ _ _ (start .pre .1) (kind-word _ w) (end-word (start .args .text .now) _ _ (start .pre .1) _ w (ends .0)), ends .1)
 
 sign-end-requires : tie.Need-sign-end-requires
-sign-end-requires c κs = (c .before .before .before .before .pre .0, sym (ap laterByte (c .before .before .before .before .pre .1)) ∙ no-word-here (c .before .before .before .before .args .text .now) _ _ (c .before .before .before .before .pre .1) _ (c .before .run-end .ensures .0) (c .if1 .left))
+sign-end-requires c κs =
+    let start = c .before .before .before .before in
+    let w = no-word-here (start .args .text .now) _ _ (start .pre .1) _ (c .before .run-end .ensures .0) (c .if1 .left) in
+    (start .pre .0, sym (ap wordByte (start .pre .1)) ∙ w)
 
 returns-2 : tie.Need-returns-2
 returns-2 c =
-    let w = no-word-here (c .before .before .before .before .before .args .text .now) _ _ (c .before .before .before .before .before .pre .1) _ (c .before .before .run-end .ensures .0) (c .before .if1 .left) in
-    (piece-is (c .before .before .before .before .before .args .text .now) _ _ _ _ _ (c .before .before .before .before .before .pre .1) (kind-sign _ _ w (c .before .before .before .sign-kind .ensures)) (c .sign-end .ensures .0), c .sign-end .ensures .1)
+    let start = c .before .before .before .before .before in
+    let w = no-word-here (start .args .text .now) _ _ (start .pre .1) _ (c .before .before .run-end .ensures .0) (c .before .if1 .left) in
+    (piece-is (start .args .text .now) _ _ _ _ _ (start .pre .1) (kind-sign _ _ w (c .before .before .before .sign-kind .ensures)) (c .sign-end .ensures .0), c .sign-end .ensures .1)
 
 pub piece-from-spec : {M : Type 1} → statement M
 piece-from-spec =

@@ -26,16 +26,31 @@ is-space-requires : tie.Need-is-space-requires Inv-loop μ-loop
 is-space-requires c κs = search needs
 
 add-i : tie.Need-add-i Inv-loop μ-loop
-add-i c = let h = run-there isSpace space-end (c .before .before .before .before .before .args .text .now) (c .before .before .before .loop .i) _ (c .before .before .next-unread .ensures .0) (sym (c .before .is-space .ensures) ∙ c .if1 .taken) in omega arith
+add-i c =
+    let head = c .before .before .before in
+    let h = run-there isSpace space-end (head .before .before .args .text .now) (head .loop .i) _ (c .before .before .next-unread .ensures .0) (sym (c .before .is-space .ensures) ∙ c .if1 .taken) in
+    omega arith
 
 loop-less : tie.Need-loop-less Inv-loop μ-loop
-loop-less c = let h = run-there isSpace space-end (c .before .before .before .before .before .args .text .now) (c .before .before .before .loop .i) _ (c .before .before .next-unread .ensures .0) (sym (c .before .is-space .ensures) ∙ c .if1 .taken) in omega arith
+loop-less c =
+    let head = c .before .before .before in
+    let h = run-there isSpace space-end (head .before .before .args .text .now) (head .loop .i) _ (c .before .before .next-unread .ensures .0) (sym (c .before .is-space .ensures) ∙ c .if1 .taken) in
+    omega arith
 
 loop-again : tie.Need-loop-again Inv-loop μ-loop
-loop-again c = let h = run-there isSpace space-end (c .before .before .before .before .before .args .text .now) (c .before .before .before .loop .i) _ (c .before .before .next-unread .ensures .0) (sym (c .before .is-space .ensures) ∙ c .if1 .taken) in (omega arith, c .before .before .before .loop .inv .1 ∙ run-on isSpace space-end (c .before .before .before .before .before .args .text .now) _ _ (c .before .before .next-unread .ensures .0) (sym (c .before .is-space .ensures) ∙ c .if1 .taken))
+loop-again c =
+    let head = c .before .before .before in
+    let text = head .before .before .args .text .now in
+    let is = c .before .before .next-unread .ensures .0 in
+    let e = sym (c .before .is-space .ensures) ∙ c .if1 .taken in
+    let h = run-there isSpace space-end text (head .loop .i) _ is e in
+    (omega arith, head .loop .inv .1 ∙ run-on isSpace space-end text _ _ is e)
 
 returns : tie.Need-returns Inv-loop μ-loop
-returns c = (sym (run-over isSpace space-end (c .before .before .before .before .before .args .text .now) _ _ (c .before .before .next-unread .ensures .0) (sym (c .before .is-space .ensures) ∙ c .if1 .left)) ∙ sym (c .before .before .before .loop .inv .1) ∙ stop-is _ _ _, omega arith)
+returns c =
+    let head = c .before .before .before in
+    let over = run-over isSpace space-end (head .before .before .args .text .now) _ _ (c .before .before .next-unread .ensures .0) (sym (c .before .is-space .ensures) ∙ c .if1 .left) in
+    (sym over ∙ sym (head .loop .inv .1) ∙ stop-is _ _ _, omega arith)
 
 pub skip-spaces-spec : {M : Type 1} → statement M
 skip-spaces-spec =

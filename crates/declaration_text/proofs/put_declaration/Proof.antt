@@ -1,17 +1,85 @@
--- `put_declaration` meets its contract: what is put from left to right is the house spelling.
+-- `put_declaration` meets its contract: the parts, one after the other, are the canonical form.
 -- Assumes nothing.
+use mathlib.Core.Path.{_∙_}
+use Rattle.declaration_text.proofs.Steps.{opening-room, parent-room, space-room, model-room, end-room, text-put}
 use Rattle.declaration_text.proofs.Whole.{text-room, declaration-put}
+use borrow.Author.Needs.{needs}
 use Rattle.declaration_text.proofs.put_declaration.Statement.{statement}
 use Rattle.declaration_text.proofs.put_declaration.Tie as tie
 
-put-text-requires : tie.Need-put-text-requires
-put-text-requires c κs = (c .before .before .before .pre .0, c .before .before .before .pre .1, text-room _ _ (c .before .before .before .pre .0) _ (c .before .before .before .pre .1) _ (c .before .before .before .pre .2) _ _ (c .before .before .before .pre .3), c .before .before .before .pre .2 .few)
+slice-aggregate-put-all : tie.Need-slice-aggregate-put-all
+slice-aggregate-put-all c = search needs
+
+put-all-requires : tie.Need-put-all-requires
+put-all-requires c κs =
+    let start = c .before .before .before .before in
+    let room = text-room _ _ (start .pre .0) _ (start .pre .1) _ (start .pre .2) _ _ (start .pre .3) in
+    opening-room _ _ _ _ (start .args .buffer .now) _ room
+
+put-name-requires : tie.Need-put-name-requires
+put-name-requires c κs =
+    let opened = c .before .before .before in
+    let start = opened .before .before .before .before .before in
+    let room = text-room _ _ (start .pre .0) _ (start .pre .1) _ (start .pre .2) _ _ (start .pre .3) in
+    (start .pre .0, start .pre .1, parent-room _ _ _ _ _ _ room _ _ (opened .put-all .ensures))
+
+put-some-requires : tie.Need-put-some-requires
+put-some-requires c κs =
+    let named = c .before .before .before in
+    let opened = named .before .before .before .before in
+    let start = opened .before .before .before .before .before in
+    let room = text-room _ _ (start .pre .0) _ (start .pre .1) _ (start .pre .2) _ _ (start .pre .3) in
+    space-room _ _ _ _ _ _ room _ _ (opened .put-all .ensures) _ _ (named .put-name .ensures)
+
+put-model-requires : tie.Need-put-model-requires
+put-model-requires c κs =
+    let spaced = c .before .before .before in
+    let named = spaced .before .before .before .before in
+    let opened = named .before .before .before .before in
+    let start = opened .before .before .before .before .before in
+    let room = text-room _ _ (start .pre .0) _ (start .pre .1) _ (start .pre .2) _ _ (start .pre .3) in
+    (start .pre .0, model-room _ _ _ _ _ _ room _ _ (opened .put-all .ensures) _ _ (named .put-name .ensures) _ _ (spaced .put-some .ensures), start .pre .2 .few)
+
+put-some-requires-2 : tie.Need-put-some-requires-2
+put-some-requires-2 c κs =
+    let modelled = c .before .before .before in
+    let spaced = modelled .before .before .before .before in
+    let named = spaced .before .before .before .before in
+    let opened = named .before .before .before .before in
+    let start = opened .before .before .before .before .before in
+    let room = text-room _ _ (start .pre .0) _ (start .pre .1) _ (start .pre .2) _ _ (start .pre .3) in
+    end-room _ _ _ _ _ _ room _ _ (opened .put-all .ensures) _ _ (named .put-name .ensures) _ _ (spaced .put-some .ensures) _ _ (modelled .put-model .ensures)
 
 same-length : tie.Need-same-length
-same-length c = c .before .before .put-text .ensures .same
+same-length c =
+    let ended = c .before .before in
+    let modelled = ended .before .before .before .before in
+    let spaced = modelled .before .before .before .before in
+    let named = spaced .before .before .before .before in
+    let opened = named .before .before .before .before in
+    ended .put-some2 .ensures .same ∙ modelled .put-model .ensures .same ∙ spaced .put-some .ensures .same ∙ named .put-name .ensures .same ∙ opened .put-all .ensures .same
 
 returns : tie.Need-returns
-returns c = declaration-put _ _ (c .before .before .before .before .before .before .pre .0) _ (c .before .before .before .before .before .before .pre .1) _ (c .before .before .before .before .before .before .pre .2) _ _ _ _ (c .before .before .put-text .ensures)
+returns c =
+    let ended = c .before .before in
+    let modelled = ended .before .before .before .before in
+    let spaced = modelled .before .before .before .before in
+    let named = spaced .before .before .before .before in
+    let opened = named .before .before .before .before in
+    let start = opened .before .before .before .before .before in
+    let room = text-room _ _ (start .pre .0) _ (start .pre .1) _ (start .pre .2) _ _ (start .pre .3) in
+    declaration-put _ _ (start .pre .0) _ (start .pre .1) _ (start .pre .2) _ _ _ _
+    (text-put _ _ _ _ _ _ room _ _ (opened .put-all .ensures) _ _ (named .put-name .ensures) _ _ (spaced .put-some .ensures) _ _ (modelled .put-model .ensures) _ _ (ended .put-some2 .ensures))
 
 pub put-declaration-spec : {M : Type 1} → statement M
-put-declaration-spec = tie.close (tie.spec put-text-requires same-length returns)
+put-declaration-spec =
+    tie.close
+    (tie.spec
+    slice-aggregate-put-all
+    put-all-requires
+    put-name-requires
+    put-some-requires
+    put-model-requires
+    put-some-requires-2
+    same-length
+    returns)

@@ -27,13 +27,21 @@ number-at-requires : tie.Need-number-at-requires Inv-loop μ-loop
 number-at-requires c κs = (c .before .before .before .before .before .pre .0, in-order _ _ _ (c .piece-at .ensures .0), c .piece-at .ensures .1)
 
 returns : tie.Need-returns Inv-loop μ-loop
-returns c = known-stop _ _ _ (c .before .before .piece-at .ensures .0) _ _ (unknown-kind _ _ (c .before .before .before .before .before .before .before .pre .0) _ _ _ (c .before .number-at .ensures .0) (c .if1 .taken)) refl ∙ sym (c .before .before .before .before .loop .inv .1)
+returns c =
+    let found = c .before .before in
+    let head = found .before .before in
+    let unknown = unknown-kind _ _ (head .before .before .before .pre .0) _ _ _ (c .before .number-at .ensures .0) (c .if1 .taken) in
+    known-stop _ _ _ (found .piece-at .ensures .0) _ _ unknown refl ∙ sym (head .loop .inv .1)
 
 loop-less : tie.Need-loop-less Inv-loop μ-loop
 loop-less c = let h = onward-to _ _ _ (c .before .before .piece-at .ensures .0) (c .before .before .before .loop-test .taken) in omega arith
 
 loop-again : tie.Need-loop-again Inv-loop μ-loop
-loop-again c = (c .before .before .piece-at .ensures .1, c .before .before .before .before .loop .inv .1 ∙ known-on _ _ _ (c .before .before .piece-at .ensures .0) _ _ (known-kind _ _ (c .before .before .before .before .before .before .before .pre .0) _ _ _ (c .before .number-at .ensures .0) (c .if1 .left)) refl)
+loop-again c =
+    let found = c .before .before in
+    let head = found .before .before in
+    let known = known-kind _ _ (head .before .before .before .pre .0) _ _ _ (c .before .number-at .ensures .0) (c .if1 .left) in
+    (found .piece-at .ensures .1, head .loop .inv .1 ∙ known-on _ _ _ (found .piece-at .ensures .0) _ _ known refl)
 
 returns-2 : tie.Need-returns-2 Inv-loop μ-loop
 returns-2 c = known-over _ _ _ (c .loop-test .left) ∙ sym (c .before .loop .inv .1)

@@ -1,0 +1,81 @@
+-- What holds of each kind of token holds of the token at a place of a text.
+-- Assumes nothing.
+use Prim.Native.Nat.{ℕ, suc, _<_}
+use mathlib.Core.Path.{_≡_, refl}
+use mathlib.Core.Bool.{Bool, true, false, cond}
+use mathlib.Core.List.{List, _∷_}
+use native.Mathlib.Omega.{arith}
+use lib.Dec.{eqb}
+use lib.ListN.{length, getD, take, drop}
+use lib.Seq.{drop-cons}
+use Rattle.name.specs.Word.{wordByte}
+use Rattle.declaration_spelling.specs.Token.{Token, word, lpar, rpar, comma, bar, end, mark, other}
+use Rattle.declaration_spelling.specs.Form.{sign}
+use Rattle.declaration_scan.specs.Unread.{nextOf, runOf, signKind, kindOf}
+use Rattle.declaration_scan.specs.Piece.{tokenLength, tokenOf}
+use Rattle.declaration_scan.proofs.Runs.{kind-word}
+
+-- the bytes of the token at the start of a text
+abbrev pub front : List ℕ → List ℕ
+front t = take (tokenLength t) t
+
+word-token : (b : ℕ) (bs : List ℕ) → wordByte b ≡ true → tokenOf (front (b ∷ bs)) ≡ word (front (b ∷ bs))
+unfolding tokenLength runOf tokenOf
+word-token b bs e = rw (e, e)
+
+sign-token : (b : ℕ) (bs : List ℕ) → wordByte b ≡ false → tokenOf (front (b ∷ bs)) ≡ sign b
+unfolding tokenLength tokenOf
+sign-token b bs e = rw (e, e)
+
+-- a token has a byte
+pub token-some : (b : ℕ) (bs : List ℕ) → 0 < tokenLength (b ∷ bs)
+unfolding tokenLength runOf
+token-some b bs = go (wordByte b) refl
+  where
+    go : (k : Bool) → wordByte b ≡ k → 0 < cond k (cond (wordByte b) (suc (runOf wordByte bs)) 0) 1
+    go true e = rw e (omega arith)
+    go false e = omega arith
+
+-- P holds of each kind, with a token that it stands for and the token's bytes; the kind 0 also stands for the end of
+-- the text
+abbrev pub EachKind : (ℕ → Token → List ℕ → Type 0) → Type 0
+EachKind P =
+    (w : List ℕ) (b : ℕ) →
+    P 1 (word w) w × P 2 lpar w × P 3 rpar w × P 4 comma w × P 5 bar w × P 6 end w × P 7 (mark 0) w × P 8 (mark 1) w × P 9 (mark 2) w × P 0 (other b) w × P 10 (other b) w
+
+module _ (P : ℕ → Token → List ℕ → Type 0) (each : EachKind P) where
+  pick : (w : List ℕ) (c : Bool) (t u : Token) (j k : ℕ) → P j t w → P k u w → P (cond c j k) (cond c t u) w
+  pick w true t u j k p q = p
+  pick w false t u j k p q = q
+
+  by-sign : (w : List ℕ) (b : ℕ) → wordByte b ≡ false → P (kindOf b) (sign b) w
+  unfolding sign kindOf signKind
+  by-sign w b e =
+      let p = each w b in
+      rw e
+      (pick w (eqb b 40) lpar _ 2 _ (p .1)
+      (pick w (eqb b 41) rpar _ 3 _ (p .2)
+      (pick w (eqb b 44) comma _ 4 _ (p .3)
+      (pick w (eqb b 124) bar _ 5 _ (p .4)
+      (pick w (eqb b 62) end _ 6 _ (p .5)
+      (pick w (eqb b 63) (mark 0) _ 7 _ (p .6)
+      (pick w (eqb b 43) (mark 1) _ 8 _ (p .7)
+      (pick w (eqb b 42) (mark 2) (other b) 9 _ (p .8)
+      (last (eqb b 256))))))))))
+    where
+      last : (c : Bool) → P (cond c 0 10) (other b) w
+      last true = each w b .9
+      last false = each w b .10
+
+  -- the token that begins with the byte b
+  pub by-kind : (b : ℕ) (bs : List ℕ) → P (kindOf b) (tokenOf (front (b ∷ bs))) (front (b ∷ bs))
+  by-kind b bs = go (wordByte b) refl
+    where
+      go : (k : Bool) → wordByte b ≡ k → P (kindOf b) (tokenOf (front (b ∷ bs))) (front (b ∷ bs))
+      go true e = rw (← kind-word b e, word-token b bs e) (each (front (b ∷ bs)) b .0)
+      go false e = rw (sign-token b bs e) (by-sign (front (b ∷ bs)) b e)
+
+  -- the token that begins at a place
+  pub by-place : (s : List ℕ) (from : ℕ) → from < length s → P (kindOf (nextOf (drop from s))) (tokenOf (front (drop from s))) (front (drop from s))
+  unfolding nextOf
+  by-place s from h = rw (drop-cons s from 0 h) (by-kind (getD s from 0) (drop (suc from) s))

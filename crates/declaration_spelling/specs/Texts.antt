@@ -1,0 +1,75 @@
+-- A means: texts on both sides of the border with their answers, as examples; `answered` in proofs/Texts.antt proves
+-- them by computation.
+-- Assumes nothing.
+use Prim.Native.Nat.{ℕ}
+use Prim.Native.String.{String}
+use mathlib.Core.List.{List, [], _∷_, map}
+use Rattle.refusal.specs.declared.Refusal.the-variants.{NotADeclaration, UnknownName, NameTwice}
+use Rattle.refusal.specs.Answer.{Answer, given, refused}
+use Rattle.declaration_spelling.specs.Text.{bytes}
+use Rattle.declaration_spelling.specs.Read.{Declared, declared}
+
+-- A text, the names of the book in rising order, and the answer, with a record of five places.
+pub record Line : Type 0 where
+  pub names : List String
+  pub text : String
+  pub answer : Answer Declared
+
+unfoldable pub lineNames : Line → List (List ℕ)
+lineNames l = map bytes (l .names)
+
+-- Among the names a, b, c and d.
+abbrev pub abcd : String → Answer Declared → Line
+abcd text answer = record { names = "a" ∷ "b" ∷ "c" ∷ "d" ∷ []; text = text; answer = answer }
+
+-- Among the name EMPTY alone.
+abbrev pub emptyNamed : String → Answer Declared → Line
+emptyNamed text answer = record { names = "EMPTY" ∷ []; text = text; answer = answer }
+
+-- Read: the parent, the number of factors, the factor of each name, and the mode of each factor.
+abbrev pub read : ℕ → ℕ → List ℕ → List ℕ → Answer Declared
+read parent count factor mode = given (declared parent record { count = count; factor = factor; mode = mode })
+
+unfoldable pub lines : List Line
+lines =
+    abcd "<!ELEMENT a (b)>" (read 0 1 (255 ∷ 0 ∷ 255 ∷ 255 ∷ 255 ∷ []) (0 ∷ 0 ∷ 0 ∷ 0 ∷ 0 ∷ []))
+    ∷ abcd "<!ELEMENT a (a)>" (read 0 1 (0 ∷ 255 ∷ 255 ∷ 255 ∷ 255 ∷ []) (0 ∷ 0 ∷ 0 ∷ 0 ∷ 0 ∷ []))
+    ∷ abcd "<!ELEMENT a (b? ,c )>" (read 0 2 (255 ∷ 0 ∷ 1 ∷ 255 ∷ 255 ∷ []) (1 ∷ 0 ∷ 0 ∷ 0 ∷ 0 ∷ []))
+    ∷ abcd "<!ELEMENT b ((a|c)+)>" (read 1 1 (0 ∷ 255 ∷ 0 ∷ 255 ∷ 255 ∷ []) (2 ∷ 0 ∷ 0 ∷ 0 ∷ 0 ∷ []))
+    ∷ abcd "<!ELEMENT  a  ( ( c |b )* , a? )  >" (read 0 2 (1 ∷ 0 ∷ 0 ∷ 255 ∷ 255 ∷ []) (3 ∷ 1 ∷ 0 ∷ 0 ∷ 0 ∷ []))
+    ∷ abcd "<!ELEMENT a (b,(d|c)+ , a?)>" (read 0 3 (2 ∷ 0 ∷ 1 ∷ 1 ∷ 255 ∷ []) (0 ∷ 2 ∷ 1 ∷ 0 ∷ 0 ∷ []))
+    ∷ abcd "<!ELEMENT b EMPTY>" (read 1 0 (255 ∷ 255 ∷ 255 ∷ 255 ∷ 255 ∷ []) (0 ∷ 0 ∷ 0 ∷ 0 ∷ 0 ∷ []))
+    ∷ abcd "<!ELEMENT b EMPTY  >" (read 1 0 (255 ∷ 255 ∷ 255 ∷ 255 ∷ 255 ∷ []) (0 ∷ 0 ∷ 0 ∷ 0 ∷ 0 ∷ []))
+    ∷ emptyNamed "<!ELEMENT EMPTY EMPTY>" (read 0 0 (255 ∷ 255 ∷ 255 ∷ 255 ∷ 255 ∷ []) (0 ∷ 0 ∷ 0 ∷ 0 ∷ 0 ∷ []))
+    ∷ emptyNamed "<!ELEMENT EMPTY (EMPTY)>" (read 0 1 (0 ∷ 255 ∷ 255 ∷ 255 ∷ 255 ∷ []) (0 ∷ 0 ∷ 0 ∷ 0 ∷ 0 ∷ []))
+    ∷ abcd "<!ELEMENTa (b)>" (refused NotADeclaration)
+    ∷ abcd "<!ELEMENT a(b)>" (refused NotADeclaration)
+    ∷ abcd "<!ELEMENT a (b ?)>" (refused NotADeclaration)
+    ∷ abcd "<!ELEMENT a (b)> " (refused NotADeclaration)
+    ∷ abcd "<!ELEMENT a (b)>\n" (refused NotADeclaration)
+    ∷ abcd "<!ELEMENT a ((b),c)>" (refused NotADeclaration)
+    ∷ abcd "<!ELEMENT a (b|c)>" (refused NotADeclaration)
+    ∷ abcd "<!ELEMENT a (b)*>" (refused NotADeclaration)
+    ∷ abcd "<!ELEMENT a (b,c)+>" (refused NotADeclaration)
+    ∷ abcd "<!ELEMENT a ()>" (refused NotADeclaration)
+    ∷ abcd "<!ELEMENT a (b,)>" (refused NotADeclaration)
+    ∷ abcd "<!ELEMENT a ANY>" (refused NotADeclaration)
+    ∷ abcd "<!ELEMENT a EMPTYx>" (refused NotADeclaration)
+    ∷ abcd "<!ELEMENT a empty>" (refused NotADeclaration)
+    ∷ abcd "<!ELEMENT a (1b)>" (refused NotADeclaration)
+    ∷ abcd "<!ELEMENT a ((b|c) *)>" (refused NotADeclaration)
+    ∷ abcd "<!ELEMENT a (xxxxxxxxxxxxxxxxxxxxxxxxxxxxxxxxx)>" (refused NotADeclaration)
+    ∷ abcd " <!ELEMENT a (b)>" (refused NotADeclaration)
+    ∷ abcd "<!element a (b)>" (refused NotADeclaration)
+    ∷ abcd "<!ELEMENT a (z)>" (refused UnknownName)
+    ∷ abcd "<!ELEMENT a (z,z)>" (refused UnknownName)
+    ∷ abcd "<!ELEMENT a (b,b,z)>" (refused UnknownName)
+    ∷ abcd "<!ELEMENT z (b,b)>" (refused UnknownName)
+    ∷ abcd "<!ELEMENT a (xxxxxxxxxxxxxxxxxxxxxxxxxxxxxxxx)>" (refused UnknownName)
+    ∷ abcd "<!ELEMENT a (b,b)>" (refused NameTwice)
+    ∷ abcd "<!ELEMENT a ((b|b))>" (refused NameTwice)
+    ∷ abcd "<!ELEMENT a (b,(c|b)*)>" (refused NameTwice)
+    ∷ abcd "<!ELEMENT a ((b|c|b)*)>" (refused NameTwice)
+    ∷ abcd "<!ELEMENT a (b,c,b?)>" (refused NameTwice)
+    ∷ abcd "<!ELEMENT a (a,b,c,d,a,b)>" (refused NameTwice)
+    ∷ []

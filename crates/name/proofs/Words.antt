@@ -1,0 +1,70 @@
+-- The bytes of words: a name is made of them, a byte's class tells them, and no sign of a declaration is one.
+-- Assumes nothing.
+use Prim.Native.Nat.{ℕ, zero, suc, _≤_, _<_}
+use mathlib.Core.Path.{_≡_, refl, sym, _∙_}
+use mathlib.Core.Bool.{Bool, true, false, not, _&&_, false≢true}
+use mathlib.Core.List.{List, [], _∷_}
+use native.Mathlib.Omega.{arith}
+use native.Mathlib.Nat.{le-of-suc-le-suc}
+use native.Mathlib.Decide.{ℕ-discrete}
+use lib.Dec.{eqb, leb}
+use lib.ListN.{length, getD}
+use borrow.Author.Tests.{leb-true, eq-eqb, ne-eqb}
+use Rattle.name.specs.Class.{between, startByte, laterByte, classOf}
+use Rattle.name.specs.Rule.{longestName, goodLength, allLater, goodBytes, isName}
+use Rattle.name.specs.Word.{wordByte}
+use Rattle.name.proofs.Classes.{class-neither, class-later}
+
+both : (a b : Bool) → (a && b) ≡ true → (a ≡ true) × (b ≡ true)
+both true b e = (refl, e)
+both false b e = absurd (false≢true e)
+
+-- a byte's class tells whether it is in words
+pub class-word : (class byte : ℕ) → class ≡ classOf byte → not (eqb class 0) ≡ wordByte byte
+unfolding wordByte
+class-word class byte e = go (ℕ-discrete class 0)
+  where
+    go : Dec (class ≡ 0) → not (eqb class 0) ≡ laterByte byte
+    go (yes z) = rw (eq-eqb class 0 z) (sym (class-neither byte (sym e ∙ z)))
+    go (no n) = rw (ne-eqb class 0 n) (sym (class-later byte (λ q. n (e ∙ q))))
+
+-- ---- a name
+
+later-bytes : (bs : List ℕ) → allLater bs ≡ true → (k : ℕ) → k < length bs → wordByte (getD bs k 0) ≡ true
+unfolding allLater wordByte
+later-bytes [] e k h = absurd (omega arith)
+later-bytes (b ∷ bs) e zero h = both (laterByte b) (allLater bs) e .0
+later-bytes (b ∷ bs) e (suc k) h = later-bytes bs (both (laterByte b) (allLater bs) e .1) k (le-of-suc-le-suc h)
+
+start-word : (b : ℕ) → startByte b ≡ true → wordByte b ≡ true
+unfolding wordByte laterByte
+start-word b e = rw e
+
+-- each byte of a name is a byte of words
+pub name-bytes : (w : List ℕ) → isName w ≡ true → (k : ℕ) → k < length w → wordByte (getD w k 0) ≡ true
+unfolding isName goodBytes
+name-bytes [] e k h = absurd (omega arith)
+name-bytes (b ∷ bs) e zero h = start-word b (both (startByte b) (allLater bs) (both (goodLength (length (b ∷ bs))) (goodBytes (b ∷ bs)) e .1) .0)
+name-bytes (b ∷ bs) e (suc k) h =
+    later-bytes bs (both (startByte b) (allLater bs) (both (goodLength (length (b ∷ bs))) (goodBytes (b ∷ bs)) e .1) .1) k (le-of-suc-le-suc h)
+
+good-size : (n : ℕ) → goodLength n ≡ true → (1 ≤ n) × (n ≤ longestName)
+unfolding goodLength
+good-size n e = let p = both (leb 1 n) (leb n longestName) e in (leb-true 1 n (p .0), leb-true n longestName (p .1))
+
+-- a name has 1 to 32 bytes
+pub name-size : (w : List ℕ) → isName w ≡ true → (1 ≤ length w) × (length w ≤ longestName)
+unfolding isName
+name-size w e = good-size (length w) (both (goodLength (length w)) (goodBytes w) e .0)
+
+-- ---- the signs
+
+-- none of these is a byte of words
+abbrev pub NoWord : List ℕ → Type 0
+NoWord [] = Unit {0}
+NoWord (b ∷ bs) = (wordByte b ≡ false) × NoWord bs
+
+-- space ( ) , | > ? + * and what stands for the end of a text
+pub no-word : NoWord (32 ∷ 40 ∷ 41 ∷ 44 ∷ 124 ∷ 62 ∷ 63 ∷ 43 ∷ 42 ∷ 256 ∷ [])
+unfolding wordByte laterByte startByte between
+no-word = (refl, (refl, (refl, (refl, (refl, (refl, (refl, (refl, (refl, (refl, tt))))))))))
