@@ -1,5 +1,5 @@
--- The texts of crate `declaration_spelling` with their answers, by the walk: one equation over the whole list, proved by
--- computing both sides.
+-- The texts of crate `declaration_spelling` with their answers, by the walk: one equation over the whole list, proved
+-- by computing both sides.
 -- Assumes nothing.
 use mathlib.Core.Path.{_≡_, refl}
 use mathlib.Core.List.{map}

@@ -30,7 +30,7 @@ unfolding isSpace
 space-end = refl
 
 pub word-end : wordByte endOfText ≡ false
-word-end = no-word .1 .1 .1 .1 .1 .1 .1 .1 .1 .0
+word-end = no-word .1 .0
 
 pub past-bytes : (n : ℕ) → n ≤ endOfText → endOfText ≤ n → false ≡ wordByte n
 past-bytes n h k = let e : n ≡ endOfText = omega arith in sym (ap wordByte e ∙ word-end)
@@ -115,7 +115,7 @@ other-byte n k e f q = false≢true (sym f ∙ ap wordByte (sym q) ∙ e)
 
 pub word-no-sign : (n : ℕ) → wordByte n ≡ true → 10 ≡ signKind n
 word-no-sign n e =
-    let s = no-word .1 in
+    let s = no-word .1 .1 in
     let o : (k : ℕ) → wordByte k ≡ false → n ≡ k → ⊥ = λ k f. other-byte n k e f in
     kind-other n (o 40 (s .0)) (o 41 (s .1 .0)) (o 44 (s .1 .1 .0)) (o 124 (s .1 .1 .1 .0)) (o 62 (s .1 .1 .1 .1 .0)) (o 63 (s .1 .1 .1 .1 .1 .0))
     (o 43 (s .1 .1 .1 .1 .1 .1 .0)) (o 42 (s .1 .1 .1 .1 .1 .1 .1 .0)) (o 256 word-end)

@@ -10,7 +10,7 @@ use borrow.Author.Tests.{ne-eqb}
 use Rattle.name.specs.Class.{between, startByte, laterByte}
 use Rattle.name.specs.Rule.{goodLength, allLater, goodBytes, isName}
 use Rattle.name.specs.Word.{wordByte}
-use Rattle.name.proofs.Words.{name-bytes, name-size, no-word}
+use Rattle.name.proofs.Words.{name-bytes, name-size, NoWord, no-word}
 use Rattle.declaration_spelling.specs.Token.{isSpace, All}
 use Rattle.declaration_spelling.specs.House.{emptyWord}
 
@@ -35,18 +35,24 @@ pub space-is : isSpace 32 ≡ true
 unfolding isSpace
 space-is = refl
 
+-- none of these is white space
+abbrev NoSpace : List ℕ → Type 0
+NoSpace [] = Unit {0}
+NoSpace (b ∷ bs) = (isSpace b ≡ false) × NoSpace bs
+
 -- neither white space nor a byte of words
 abbrev pub Neither : List ℕ → Type 0
 Neither [] = Unit {0}
 Neither (b ∷ bs) = ((isSpace b ≡ false) × (wordByte b ≡ false)) × Neither bs
 
+neither : (bs : List ℕ) → NoSpace bs → NoWord bs → Neither bs
+neither [] s w = tt
+neither (b ∷ bs) s w = ((s .0, w .0), neither bs (s .1) (w .1))
+
 -- ( ) , | > ? + *
 pub signs : Neither (40 ∷ 41 ∷ 44 ∷ 124 ∷ 62 ∷ 63 ∷ 43 ∷ 42 ∷ [])
 unfolding isSpace
-signs =
-    let n = no-word .1 in
-    ((refl, n .0), ((refl, n .1 .0), ((refl, n .1 .1 .0), ((refl, n .1 .1 .1 .0), ((refl, n .1 .1 .1 .1 .0), ((refl, n .1 .1 .1 .1 .1 .0),
-    ((refl, n .1 .1 .1 .1 .1 .1 .0), ((refl, n .1 .1 .1 .1 .1 .1 .1 .0), tt))))))))
+signs = neither (40 ∷ 41 ∷ 44 ∷ 124 ∷ 62 ∷ 63 ∷ 43 ∷ 42 ∷ []) (refl, (refl, (refl, (refl, (refl, (refl, (refl, (refl, tt)))))))) (no-word .1 .1)
 
 -- `EMPTY` is a name
 pub empty-name : isName emptyWord ≡ true

@@ -1,12 +1,16 @@
 -- `put_name` meets its contract.
 -- Assumes nothing.
+use native.Mathlib.Omega.{arith}
 use Rattle.declaration_factor.proofs.Steps.{name-room, name-put}
 use borrow.Author.Needs.{needs}
 use Rattle.declaration_factor.proofs.put_name.Statement.{statement}
 use Rattle.declaration_factor.proofs.put_name.Tie as tie
 
 name-bytes-requires : tie.Need-name-bytes-requires
-name-bytes-requires c κs = (c .before .before .before .pre .0, c .before .before .before .pre .1)
+name-bytes-requires c κs =
+    let start = c .before .before .before in
+    let below = start .pre .1 in
+    (start .pre .0, omega arith)
 
 put-all-requires : tie.Need-put-all-requires
 put-all-requires c κs = name-room _ _ _ (c .name-bytes .ensures) _ _ (c .before .before .before .before .pre .2)

@@ -119,8 +119,7 @@ loop-again c =
     let piece = numbered .before .piece-at .ensures .0 in
     let number = numbered .number-at .ensures .0 in
     let there = placed .before .before .if1 .left in
-    let next = c .before .before .next-index .ensures in
-    (
+    let next = c .before .before .next-index .ensures in (
       numbered .before .piece-at .ensures .1,
       inside-on _ _ _ _ piece _ _ _ (head .loop .inv .1) _ _ (placed-same _ _ _ _ _ _ _ (number-same _ _ laid _ _ _ number there) (placed .place-piece .ensures)) _ (moded .before .mode-of .ensures) _ (moded .put-mode .ensures) _ next _ (c .before .fine .ensures) (not-false _ (c .if2 .left)),
       placed .place-piece .ensures .2 ∙ head .loop .inv .2,

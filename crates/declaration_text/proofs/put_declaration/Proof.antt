@@ -1,6 +1,7 @@
 -- `put_declaration` meets its contract: the parts, one after the other, are the canonical form.
 -- Assumes nothing.
 use mathlib.Core.Path.{_∙_}
+use native.Mathlib.Omega.{arith}
 use Rattle.declaration_text.proofs.Steps.{opening-room, parent-room, space-room, model-room, end-room, text-put}
 use Rattle.declaration_text.proofs.Whole.{text-room, declaration-put}
 use borrow.Author.Needs.{needs}
@@ -21,7 +22,8 @@ put-name-requires c κs =
     let opened = c .before .before .before in
     let start = opened .before .before .before .before .before in
     let room = text-room _ _ (start .pre .0) _ (start .pre .1) _ (start .pre .2) _ _ (start .pre .3) in
-    (start .pre .0, start .pre .1, parent-room _ _ _ _ _ _ room _ _ (opened .put-all .ensures))
+    let below = start .pre .1 in
+    (start .pre .0, omega arith, parent-room _ _ _ _ _ _ room _ _ (opened .put-all .ensures))
 
 put-some-requires : tie.Need-put-some-requires
 put-some-requires c κs =
