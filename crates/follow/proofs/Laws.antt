@@ -23,7 +23,6 @@ use Rattle.book.specs.Access.{LaidOut}
 use Rattle.book.specs.Stops.{BlocksBelow}
 use Rattle.book.proofs.Laws.{few-names, blocks-within}
 use Rattle.model.specs.Accept.{Names}
-use Rattle.model.proofs.Empty.{replicate-at}
 use Rattle.model.proofs.Tests.{and-left, and-right, or-split, or-right, same-test}
 use Rattle.follow.specs.declared.Facts.{Facts}
 use Rattle.follow.specs.Follow.{someWord, beginsWith, endsWith, hasPair, isEmpty, followOf}
