@@ -1,5 +1,6 @@
 -- A means: going back to the names and blocks of a book that was read, for the layers above it. A name has a number
--- exactly when it is one of the names: `known-in` in crates/declaration_spelling/proofs/Named.antt.
+-- exactly when it is one of the names: `known-in` in crates/declaration_spelling/proofs/Named.antt. The place of a
+-- block has its parent and its word: `block-laid` in crates/book/proofs/Blocks.antt.
 -- Assumes nothing.
 use Prim.Native.Nat.{ℕ, suc, _+_, _≤_}
 use mathlib.Core.Path.{_≡_}

@@ -3,8 +3,9 @@
 // of the name that is the text (or -), and each block as its parent, a colon and the number of its children.
 use book::Found;
 use book::Layout;
+use book::wide;
 use refusal::Outcome;
-ghost use Prim.Native.Nat.{_≤_, _<_};
+ghost use Prim.Native.Nat.{_≤_};
 ghost use lib.ListN.{length};
 ghost use Rattle.book.specs.Access.{LaidOut};
 
@@ -68,12 +69,6 @@ fn print_rest(bytes: &[u8], layout: Layout, text: &[u8])
     test_lines::print(b" ");
     print_found(book_access::find_name(bytes, layout, text));
     print_blocks(bytes, layout);
-}
-
-fn wide(byte: u8) -> usize
-    ensures { λ r. ⌜ r < 256 ⌝ }
-{
-    byte as usize
 }
 
 // Where the field that begins at a place ends, or the stream's length where it is cut short.
