@@ -15,7 +15,7 @@ use Rattle.declaration_spelling.specs.Token.{Token, word}
 use Rattle.declaration_spelling.specs.House.{emptyWord}
 use Rattle.declaration_spelling.specs.Form.{same}
 use Rattle.declaration_spelling.proofs.Tests.{and-is}
-use Rattle.declaration_walk.specs.Walk.{signalOf, table, stepOf, fitsAfter, goodToken}
+use Rattle.declaration_walk.specs.Walk.{signalOf, table, stepOf, fitsAfter, passes, goodToken}
 use Rattle.declaration_scan.specs.Unread.{nextOf, kindOf}
 use Rattle.declaration_scan.specs.Piece.{wordEnd}
 use Rattle.declaration_form.specs.Step.{signals, kindFits, tokenAt, advance}
@@ -110,11 +110,11 @@ module _ (state : ℕ) (bw gap : Bool) (t : Token) where
   good e q = rw (e, q)
 
 word-bad : (t : Token) (w : List ℕ) → t ≡ word w → isName w ≡ false → goodToken t ≡ false
-unfolding goodToken
+unfolding passes
 word-bad t w e q = rw e q
 
 word-good : (t : Token) (w : List ℕ) → t ≡ word w → isName w ≡ true → goodToken t ≡ true
-unfolding goodToken
+unfolding passes
 word-good t w e q = rw e q
 
 word-signal : (t : Token) (w : List ℕ) → t ≡ word w → cond (same w emptyWord) 2 1 ≡ signalOf t

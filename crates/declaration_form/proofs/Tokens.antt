@@ -10,7 +10,7 @@ use lib.ListN.{length, getD, take, drop}
 use lib.Seq.{drop-cons}
 use Rattle.name.specs.Class.{between}
 use Rattle.declaration_spelling.specs.Token.{Token, word}
-use Rattle.declaration_walk.specs.Walk.{signalOf, isWord, fitsAfter, goodToken}
+use Rattle.declaration_walk.specs.Walk.{signalOf, isWord, fitsAfter, passes, goodToken}
 use Rattle.declaration_scan.specs.Unread.{nextOf, kindOf}
 use Rattle.declaration_scan.specs.Piece.{tokenLength, wordEnd}
 use Rattle.declaration_scan.proofs.ByKind.{EachKind, token-some, by-place}
@@ -49,7 +49,7 @@ abbrev Signal : ℕ → Token → List ℕ → Type 0
 Signal k t w = (k ≡ 1 → ⊥) → (getD signals k 0 ≡ signalOf t) × (goodToken t ≡ true)
 
 each-signal : EachKind Signal
-unfolding signals signalOf goodToken
+unfolding signals signalOf passes
 each-signal w b = (
   λ n. absurd (n refl),
   λ n. (refl, refl),

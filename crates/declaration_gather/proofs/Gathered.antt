@@ -31,10 +31,11 @@ use Rattle.declaration_spelling.proofs.Theorem.{form-sound}
 use Rattle.declaration_walk.specs.Walk.{isWord}
 use Rattle.declaration_walk.proofs.Runs.{found}
 use Rattle.declaration_walk.proofs.Formed.{form-found}
+use Rattle.declaration_walk.proofs.Words.{model-pass}
 use Rattle.declaration_gather.specs.Gather.{Rows, startRows, andThen, modelOf, factorsAnswer, beginsWithWord, contentAnswer, tokensAnswer, textAnswer}
 use Rattle.declaration_gather.proofs.Rows.{placeFactor, placeOthers, row}
 use Rattle.declaration_gather.proofs.Factors.{mark, Filled, all-filled, all-place}
-use Rattle.declaration_gather.proofs.Tokens.{byNumber, model-taken, model-known}
+use Rattle.declaration_gather.proofs.Tokens.{byNumber, model-taken}
 
 -- ---- the record that is filled
 
@@ -118,7 +119,7 @@ module _ (size : ℕ) (names : List (List ℕ)) (fits : size ≤ 255) (some-plac
   factors-answer : (p : ℕ) (f : Factor (List ℕ)) (fs : List (Factor (List ℕ))) → Full (f ∷ fs) → Small (f ∷ fs) →
       factorsAnswer size names p (lpar ∷ factorTokens f (othersTokens fs)) ≡ refuseIf (not (allFactors (known names) (f ∷ fs))) UnknownName (Single p (f ∷ fs))
   unfolding factorsAnswer
-  factors-answer p f fs full small = rw (model-known names f fs, model-taken size names f fs (startRows size)) (go (allFactors (known names) (f ∷ fs)) refl)
+  factors-answer p f fs full small = rw (model-pass (known names) f fs, model-taken size names f fs (startRows size)) (go (allFactors (known names) (f ∷ fs)) refl)
     where
       go : (b : Bool) → allFactors (known names) (f ∷ fs) ≡ b → refuseIf (not b) UnknownName (Walked p f fs) ≡ refuseIf (not b) UnknownName (Single p (f ∷ fs))
       go true e = walked p f fs full small e

@@ -15,8 +15,8 @@ use Rattle.declaration_spelling.specs.House.{opening, emptyWord}
 use Rattle.declaration_spelling.specs.Form.{same, strip, sign, atFront, spaceBefore, longer, letterBefore, byteBefore, cut, tokens}
 use Rattle.declaration_spelling.specs.Read.{known, numberFor}
 use Rattle.declaration_spelling.specs.Texts.{Line, lineNames, lines}
-use Rattle.declaration_walk.specs.Walk.{signalOf, table, stepOf, isWord, fitsAfter, goodToken, accepts, acceptsRest, hasForm}
-use Rattle.declaration_gather.specs.Gather.{knownToken, knownTokens, startRows, isFree, withName, nextFactor, withMode, takeToken, andThen, gatherFrom, modelOf, factorsAnswer, beginsWithWord, contentAnswer, tokensAnswer, textAnswer}
+use Rattle.declaration_walk.specs.Walk.{signalOf, table, stepOf, isWord, fitsAfter, passes, allPass, accepts, acceptsRest, hasForm}
+use Rattle.declaration_gather.specs.Gather.{startRows, isFree, withName, nextFactor, withMode, takeToken, andThen, gatherFrom, modelOf, factorsAnswer, beginsWithWord, contentAnswer, tokensAnswer, textAnswer}
 
 -- Line by line, the answer to the text is the one that the list has.
 pub answered : map (λ (l : Line). textAnswer 5 (lineNames l) (bytes (l .text))) lines ≡ map (λ (l : Line). l .answer) lines
@@ -29,9 +29,9 @@ unfolding
     -- the text in tokens
     isSpace opening emptyWord same strip sign atFront spaceBefore longer letterBefore byteBefore cut tokens
     -- the walk
-    signalOf table stepOf isWord fitsAfter goodToken accepts acceptsRest hasForm
+    signalOf table stepOf isWord fitsAfter passes allPass accepts acceptsRest hasForm
     -- the record filled
-    emptyModel knownToken knownTokens startRows isFree withName nextFactor withMode takeToken andThen gatherFrom modelOf
+    emptyModel startRows isFree withName nextFactor withMode takeToken andThen gatherFrom modelOf
     -- the answer
     factorsAnswer beginsWithWord contentAnswer tokensAnswer textAnswer
 answered = refl

@@ -1,16 +1,14 @@
 -- The tokens of a declaration, taken one after the other, fill the rows as its factors do.
 -- Assumes nothing.
 use Prim.Native.Nat.{ℕ, zero, suc}
-use mathlib.Core.Path.{_≡_, refl, sym, _∙_, ap}
-use mathlib.Core.Bool.{Bool, true, false, _&&_}
+use mathlib.Core.Path.{_≡_, refl, sym, _∙_}
 use mathlib.Core.List.{List, [], _∷_}
 use mathlib.Core.Option.{Option, none, some}
 use Rattle.declaration_spelling.specs.Token.{Token, lpar}
 use Rattle.declaration_spelling.specs.House.{Factor}
 use Rattle.declaration_spelling.specs.Spelled.{markTokens, barsTokens, groupTokens, factorTokens, othersTokens}
-use Rattle.declaration_spelling.specs.Form.{allNames, allFactors}
-use Rattle.declaration_spelling.specs.Read.{known, numberFor, numbersFor, numbered}
-use Rattle.declaration_gather.specs.Gather.{knownToken, knownTokens, Rows, withName, nextFactor, withMode, takeToken, andThen, gatherFrom}
+use Rattle.declaration_spelling.specs.Read.{numberFor, numbersFor, numbered}
+use Rattle.declaration_gather.specs.Gather.{Rows, withName, nextFactor, withMode, takeToken, andThen, gatherFrom}
 use Rattle.declaration_gather.proofs.Rows.{placeNames, placeFactor, placeOthers}
 
 then-then : {A B C : Type 0} (o : Option A) (f : A → Option B) (k : B → Option C) → andThen (andThen o f) k ≡ andThen o (λ a. andThen (f a) k)
@@ -76,46 +74,3 @@ module _ (size : ℕ) (names : List (List ℕ)) where
       opened (factorTokens f (othersTokens fs)) g
       ∙ factor-taken f (othersTokens fs) g
       ∙ then-same (placeFactor (byNumber f) g) (gatherFrom size names (othersTokens fs)) (placeOthers size (numbered names fs)) (others-taken fs)
-
--- ---- every name is known
-
-module _ (names : List (List ℕ)) where
-  and-and : (a b c : Bool) → (a && (b && c)) ≡ ((a && b) && c)
-  and-and true b c = refl
-  and-and false b c = refl
-
-  bars-known : (xs : List (List ℕ)) (ts : List Token) → knownTokens names (barsTokens xs ts) ≡ (allNames (known names) xs && knownTokens names ts)
-  unfolding barsTokens knownTokens knownToken allNames
-  bars-known [] ts = refl
-  bars-known (x ∷ xs) ts = ap (λ (b : Bool). known names x && b) (bars-known xs ts) ∙ and-and (known names x) (allNames (known names) xs) (knownTokens names ts)
-
-  group-known : (xs : List (List ℕ)) (ts : List Token) → knownTokens names (groupTokens xs ts) ≡ (allNames (known names) xs && knownTokens names ts)
-  unfolding groupTokens knownTokens knownToken allNames
-  group-known [] ts = refl
-  group-known (x ∷ []) ts = and-and (known names x) true (knownTokens names ts)
-  group-known (x ∷ y ∷ xs) ts = ap (λ (b : Bool). known names x && b) (bars-known (y ∷ xs) ts) ∙ and-and (known names x) (allNames (known names) (y ∷ xs)) (knownTokens names ts)
-
-  mark-known : (m : ℕ) (ts : List Token) → knownTokens names (markTokens m ts) ≡ knownTokens names ts
-  unfolding markTokens knownTokens knownToken
-  mark-known zero ts = refl
-  mark-known (suc m) ts = refl
-
-  factor-known : (f : Factor (List ℕ)) (ts : List Token) → knownTokens names (factorTokens f ts) ≡ (allNames (known names) (f .names) && knownTokens names ts)
-  unfolding factorTokens
-  factor-known f ts = group-known (f .names) (markTokens (f .mode) ts) ∙ ap (λ (b : Bool). allNames (known names) (f .names) && b) (mark-known (f .mode) ts)
-
-  others-known : (fs : List (Factor (List ℕ))) → knownTokens names (othersTokens fs) ≡ allFactors (known names) fs
-  unfolding othersTokens knownTokens knownToken allFactors
-  others-known [] = refl
-  others-known (f ∷ fs) = factor-known f (othersTokens fs) ∙ ap (λ (b : Bool). allNames (known names) (f .names) && b) (others-known fs)
-
-  opened-known : (ts : List Token) → knownTokens names (lpar ∷ ts) ≡ knownTokens names ts
-  unfolding knownTokens knownToken
-  opened-known ts = refl
-
-  factors-known : (f : Factor (List ℕ)) (fs : List (Factor (List ℕ))) → knownTokens names (factorTokens f (othersTokens fs)) ≡ allFactors (known names) (f ∷ fs)
-  unfolding allFactors
-  factors-known f fs = factor-known f (othersTokens fs) ∙ ap (λ (b : Bool). allNames (known names) (f .names) && b) (others-known fs)
-
-  pub model-known : (f : Factor (List ℕ)) (fs : List (Factor (List ℕ))) → knownTokens names (lpar ∷ factorTokens f (othersTokens fs)) ≡ allFactors (known names) (f ∷ fs)
-  model-known f fs = opened-known (factorTokens f (othersTokens fs)) ∙ factors-known f fs

@@ -2,7 +2,7 @@
 -- filled, a name twice (15); `text-answer` in proofs/Gathered.antt says that it is what the reader answers.
 -- Assumes nothing.
 use Prim.Native.Nat.{ℕ, zero, suc}
-use mathlib.Core.Bool.{Bool, true, false, cond, not, _&&_}
+use mathlib.Core.Bool.{Bool, false, cond, not}
 use mathlib.Core.List.{List, [], _∷_}
 use mathlib.Core.Option.{Option, none, some}
 use lib.Dec.{eqb, ltb}
@@ -14,23 +14,15 @@ use Rattle.model.specs.Record.{none as noFactor, emptyModel}
 use Rattle.declaration_spelling.specs.Token.{Token, word, lpar, rpar, comma, bar, end, mark, other}
 use Rattle.declaration_spelling.specs.Form.{cut, tokens}
 use Rattle.declaration_spelling.specs.Read.{known, numberFor, Declared, declared, orRefuse}
-use Rattle.declaration_walk.specs.Walk.{isWord, hasForm}
+use Rattle.declaration_walk.specs.Walk.{isWord, passes, allPass, hasForm}
 
 -- ---- every name is in the book
 
-unfoldable pub knownToken : List (List ℕ) → Token → Bool
-knownToken names (word x) = known names x
-knownToken names lpar = true
-knownToken names rpar = true
-knownToken names comma = true
-knownToken names bar = true
-knownToken names end = true
-knownToken names (mark m) = true
-knownToken names (other b) = true
+abbrev pub knownToken : List (List ℕ) → Token → Bool
+knownToken names t = passes (known names) t
 
-unfoldable pub knownTokens : List (List ℕ) → List Token → Bool
-knownTokens names [] = true
-knownTokens names (t ∷ ts) = knownToken names t && knownTokens names ts
+abbrev pub knownTokens : List (List ℕ) → List Token → Bool
+knownTokens names ts = allPass (known names) ts
 
 -- ---- the record under way
 

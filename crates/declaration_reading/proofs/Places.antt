@@ -10,7 +10,7 @@ use native.Mathlib.Omega.{arith}
 use native.Mathlib.Decide.{ℕ-discrete}
 use native.Mathlib.Nat.{add-zero}
 use lib.Dec.{eqb, ltb}
-use lib.ListN.{length, getD, set, take, drop, drop-of-length-le}
+use lib.ListN.{length, getD, set, drop, drop-of-length-le}
 use lib.Seq.{drop-cons}
 use borrow.Author.Tests.{ne-eqb, lt-ltb}
 use Rattle.refusal.specs.declared.Refusal.the-variants.{NotADeclaration, UnknownName}
@@ -18,7 +18,7 @@ use Rattle.refusal.specs.Answer.{Answer, refused, refuseIf}
 use Rattle.declaration_spelling.specs.Token.{isSpace, Token}
 use Rattle.declaration_spelling.specs.Form.{Cut, atFront, cut, tokens}
 use Rattle.declaration_spelling.specs.Read.{known, numberFor, Declared}
-use Rattle.declaration_walk.specs.Walk.{isWord}
+use Rattle.declaration_walk.specs.Walk.{isWord, passes, allPass}
 use Rattle.declaration_scan.specs.Unread.{nextOf, runOf, kindOf}
 use Rattle.declaration_scan.specs.Piece.{tokenLength, wordEnd, spaceEnd, pieceAt, tokenOf}
 use Rattle.declaration_scan.proofs.Runs.{end-kind}
@@ -85,7 +85,7 @@ token-kind : {X : Type 0} (f : Token → X) (F : ℕ → List ℕ → X) → Agr
 token-kind f F agree = by-kind (λ kind t w. f t ≡ F kind w) agree
 
 known-agrees : (names : List (List ℕ)) → Agree (knownToken names) (knownKind names)
-unfolding knownToken knownKind
+unfolding passes knownKind
 known-agrees names w b = (refl, refl, refl, refl, refl, refl, refl, refl, refl, refl, refl)
 
 take-agrees : (size : ℕ) (names : List (List ℕ)) (g : Rows) → Agree (λ t. takeToken size names t g) (λ kind w. takeKind size kind (numberFor names w) g)
@@ -102,7 +102,7 @@ known-end names w = refl
 
 pub known-next : (names : List (List ℕ)) (s : List ℕ) (at : ℕ) →
     knownTokens names (tokensAt s at) ≡ (knownKind names (pieceAt s at .kind) (partOf s (pieceAt s at .from) (pieceAt s at .to)) && knownTokens names (tokensAt s (pieceAt s at .to)))
-unfolding knownTokens
+unfolding allPass
 known-next names s at = go (next-is s at)
   where
     go : Next s at → knownTokens names (tokensAt s at)

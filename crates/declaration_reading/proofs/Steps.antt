@@ -28,6 +28,7 @@ use Rattle.declaration_scan.specs.Piece.{pieceAt}
 use Rattle.declaration_spelling.specs.Read.{known, numberFor}
 use Rattle.declaration_spelling.proofs.Names.{number-is}
 use Rattle.declaration_spelling.proofs.Books.{few}
+use Rattle.declaration_walk.specs.Walk.{allPass}
 use Rattle.declaration_gather.specs.Gather.{knownTokens, Rows, startRows, andThen, gatherFrom, modelOf, factorsAnswer, beginsWithWord, contentAnswer, tokensAnswer}
 use Rattle.declaration_reading.specs.declared.Declaration.{Declaration}
 use Rattle.declaration_reading.specs.Place.{tokensAt, partOf, knownKind, numberAt, kindMode, takeKind, freeAt, freeKind, factorAfter, modeAfter, indexAfter}
@@ -166,7 +167,7 @@ module _ (s : List ℕ) (i : ℕ) (p : Piece) (is : p ≡ pieceAt s i) where
   known-on names r q e = known-at names ∙ ap (λ (b : Bool). b && knownTokens names (tokensAt s (p .to))) (sym q ∙ e)
 
 pub known-over : (names : List (List ℕ)) (s : List ℕ) (i : ℕ) → length s ≤ i → true ≡ knownTokens names (tokensAt s i)
-unfolding knownTokens
+unfolding allPass
 known-over names s i h = rw (tokens-over s i h)
 
 -- ---- the rows

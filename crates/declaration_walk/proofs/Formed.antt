@@ -11,9 +11,10 @@ use Rattle.declaration_spelling.specs.House.{opening}
 use Rattle.declaration_spelling.specs.Form.{strip, SpacedToken, Cut, cut, fits, spaced, tokens, parse, allForm, keptIf, formCut, formRest, formOf}
 use Rattle.declaration_spelling.specs.Stops.{Form}
 use Rattle.declaration_spelling.proofs.Form.{parse-sound}
-use Rattle.declaration_walk.specs.Walk.{signalOf, stepOf, walk, isWord, fitsAfter, goodToken, accepts, acceptsRest, hasForm}
+use Rattle.declaration_spelling.proofs.Bytes.{empty-name}
+use Rattle.declaration_walk.specs.Walk.{signalOf, stepOf, walk, isWord, fitsAfter, allPass, goodToken, accepts, acceptsRest, hasForm}
 use Rattle.declaration_walk.proofs.Runs.{found, found-cond, lost, parse-walk}
-use Rattle.declaration_walk.proofs.Goods.{allGood, form-good}
+use Rattle.declaration_walk.proofs.Words.{form-pass}
 
 behind-fits : (t : Token) (gap : Bool) → fits (behind t) gap ≡ cond (isWord t) gap true
 unfolding fits behind isWord
@@ -43,14 +44,14 @@ shuffle true true b h c = refl
 shuffle true false true h c = refl
 shuffle true false false h c = refl
 
-accepts-is : (s : ℕ) (t : Token) (gap : Bool) (ps : List SpacedToken) → accepts s (isWord t) gap ps ≡ (spaced t gap ps && (allGood (tokens ps) && walk s (tokens ps)))
-unfolding accepts spaced tokens allGood walk
+accepts-is : (s : ℕ) (t : Token) (gap : Bool) (ps : List SpacedToken) → accepts s (isWord t) gap ps ≡ (spaced t gap ps && (allPass isName (tokens ps) && walk s (tokens ps)))
+unfolding accepts spaced tokens allPass walk
 accepts-is s t gap [] = refl
 accepts-is s t gap (p ∷ ps) =
     ap₂ (λ (a b : Bool). a && (goodToken (p .token) && b)) (sym (fits-after t (p .token) gap)) (accepts-is (stepOf s (signalOf (p .token))) (p .token) (p .gap) ps)
-    ∙ shuffle (fits (room t (p .token)) gap) (goodToken (p .token)) (spaced (p .token) (p .gap) ps) (allGood (tokens ps)) (walk (stepOf s (signalOf (p .token))) (tokens ps))
+    ∙ shuffle (fits (room t (p .token)) gap) (goodToken (p .token)) (spaced (p .token) (p .gap) ps) (allPass isName (tokens ps)) (walk (stepOf s (signalOf (p .token))) (tokens ps))
 
-pub and-true : (a : Bool) → (a && true) ≡ a
+and-true : (a : Bool) → (a && true) ≡ a
 and-true true = refl
 and-true false = refl
 
@@ -59,7 +60,7 @@ and-false true = refl
 and-false false = refl
 
 lost-behind : (t : Token) (gap : Bool) (ps : List SpacedToken) → accepts 11 (isWord t) gap ps ≡ false
-lost-behind t gap ps = accepts-is 11 t gap ps ∙ rw (← lost (tokens ps), and-false (allGood (tokens ps))) (and-false (spaced t gap ps))
+lost-behind t gap ps = accepts-is 11 t gap ps ∙ rw (← lost (tokens ps), and-false (allPass isName (tokens ps))) (and-false (spaced t gap ps))
 
 -- from nowhere nothing is accepted
 pub accepts-lost : (behindWord gap : Bool) (ps : List SpacedToken) → accepts 11 behindWord gap ps ≡ false
@@ -67,14 +68,14 @@ unfolding isWord
 accepts-lost true gap ps = lost-behind (word []) gap ps
 accepts-lost false gap ps = lost-behind lpar gap ps
 
-kept-found : (ts : List Token) (o : Option Form) → parse ts ≡ o → found (keptIf (allForm isName) o) ≡ (allGood ts && found o)
+kept-found : (ts : List Token) (o : Option Form) → parse ts ≡ o → found (keptIf (allForm isName) o) ≡ (allPass isName ts && found o)
 unfolding found keptIf
-kept-found ts none q = sym (and-false (allGood ts))
+kept-found ts none q = sym (and-false (allPass isName ts))
 kept-found ts (some d) q =
     found-cond (allForm isName d) d
-    ∙ sym (form-good d)
-    ∙ ap allGood (sym (parse-sound ts d q .0))
-    ∙ sym (and-true (allGood ts))
+    ∙ sym (form-pass isName empty-name d)
+    ∙ ap (allPass isName) (sym (parse-sound ts d q .0))
+    ∙ sym (and-true (allPass isName ts))
 
 none-found : found {A = Form} none ≡ false
 unfolding found
@@ -86,7 +87,7 @@ cut-found c = go (spaced (word opening) (c .gap) (c .pieces)) refl ∙ sym (acce
   where
     go : (b : Bool) → spaced (word opening) (c .gap) (c .pieces) ≡ b →
         found (cond (spaced (word opening) (c .gap) (c .pieces)) (keptIf (allForm isName) (parse (tokens (c .pieces)))) none)
-        ≡ (spaced (word opening) (c .gap) (c .pieces) && (allGood (tokens (c .pieces)) && walk 0 (tokens (c .pieces))))
+        ≡ (spaced (word opening) (c .gap) (c .pieces) && (allPass isName (tokens (c .pieces)) && walk 0 (tokens (c .pieces))))
     go true q = rw (q, ← parse-walk (tokens (c .pieces))) (kept-found (tokens (c .pieces)) (parse (tokens (c .pieces))) refl)
     go false q = rw q none-found
 

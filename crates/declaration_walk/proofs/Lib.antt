@@ -1,3 +1,3 @@
 pub mod Runs
-pub mod Goods
+pub mod Words
 pub mod Formed

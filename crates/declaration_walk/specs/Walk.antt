@@ -73,16 +73,25 @@ fitsAfter behindWord gap end = true
 fitsAfter behindWord gap (mark m) = not gap
 fitsAfter behindWord gap (other b) = true
 
+-- The token is no word, or a word that passes the test.
+unfoldable pub passes : (List ℕ → Bool) → Token → Bool
+passes test (word x) = test x
+passes test lpar = true
+passes test rpar = true
+passes test comma = true
+passes test bar = true
+passes test end = true
+passes test (mark m) = true
+passes test (other b) = true
+
+-- Every word passes the test.
+unfoldable pub allPass : (List ℕ → Bool) → List Token → Bool
+allPass test [] = true
+allPass test (t ∷ ts) = passes test t && allPass test ts
+
 -- A word keeps the rule for names, as `EMPTY` does.
-unfoldable pub goodToken : Token → Bool
-goodToken (word x) = isName x
-goodToken lpar = true
-goodToken rpar = true
-goodToken comma = true
-goodToken bar = true
-goodToken end = true
-goodToken (mark m) = true
-goodToken (other b) = true
+abbrev pub goodToken : Token → Bool
+goodToken t = passes isName t
 
 -- One walk for white space, names and form, from a state on.
 unfoldable pub accepts : ℕ → Bool → Bool → List SpacedToken → Bool
