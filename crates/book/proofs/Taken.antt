@@ -1,7 +1,7 @@
 -- The laws of a book that the calls take. What is checked of a whole book is opened in the first part alone.
 -- Assumes nothing.
 use Prim.Native.Nat.{ℕ, _≤_, _<_}
-use mathlib.Core.Path.{_≡_, refl, sym, _∙_, ap}
+use mathlib.Core.Path.{_≡_, _∙_, ap}
 use mathlib.Core.Bool.{true, false, not}
 use mathlib.Core.List.{List}
 use mathlib.Core.Logic.{_↔_, ⊎-elim}
@@ -13,7 +13,7 @@ use Rattle.refusal.specs.declared.Refusal.{Refusal}
 use Rattle.refusal.specs.declared.Outcome.the-variants.{Done, Refused}
 use Rattle.refusal.specs.Table.{ofBook}
 use Rattle.refusal.specs.Answer.{Answer, given, refused, onward}
-use Rattle.refusal.proofs.Answers.{onward-given, given-same, given-refused, onward-refused}
+use Rattle.refusal.proofs.Answers.{onward-given, given-refused, onward-refused}
 use Rattle.book.specs.declared.Layout.{Layout}
 use Rattle.book.specs.declared.Reading.{Reading}
 use Rattle.book.specs.Book.{Book, bookOf, IsBook, namesIn, blocksIn}

@@ -5,7 +5,7 @@ use mathlib.Core.Path.{_≡_, sym, _∙_, ap, subst}
 use mathlib.Core.Bool.{true, false}
 use mathlib.Core.List.{List}
 use native.Mathlib.Omega.{arith}
-use lib.ListN.{length, take, drop}
+use lib.ListN.{length, take, drop, replicate, length-replicate}
 use borrow.Author.Tests.{lt-ltb, le-ltb}
 use Rattle.refusal.specs.declared.Refusal.{Refusal}
 use Rattle.refusal.specs.declared.Refusal.the-variants.{BadParent, NotAChain, BufferTooShort}
@@ -33,9 +33,11 @@ use Rattle.declaration_writing.specs.Write.{fitted, writeIn, writeAnswer
 
 -- ---- a chain of a book that was read
 
-module _ (s : List ℕ) (l : Layout) (laid : LaidOut s l) (p : ℕ) (below : p < l .names) (m : Model) (c : IsChain places (l .names) m) where
-  pub fits-aside : (z : ℕ) → z ≡ longestDeclaration → 0 + length (declaration (namesIn s) p m) ≤ z
-  fits-aside z e = let h : length (declaration (namesIn s) p m) ≤ longestDeclaration = declaration-short s l laid p below m c in omega arith
+pub fits-aside : (s : List ℕ) (l : Layout) (p : ℕ) (m : Model) → LaidOut s l × (p < l .names) × IsChain places (l .names) m →
+    0 + length (declaration (namesIn s) p m) ≤ length (replicate {A = ℕ} longestDeclaration 0)
+fits-aside s l p m (laid, below, c) =
+    let h : length (declaration (namesIn s) p m) ≤ longestDeclaration = declaration-short s l laid p below m c in
+    omega (arith, length-replicate {A = ℕ} longestDeclaration 0)
 
 -- ---- 12, else the text
 

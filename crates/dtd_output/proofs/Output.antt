@@ -11,7 +11,6 @@ use Rattle.refusal.specs.declared.Refusal.{Refusal}
 use Rattle.refusal.specs.declared.Outcome.the-variants.{Done, Refused}
 use Rattle.refusal.specs.Table.{numberOf}
 use Rattle.book.specs.declared.Reading.{Reading}
-use Rattle.book.specs.Book.{Book}
 use Rattle.book.specs.Layout.{readingOf}
 use Rattle.book.specs.Taken.{takenBook}
 use Rattle.book.proofs.Laws.{reading-refused}

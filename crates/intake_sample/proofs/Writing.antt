@@ -67,7 +67,7 @@ module _ (s : List ℕ) (p : ℕ) (x : InferredIn) (call : x ≡ inferredIn (rea
   unfolding sampleText modelAnswer
   stopped-model d w f o e =
       stopped d w f (sampleText s p (length d)) e
-      (text-refused (takenBook s) (λ b. modelIn b p) (λ b m. fitted (length d) (declaration (b .names) p m)) f (outcome-refused (modelAnswer s p) f .0 (sym outcome-is ∙ o)))
+      (text-refused (takenBook s) (λ b. modelIn b p) _ f (outcome-refused (modelAnswer s p) f .0 (sym outcome-is ∙ o)))
 
   module _ (done : x .outcome ≡ Done) where
     told : Given s p (x .model)

@@ -17,7 +17,6 @@ use Rattle.book.specs.Book.{allBelow}
 use Rattle.model.specs.declared.Model.{Model}
 use Rattle.model.specs.Check.{isChain}
 use Rattle.model.specs.Accept.{Accepts, Names}
-use Rattle.model.specs.Run.{accepts}
 use Rattle.model.proofs.Tests.{never}
 use Rattle.model.proofs.Chain.{chain-law}
 use Rattle.model.proofs.Acceptance.{accepts-law}
