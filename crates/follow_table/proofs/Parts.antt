@@ -7,15 +7,14 @@ use native.Mathlib.Omega.{arith}
 use native.Mathlib.Decide.{decLt}
 use lib.ListN.{length, take, drop, replicate, length-drop, length-append, length-replicate, take-append-drop, replicate-append-replicate}
 use lib.Seq.{length-take-le, take-at, drop-at, take-append-le, drop-append-le, drop-append-add}
-use Rattle.nameset.specs.Places.{places}
-use Rattle.follow_table.specs.Table.{rowSize, tableSize, rowOf, RowAdded, Added}
+use Rattle.follow_table.specs.Table.{tabled, rowSize, tableSize, rowOf, RowAdded, Added}
 
 -- the part of the table that the code takes is the row
 pub part-is : (t : List ℕ) (p : ℕ) → take (p * rowSize + rowSize - p * rowSize) (drop (p * rowSize) t) ≡ rowOf t p
 unfolding rowOf
 part-is t p = let e : p * rowSize + rowSize - p * rowSize ≡ rowSize = omega arith in rw e
 
-pub length-row : (t : List ℕ) (p : ℕ) → length t ≡ tableSize → p < places → length (rowOf t p) ≡ rowSize
+pub length-row : (t : List ℕ) (p : ℕ) → length t ≡ tableSize → p < tabled → length (rowOf t p) ≡ rowSize
 unfolding rowOf
 length-row t p l h =
     let e : length (drop (p * rowSize) t) ≡ length t - p * rowSize = length-drop (p * rowSize) t in
@@ -57,7 +56,7 @@ module _ (a b : List ℕ) (q : ℕ) (before : length a ≡ q * rowSize) where
 pub withRow : List ℕ → ℕ → List ℕ → List ℕ
 withRow t q r = take (q * rowSize) t ++ (r ++ drop rowSize (drop (q * rowSize) t))
 
-module _ (t : List ℕ) (q : ℕ) (size : length t ≡ tableSize) (below : q < places) where
+module _ (t : List ℕ) (q : ℕ) (size : length t ≡ tableSize) (below : q < tabled) where
   before : length (take (q * rowSize) t) ≡ q * rowSize
   before = length-take-le (q * rowSize) t (omega arith)
 
@@ -90,7 +89,7 @@ module _ (t : List ℕ) (q : ℕ) (size : length t ≡ tableSize) (below : q < p
         omega (arith, before)
 
 -- a row to which a word was added, put back: the table with the word added
-pub word-put : (t w r : List ℕ) (q : ℕ) → length t ≡ tableSize → q < places →
+pub word-put : (t w r : List ℕ) (q : ℕ) → length t ≡ tableSize → q < tabled →
     RowAdded (take (q * rowSize + rowSize - q * rowSize) (drop (q * rowSize) t)) w r →
     Added t q w (take (q * rowSize) t ++ (r ++ drop (q * rowSize + rowSize - q * rowSize) (drop (q * rowSize) t)))
 unfolding withRow

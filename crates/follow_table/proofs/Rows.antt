@@ -13,12 +13,12 @@ use mir.Val.{Fits}
 use lib.Seq.{paste, paste-zero, paste-suc, take-all, getD-drop}
 use Rattle.nameset.specs.Places.{places}
 use Rattle.nameset.specs.declared.NameSet.{NameSet}
-use Rattle.nameset.specs.Set.{ofWord, wordOf}
-use Rattle.nameset.proofs.Laws.{of-word-of}
+use Rattle.nameset.specs.Rows.{rowAt, putRow}
+use Rattle.nameset.proofs.Rows.{row-kept}
 use Rattle.follow.specs.Follow.{isEmpty}
 use Rattle.follow.specs.Adding.{withFirst, withLast, withPairs}
 use Rattle.follow.proofs.Walk.{word-added}
-use Rattle.follow_table.specs.Table.{rowSize, factsIn, countIn, HasRoom, HeadAdded, RowAdded}
+use Rattle.follow_table.specs.Table.{headSize, rowSize, factsIn, countIn, withEnds, HasRoom, HeadAdded, RowAdded}
 
 -- ---- the copy of the following names
 
@@ -54,39 +54,45 @@ pub count-read : (v u : List ℕ) → v ≡ u → getD v 3 0 ≡ countIn u
 unfolding countIn
 count-read v u e = rw e
 
-pub facts-read : (v u : List ℕ) → v ≡ u → (s e : NameSet) (f : List ℕ) → s ≡ ofWord (getD v 0 0) → e ≡ ofWord (getD v 1 0) → f ≡ drop 4 v →
+pub facts-read : (v u : List ℕ) → v ≡ u → (s e : NameSet) (f : List ℕ) → s ≡ rowAt v 0 → e ≡ rowAt v 1 → f ≡ drop headSize v →
     record { starts = s; ends = e; follows = f; empty = eqb (getD v 2 0) 1 } ≡ factsIn u
 unfolding factsIn
 facts-read v u same s e f es ee ef = rw (es, ee, ef, same)
 
 -- ---- a word added
 
-pub first-kept : (w : List ℕ) (x b : ℕ) (n s : NameSet) → n ≡ ofWord b → s ≡ withFirst n w → x ≡ wordOf s → ofWord x ≡ withFirst (ofWord b) w
-first-kept w x b n s en es ex = rw (ex, of-word-of s, es, en)
-
-pub last-kept : (w : List ℕ) (x b : ℕ) (n s : NameSet) → n ≡ ofWord b → s ≡ withLast n w → x ≡ wordOf s → ofWord x ≡ withLast (ofWord b) w
-last-kept w x b n s en es ex = rw (ex, of-word-of s, es, en)
+-- the two sets, read and put by the code: u₁ is the row after the first
+pub ends-put : (u u₁ v w : List ℕ) (p s q e : NameSet) → p ≡ rowAt u 0 → s ≡ withFirst p w → u₁ ≡ putRow u 0 s →
+    q ≡ rowAt u₁ 1 → e ≡ withLast q w → v ≡ putRow u₁ 1 e → v ≡ withEnds u w
+unfolding withEnds
+ends-put u u₁ v w p s q e ep es eu eq ee ev =
+    let z : q ≡ rowAt u 1 = eq ∙ ap (λ (r : List ℕ). rowAt r 1) eu ∙ row-kept u 0 1 s (λ n. omega arith) in
+    rw (ev, eu, ee, z, es, ep)
 
 -- the count of blocks is as it was, and has room for one more
-pub count-fits : (x y m : ℕ) (u : List ℕ) → length u ≡ rowSize → HasRoom u → Fits w64 (getD (set (set (set u 0 x) 1 y) 2 m) 3 0 + 1)
-unfolding countIn
-count-fits x y m [] l h = absurd (omega arith)
-count-fits x y m (a ∷ []) l h = absurd (omega arith)
-count-fits x y m (a ∷ (b ∷ [])) l h = absurd (omega arith)
-count-fits x y m (a ∷ (b ∷ (c ∷ f))) l h = omega arith
+pub count-fits : (u v w : List ℕ) (m : ℕ) → v ≡ withEnds u w → length u ≡ rowSize → HasRoom u → Fits w64 (getD (set v 2 m) 3 0 + 1)
+unfolding countIn withEnds putRow
+count-fits u v w m e l h = rw e (at u l h)
+  where
+    at : (u : List ℕ) → length u ≡ rowSize → HasRoom u → Fits w64 (getD (set (withEnds u w) 2 m) 3 0 + 1)
+    at [] l h = absurd (omega arith)
+    at (a ∷ []) l h = absurd (omega arith)
+    at (a ∷ (b ∷ [])) l h = absurd (omega arith)
+    at (a ∷ (b ∷ (c ∷ f))) l h = omega arith
 
--- the first four words written, one after the other
-pub head-added : (w : List ℕ) (x y m : ℕ) (u : List ℕ) → length u ≡ rowSize →
-    ofWord x ≡ withFirst (ofWord (getD u 0 0)) w → ofWord y ≡ withLast (ofWord (getD (set u 0 x) 1 0)) w →
-    eqb m 1 ≡ (eqb (getD (set (set u 0 x) 1 y) 2 0) 1 || isEmpty w) →
-    HeadAdded u w (set (set (set (set u 0 x) 1 y) 2 m) 3 (getD (set (set (set u 0 x) 1 y) 2 m) 3 0 + 1))
-unfolding countIn
-head-added w x y m [] l = absurd (omega arith)
-head-added w x y m (a ∷ []) l = absurd (omega arith)
-head-added w x y m (a ∷ (b ∷ [])) l = absurd (omega arith)
-head-added w x y m (a ∷ (b ∷ (c ∷ []))) l = absurd (omega arith)
-head-added w x y m (a ∷ (b ∷ (c ∷ (d ∷ f)))) l =
-    λ es ee em. record { size = l; starts = es; ends = ee; empty = em; count = refl; follows = refl }
+-- behind the two sets the mark and the count are written
+pub head-added : (u v w : List ℕ) (m : ℕ) → v ≡ withEnds u w → length u ≡ rowSize → eqb m 1 ≡ (eqb (getD v 2 0) 1 || isEmpty w) →
+    HeadAdded u w (set (set v 2 m) 3 (getD (set v 2 m) 3 0 + 1))
+unfolding countIn withEnds rowAt putRow
+head-added u v w m e l em = rw e (at u l (em ∙ ap (λ (r : List ℕ). eqb (getD r 2 0) 1 || isEmpty w) e))
+  where
+    at : (u : List ℕ) → length u ≡ rowSize → eqb m 1 ≡ (eqb (getD (withEnds u w) 2 0) 1 || isEmpty w) →
+        HeadAdded u w (set (set (withEnds u w) 2 m) 3 (getD (set (withEnds u w) 2 m) 3 0 + 1))
+    at [] l = absurd (omega arith)
+    at (a ∷ []) l = absurd (omega arith)
+    at (a ∷ (b ∷ [])) l = absurd (omega arith)
+    at (a ∷ (b ∷ (c ∷ []))) l = absurd (omega arith)
+    at (a ∷ (b ∷ (c ∷ (d ∷ f)))) l = λ em. record { size = l; starts = refl; ends = refl; empty = em; count = refl; follows = refl }
 
 module _ (v : List ℕ) (l : length v ≡ rowSize) where
   left-long : length (drop 4 v) ≡ places
@@ -104,7 +110,7 @@ module _ (v : List ℕ) (l : length v ≡ rowSize) where
 
 -- then the pairs
 pairs-added : (u w r : List ℕ) (v : List ℕ) → HeadAdded u w v → r ≡ withPairs (drop 4 u) w → length r ≡ places → RowAdded u w (take 4 v ++ r)
-unfolding factsIn countIn
+unfolding factsIn countIn rowAt
 pairs-added u w r [] h = absurd (omega (arith, h .size))
 pairs-added u w r (a ∷ []) h = absurd (omega (arith, h .size))
 pairs-added u w r (a ∷ (b ∷ [])) h = absurd (omega (arith, h .size))
@@ -113,7 +119,7 @@ pairs-added u w r (a ∷ (b ∷ (c ∷ (d ∷ f)))) h =
     λ er lr.
     record {
       size = ap (λ (n : ℕ). suc (suc (suc (suc n)))) lr;
-      facts = word-added (factsIn u) (ofWord a) (ofWord b) r w (eqb c 1) (h .starts) (h .ends) er (h .empty);
+      facts = word-added (factsIn u) _ _ r w _ (h .starts) (h .ends) er (h .empty);
       count = h .count;
     }
 

@@ -6,15 +6,14 @@ use mathlib.Core.List.{List}
 use native.Mathlib.Omega.{arith}
 use native.Mathlib.Decide.{ℕ-discrete}
 use lib.ListN.{length, take, drop, replicate}
-use Rattle.nameset.specs.Places.{places}
 use Rattle.nameset.specs.Set.{empty as noNames}
-use Rattle.nameset.proofs.Laws.{of-zero}
+use Rattle.nameset.specs.Rows.{rowAt, noRows}
 use Rattle.book.specs.declared.Layout.{Layout}
 use Rattle.book.specs.declared.BlockPlace.{BlockPlace}
 use Rattle.book.specs.Access.{LaidOut, blockPlace}
-use Rattle.follow.specs.Adding.{noRows, noFacts, withWord}
+use Rattle.follow.specs.Adding.{noFacts, withWord}
 use Rattle.follow.proofs.Walk.{Walk, walk-begin, walk-done, goes-on, own-turn, other-turn}
-use Rattle.follow_table.specs.Table.{rowSize, tableSize, rowOf, factsIn, countIn, HasRoom, Added, Gathered}
+use Rattle.follow_table.specs.Table.{tabled, rowSize, tableSize, rowOf, factsIn, countIn, HasRoom, Added, Gathered}
 use Rattle.follow_table.proofs.Parts.{row-zeros}
 
 -- What the row of parent p keeps is where the walk of that parent stands.
@@ -23,11 +22,11 @@ pub record Stands (s table : List ℕ) (at left p : ℕ) : Type 0 where
   pub few : countIn (rowOf table p) ≤ at
 
 abbrev pub Walks : List ℕ → List ℕ → ℕ → ℕ → Type 0
-Walks s table at left = (p : ℕ) → p < places → Stands s table at left p
+Walks s table at left = (p : ℕ) → p < tabled → Stands s table at left p
 
 zero-facts : factsIn (replicate rowSize 0) ≡ noFacts
-unfolding factsIn noFacts noRows
-zero-facts = rw of-zero
+unfolding factsIn noFacts noRows rowAt
+zero-facts = refl
 
 zero-count : countIn (replicate rowSize 0) ≡ 0
 unfolding countIn
@@ -45,12 +44,12 @@ walks-begin s l n en laid p h =
     }
 
 -- A book has fewer bytes than a count of blocks can reach.
-pub count-room : (s table : List ℕ) (at left p : ℕ) → Walks s table at left → p < places → at < 2 ^ 63 → HasRoom (rowOf table p)
+pub count-room : (s table : List ℕ) (at left p : ℕ) → Walks s table at left → p < tabled → at < 2 ^ 63 → HasRoom (rowOf table p)
 count-room s table at left p walks below h = omega (arith, walks p below .few)
 
 module _ (s t u : List ℕ) (at left : ℕ) (more : 0 < left) (place : BlockPlace) (found : place ≡ blockPlace s at)
     (w : List ℕ) (word : w ≡ take (place .to - place .from) (drop (place .from) s)) (added : Added t (place .parent) w u) where
-  stands-on : (p : ℕ) → p < places → Stands s t at left p → Stands s u (place .to) (left - 1) p
+  stands-on : (p : ℕ) → p < tabled → Stands s t at left p → Stands s u (place .to) (left - 1) p
   stands-on p below stands = go (ℕ-discrete p (place .parent))
     where
       past : at < place .to

@@ -8,21 +8,25 @@ use follow::ParentFacts;
 use follow::add_pairs;
 use follow::with_first;
 use follow::with_last;
-use nameset::NameSet;
-use nameset::PLACES;
+use nameset::ROWS;
+use nameset::put_row;
+use nameset::row_at;
 ghost use mathlib.Core.Path.{_≡_};
 ghost use mathlib.Core.Bool.{true, _||_};
-ghost use Prim.Native.Nat.{_<_};
+ghost use Prim.Native.Nat.{_≤_, _<_};
 ghost use lib.Dec.{eqb};
 ghost use lib.ListN.{length, drop};
 ghost use Rattle.nameset.specs.Places.{places};
 ghost use Rattle.book.specs.Book.{allBelow};
 ghost use Rattle.book.specs.Access.{LaidOut};
 ghost use Rattle.follow.specs.Follow.{isEmpty};
-ghost use Rattle.follow_table.specs.Table.{rowSize, tableSize, rowOf, factsIn, countIn, HasRoom, HeadAdded, RowAdded, Added, Gathered};
+ghost use Rattle.follow_table.specs.Table.{tabled, headSize, rowSize, tableSize, rowOf, factsIn, countIn, withEnds, HasRoom, HeadAdded, RowAdded, Added, Gathered};
 
-// A row: the set of starts, the set of ends, 1 where a word is empty, the number of blocks, then the names that follow
-// each name.
+// A table serves books of up to so many names.
+pub const TABLED: usize = 64;
+
+// A row of the table: the set of starts and the set of ends, as rows of `nameset`; 1 where a word is empty; the number
+// of blocks; then the names that follow each name.
 const STARTS: usize = 0;
 
 const ENDS: usize = 1;
@@ -33,10 +37,10 @@ const BLOCKS: usize = 3;
 
 const FOLLOWS: usize = 4;
 
-const ROW: usize = 68;
+const ROW: usize = FOLLOWS + TABLED;
 
-// The words of a table: a row for each place.
-pub const WORDS: usize = 4352;
+// The words of a table: a row for each name.
+pub const WORDS: usize = TABLED * ROW;
 
 // 1 where there was an empty word before, or this one is empty.
 fn mark_empty(mark: u64, word: &[u8]) -> u64
@@ -48,13 +52,23 @@ fn mark_empty(mark: u64, word: &[u8]) -> u64
     mark
 }
 
+// Puts the first name of a word into the starts of a row, and the last into the ends.
+fn add_ends(row: &mut [u64], word: &[u8])
+    requires { ⌜ (length (now row) ≡ rowSize) × (allBelow places (now word) ≡ true) ⌝ }
+    ensures { λ _. ⌜ (now (row .exit) ≡ withEnds (now (row .entry)) (now (word .entry))) × (length (now (row .exit)) ≡ rowSize) ⌝ }
+{
+    let starts = with_first(row_at(row, STARTS), word);
+    put_row(row, STARTS, starts);
+    let ends = with_last(row_at(row, ENDS), word);
+    put_row(row, ENDS, ends);
+}
+
 // Adds a block's word to a row, all but its pairs.
 fn add_to_head(row: &mut [u64], word: &[u8])
     requires { ⌜ (length (now row) ≡ rowSize) × (allBelow places (now word) ≡ true) × HasRoom (now row) ⌝ }
     ensures { λ _. ⌜ HeadAdded (now (row .entry)) (now (word .entry)) (now (row .exit)) ⌝ }
 {
-    row[STARTS] = with_first(NameSet::of_word(row[STARTS]), word).word();
-    row[ENDS] = with_last(NameSet::of_word(row[ENDS]), word).word();
+    add_ends(row, word);
     row[EMPTY] = mark_empty(row[EMPTY], word);
     row[BLOCKS] += 1;
 }
@@ -70,7 +84,7 @@ fn add_to_row(row: &mut [u64], word: &[u8])
 
 // Adds a block's word to the row of its parent.
 fn add_to_table(table: &mut [u64], parent: usize, word: &[u8])
-    requires { ⌜ (length (now table) ≡ tableSize) × (parent < places) × (allBelow places (now word) ≡ true) × HasRoom (rowOf (now table) parent) ⌝ }
+    requires { ⌜ (length (now table) ≡ tableSize) × (parent < tabled) × (allBelow places (now word) ≡ true) × HasRoom (rowOf (now table) parent) ⌝ }
     ensures { λ _. ⌜ Added (now (table .entry)) parent (now (word .entry)) (now (table .exit)) ⌝ }
 {
     let from = parent * ROW;
@@ -78,9 +92,9 @@ fn add_to_table(table: &mut [u64], parent: usize, word: &[u8])
     add_to_row(&mut table[from..to], word);
 }
 
-// The table of a book that was read.
+// The table of a book that was read, of at most as many names as a table serves.
 pub fn gather_facts(bytes: &[u8], layout: Layout) -> [u64; WORDS]
-    requires { ⌜ LaidOut (now bytes) layout ⌝ }
+    requires { ⌜ LaidOut (now bytes) layout × (layout .names ≤ tabled) ⌝ }
     ensures { λ r. ⌜ Gathered (now (bytes .entry)) r ⌝ }
 {
     let mut table = [0u64; WORDS];
@@ -98,7 +112,7 @@ pub fn gather_facts(bytes: &[u8], layout: Layout) -> [u64; WORDS]
 
 // The row of a parent.
 fn row_of(table: &[u64], parent: usize) -> &[u64]
-    requires { ⌜ (length (now table) ≡ tableSize) × (parent < places) ⌝ }
+    requires { ⌜ (length (now table) ≡ tableSize) × (parent < tabled) ⌝ }
     ensures { λ r. ⌜ (now r ≡ rowOf (now (table .entry)) parent) × (length (now r) ≡ rowSize) ⌝ }
 {
     let from = parent * ROW;
@@ -107,13 +121,13 @@ fn row_of(table: &[u64], parent: usize) -> &[u64]
 }
 
 // The names that follow each name, of a row.
-fn follows_in(row: &[u64]) -> [u64; PLACES]
+fn follows_in(row: &[u64]) -> [u64; ROWS]
     requires { ⌜ length (now row) ≡ rowSize ⌝ }
-    ensures { λ r. ⌜ r ≡ drop 4 (now (row .entry)) ⌝ }
+    ensures { λ r. ⌜ r ≡ drop headSize (now (row .entry)) ⌝ }
 {
-    let mut rows = [0u64; PLACES];
+    let mut rows = [0u64; ROWS];
     let mut i = 0;
-    while i < PLACES {
+    while i < TABLED {
         rows[i] = row[FOLLOWS + i];
         i += 1;
     }
@@ -122,15 +136,15 @@ fn follows_in(row: &[u64]) -> [u64; PLACES]
 
 // What the table keeps of a parent.
 pub fn facts_in(table: &[u64], parent: usize) -> ParentFacts
-    requires { ⌜ (length (now table) ≡ tableSize) × (parent < places) ⌝ }
+    requires { ⌜ (length (now table) ≡ tableSize) × (parent < tabled) ⌝ }
     ensures { λ r. ⌜ (r .blocks ≡ countIn (rowOf (now (table .entry)) parent)) × (r .facts ≡ factsIn (rowOf (now (table .entry)) parent)) ⌝ }
 {
     let row = row_of(table, parent);
     ParentFacts {
         blocks: row[BLOCKS] as usize,
         facts: Facts {
-            starts: NameSet::of_word(row[STARTS]),
-            ends: NameSet::of_word(row[ENDS]),
+            starts: row_at(row, STARTS),
+            ends: row_at(row, ENDS),
             follows: follows_in(row),
             empty: row[EMPTY] == 1,
         },

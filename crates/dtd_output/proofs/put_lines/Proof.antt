@@ -6,6 +6,7 @@ use borrow.Author.Needs.{needs}
 use Rattle.byte_buffer.proofs.Puts.{Left}
 use Rattle.dtd_output.specs.Output.{linesFrom, bookIn}
 use Rattle.dtd_output.proofs.Lines.{lines-room, lines-start, line-room, lines-more, lines-done}
+use Rattle.book.proofs.Laws.{few-names}
 use Rattle.dtd_output.proofs.put_lines.Statement.{statement}
 use Rattle.dtd_output.proofs.put_lines.Tie as tie
 
@@ -17,7 +18,7 @@ abbrev μ-loop : tie.MeasureT-loop
 μ-loop out₀ bytes layout table to₀ parent₀ out to parent = layout .names - parent
 
 gather-facts-requires : tie.Need-gather-facts-requires Inv-loop μ-loop
-gather-facts-requires c κs = search needs
+gather-facts-requires c κs = let laid = c .before .before .pre .0 in (laid, few-names _ _ laid)
 
 loop-holds : tie.Need-loop-holds Inv-loop μ-loop
 loop-holds c = (omega arith, lines-start _ _ (c .before .before .before .pre .0) _)

@@ -26,7 +26,7 @@ walk : (c : tie.In-loop Inv-loop μ-loop) →
 walk c = c .before .loop .inv .1 0 (omega arith) .walk
 
 loop-holds : tie.Need-loop-holds Inv-loop μ-loop
-loop-holds c = (length-replicate {A = ℕ} tableSize 0, walks-begin _ _ tableSize refl (c .before .pre))
+loop-holds c = (length-replicate {A = ℕ} tableSize 0, walks-begin _ _ tableSize refl (c .before .pre .0))
 
 block-at-place-requires : tie.Need-block-at-place-requires Inv-loop μ-loop
 block-at-place-requires c κs = turn _ _ _ _ _ _ (walk c) (more c) .fits
