@@ -8,7 +8,7 @@ use native.Mathlib.Decide.{decLt}
 use lib.ListN.{length, getD, length-set, List·getD-eq-default, length-replicate}
 use lib.Seq.{getD-set-same, getD-set-other}
 use Rattle.model.specs.declared.Model.{Model}
-use Rattle.model.specs.Record.{none, factorOf, modeOf, emptyModel}
+use Rattle.model.specs.Record.{noFactor, factorOf, modeOf, emptyModel}
 use Rattle.model.specs.Build.{entriesWith, withFactor}
 use Rattle.model.proofs.Empty.{replicate-at}
 use Rattle.model.proofs.Building.{entries-length, entries-at}
@@ -25,17 +25,17 @@ module _ (m : Model) (holds : ℕ → Bool) (mode : ℕ) where
   -- The names that the new factor holds have its number, and the others keep theirs.
   pub with-new : (x : ℕ) → x < length (m .factor) → holds x ≡ true → factorOf (withFactor m holds mode) x ≡ m .count
   unfolding withFactor factorOf
-  with-new x l h = entries-at holds (m .count) (m .factor) x none l ∙ rw h
+  with-new x l h = entries-at holds (m .count) (m .factor) x noFactor l ∙ rw h
 
   pub with-old : (x : ℕ) → holds x ≡ false → factorOf (withFactor m holds mode) x ≡ factorOf m x
   unfolding withFactor factorOf
   with-old x h = go (decLt x (length (m .factor)))
     where
-      go : Dec (x < length (m .factor)) → getD (entriesWith holds (m .count) 0 (m .factor)) x none ≡ getD (m .factor) x none
-      go (yes l) = entries-at holds (m .count) (m .factor) x none l ∙ rw h
+      go : Dec (x < length (m .factor)) → getD (entriesWith holds (m .count) 0 (m .factor)) x noFactor ≡ getD (m .factor) x noFactor
+      go (yes l) = entries-at holds (m .count) (m .factor) x noFactor l ∙ rw h
       go (no l) =
-          List·getD-eq-default (entriesWith holds (m .count) 0 (m .factor)) none {n = x} (omega (arith, entries-length holds (m .count) 0 (m .factor)))
-          ∙ sym (List·getD-eq-default (m .factor) none {n = x} (omega arith))
+          List·getD-eq-default (entriesWith holds (m .count) 0 (m .factor)) noFactor {n = x} (omega (arith, entries-length holds (m .count) 0 (m .factor)))
+          ∙ sym (List·getD-eq-default (m .factor) noFactor {n = x} (omega arith))
 
   pub with-mode : m .count < length (m .mode) → modeOf (withFactor m holds mode) (m .count) ≡ mode
   unfolding withFactor modeOf
@@ -50,15 +50,15 @@ module _ (m : Model) (holds : ℕ → Bool) (mode : ℕ) where
 module _ (size : ℕ) where
   pub empty-sizes : (length (emptyModel size .factor) ≡ size) × (length (emptyModel size .mode) ≡ size)
   unfolding emptyModel
-  empty-sizes = (length-replicate size none, length-replicate size 0)
+  empty-sizes = (length-replicate size noFactor, length-replicate size 0)
 
   pub empty-count : emptyModel size .count ≡ 0
   unfolding emptyModel
   empty-count = refl
 
-  pub empty-factor : (x : ℕ) → factorOf (emptyModel size) x ≡ none
+  pub empty-factor : (x : ℕ) → factorOf (emptyModel size) x ≡ noFactor
   unfolding emptyModel factorOf
-  empty-factor x = replicate-at size x none
+  empty-factor x = replicate-at size x noFactor
 
   pub empty-mode : (i : ℕ) → modeOf (emptyModel size) i ≡ 0
   unfolding emptyModel modeOf

@@ -8,7 +8,7 @@ use native.Mathlib.Omega.{arith}
 use native.Mathlib.Decide.{decLt, ℕ-discrete}
 use lib.ListN.{length}
 use Rattle.model.specs.declared.Model.{Model}
-use Rattle.model.specs.Record.{none, factorOf, modeOf, IsChain, emptyModel}
+use Rattle.model.specs.Record.{noFactor, factorOf, modeOf, IsChain, emptyModel}
 use Rattle.model.specs.Build.{withFactor}
 use Rattle.follow.specs.Follow.{Follow}
 use Rattle.chain_levels.specs.Below.{anyBelow}
@@ -32,7 +32,7 @@ record Built (f : Follow) (size l g : ℕ) (m : Model) : Type 0 where
   factors : length (m .factor) ≡ size
   modes : length (m .mode) ≡ size
   holds : (x : ℕ) → Done f l g x → factorOf m x < m .count
-  lacks : (x : ℕ) → ¬ Done f l g x → factorOf m x ≡ none
+  lacks : (x : ℕ) → ¬ Done f l g x → factorOf m x ≡ noFactor
   named : (i : ℕ) → i < m .count → (x : ℕ) × Done f l g x × (factorOf m x ≡ i)
   order : (x y : ℕ) → Done f l g x → Done f l g y → SortsBefore f x y → factorOf m x < factorOf m y
   shared : (x y : ℕ) → Done f l g x → Done f l g y → SortsWith f x y → factorOf m x ≡ factorOf m y
@@ -286,10 +286,10 @@ module _ (f : Follow) (size : ℕ) (room : f .names ≤ size) where
     few-factors : chainOf size f .count ≤ f .names
     few-factors = few (f .names) (chainOf size f .count) (factorOf (chainOf size f)) each-named
 
-    in-or-out : (x : ℕ) → (factorOf (chainOf size f) x ≡ none) ⊎ (occurs f x ≡ true)
+    in-or-out : (x : ℕ) → (factorOf (chainOf size f) x ≡ noFactor) ⊎ (occurs f x ≡ true)
     in-or-out x = go (occurs f x) refl
       where
-        go : (b : Bool) → occurs f x ≡ b → (factorOf (chainOf size f) x ≡ none) ⊎ (occurs f x ≡ true)
+        go : (b : Bool) → occurs f x ≡ b → (factorOf (chainOf size f) x ≡ noFactor) ⊎ (occurs f x ≡ true)
         go true e = inr e
         go false e = inl (chain-built .lacks x (λ d. both-ways (occurs f x) (d .0) e))
 
@@ -305,7 +305,7 @@ module _ (f : Follow) (size : ℕ) (room : f .names ≤ size) where
       rest = chain-built .rest;
     }
 
-    module _ (small : size ≤ none) where
+    module _ (small : size ≤ noFactor) where
       pub is-arranged : Arranged f (chainOf size f)
       is-arranged = record {
         held = λ x. (λ h. ⊎-elim (λ e. absurd (omega (arith, few-factors))) (λ o. o) (in-or-out x), λ o. chain-built .holds x (all-done x o));

@@ -6,7 +6,7 @@ use mathlib.Core.List.{List, [], List·Memᴰ}
 use mathlib.Core.Logic.{_⊎_, ⊎-elim}
 use lib.ListN.{length}
 use Rattle.model.specs.declared.Model.{Model}
-use Rattle.model.specs.Record.{none, IsChain}
+use Rattle.model.specs.Record.{noFactor, IsChain}
 use Rattle.model.specs.Accept.{Accepts, Names}
 use Rattle.model_language.specs.Word.{Fact, AcceptsAll}
 use Rattle.follow.specs.Follow.{followOf}
@@ -16,7 +16,7 @@ use Rattle.chain_minimal.proofs.Main as Main
 
 -- For every non-empty list of words over n names, in whatever order and however often.
 -- Records have `size` places (64 in paper 01): at least n, and at most 255, the number that means none.
-module _ (size n : ℕ) (room : n ≤ size) (small : size ≤ none)
+module _ (size n : ℕ) (room : n ≤ size) (small : size ≤ noFactor)
     (words : List (List ℕ)) (names : (w : List ℕ) → List·Memᴰ w words → Names n w) (some : ¬ (words ≡ [])) where
   -- Our model: the chain that is built level by level from the words' follow facts.
   abbrev ours : Model

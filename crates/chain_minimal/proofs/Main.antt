@@ -7,7 +7,7 @@ use mathlib.Core.List.{List, [], List·Memᴰ}
 use mathlib.Core.Logic.{_⊎_, inl, inr, ⊎-elim}
 use lib.ListN.{length}
 use Rattle.model.specs.declared.Model.{Model}
-use Rattle.model.specs.Record.{none, IsChain}
+use Rattle.model.specs.Record.{noFactor, IsChain}
 use Rattle.model.specs.Accept.{Accepts, Names}
 use Rattle.model_language.specs.Word.{Fact, AcceptsAll}
 use Rattle.model_language.proofs.Theorem.{accepts-facts, words-steps, words-decided}
@@ -24,7 +24,7 @@ use Rattle.chain_minimal.proofs.Specified.{placed-law}
 use Rattle.chain_minimal.proofs.Built as Built
 use Rattle.chain_minimal.proofs.FromLevels as FromLevels
 
-module _ (size n : ℕ) (room : n ≤ size) (small : size ≤ none) (words : List (List ℕ)) (names : (w : List ℕ) → List·Memᴰ w words → Names n w) (some : ¬ (words ≡ [])) where
+module _ (size n : ℕ) (room : n ≤ size) (small : size ≤ noFactor) (words : List (List ℕ)) (names : (w : List ℕ) → List·Memᴰ w words → Names n w) (some : ¬ (words ≡ [])) where
   abbrev ours : Model
   ours = chainOf size (followOf n words)
 

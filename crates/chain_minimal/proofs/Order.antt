@@ -7,16 +7,16 @@ use native.Mathlib.Omega.{arith}
 use native.Mathlib.Decide.{decLt}
 use lib.Seq.{ext-getD}
 use Rattle.model.specs.declared.Model.{Model}
-use Rattle.model.specs.Record.{none, factorOf, modeOf, IsChain}
+use Rattle.model.specs.Record.{noFactor, factorOf, modeOf, IsChain}
 
 module _ (size n : ℕ) (m : Model) (c : IsChain size n m) where
   pub named : (i : ℕ) → i < m .count → (x : ℕ) × (factorOf m x ≡ i)
   named i l = let q = c .named i l in (q .0, q .2)
 
-  absent : (x : ℕ) → m .count ≤ factorOf m x → factorOf m x ≡ none
+  absent : (x : ℕ) → m .count ≤ factorOf m x → factorOf m x ≡ noFactor
   absent x h = go (decLt x n)
     where
-      go : Dec (x < n) → factorOf m x ≡ none
+      go : Dec (x < n) → factorOf m x ≡ noFactor
       go (yes l) = ⊎-elim (λ e. e) (λ k. absurd (omega arith)) (c .placed x l)
       go (no l) = c .others x (omega arith)
 
@@ -67,6 +67,6 @@ module _ (size n : ℕ) (a b : Model) (ca : IsChain size n a) (cb : IsChain size
   unfolding factorOf modeOf
   equal-records counts factors modes = λ k. record {
     count = counts k;
-    factor = ext-getD none (a .factor) (b .factor) (ca .factors ∙ sym (cb .factors)) (λ x l. factors x) k;
+    factor = ext-getD noFactor (a .factor) (b .factor) (ca .factors ∙ sym (cb .factors)) (λ x l. factors x) k;
     mode = ext-getD 0 (a .mode) (b .mode) (ca .modes ∙ sym (cb .modes)) (λ i l. modes i) k;
   }

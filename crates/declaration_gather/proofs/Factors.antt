@@ -11,7 +11,7 @@ use lib.Dec.{eqb}
 use lib.ListN.{length, getD, length-set}
 use lib.Seq.{getD-set-same, getD-set-other}
 use borrow.Author.Tests.{eq-eqb, ne-eqb}
-use Rattle.model.specs.Record.{none as noFactor}
+use Rattle.model.specs.Record.{noFactor}
 use Rattle.declaration_spelling.specs.House.{Factor}
 use Rattle.declaration_spelling.specs.Spelled.{times}
 use Rattle.declaration_spelling.specs.Read.{total, placeFrom, modeAt}

@@ -12,7 +12,7 @@ use Rattle.refusal.specs.declared.Refusal.the-variants.{NotADeclaration, Unknow
 use Rattle.refusal.specs.Answer.{Answer, given, onward, refuseIf}
 use Rattle.name.specs.Rule.{isName}
 use Rattle.model.specs.declared.Model.{Model}
-use Rattle.model.specs.Record.{none as noFactor, emptyModel}
+use Rattle.model.specs.Record.{noFactor, emptyModel}
 use Rattle.model.proofs.Empty.{replicate-at}
 use Rattle.declaration_spelling.specs.Token.{word, lpar}
 use Rattle.declaration_spelling.specs.House.{Factor, opening}

@@ -10,7 +10,7 @@ use lib.ListN.{getD, set, replicate, drop}
 use Rattle.refusal.specs.declared.Refusal.the-variants.{NotADeclaration, UnknownName, NameTwice}
 use Rattle.refusal.specs.Answer.{Answer, given, refused, onward, refuseIf}
 use Rattle.model.specs.declared.Model.{Model}
-use Rattle.model.specs.Record.{none as noFactor, emptyModel}
+use Rattle.model.specs.Record.{noFactor, emptyModel}
 use Rattle.declaration_spelling.specs.Token.{Token, word, lpar, rpar, comma, bar, end, mark, other}
 use Rattle.declaration_spelling.specs.Form.{cut, tokens}
 use Rattle.declaration_spelling.specs.Read.{known, numberFor, Declared, declared, orRefuse}

@@ -22,7 +22,7 @@ use Rattle.book.specs.declared.Found.the-variants.{At, Nothing}
 use Rattle.book.specs.Book.{namesIn}
 use Rattle.book.specs.Access.{LaidOut, numberIn}
 use Rattle.model.specs.declared.Model.{Model}
-use Rattle.model.specs.Record.{none as noFactor, emptyModel}
+use Rattle.model.specs.Record.{noFactor, emptyModel}
 use Rattle.declaration_scan.specs.declared.Piece.{Piece}
 use Rattle.declaration_scan.specs.Piece.{pieceAt}
 use Rattle.declaration_spelling.specs.Read.{known, numberFor}

@@ -8,7 +8,7 @@ use mathlib.Core.Option.{Option, some}
 use lib.Dec.{eqb}
 use lib.ListN.{getD, set, take, drop}
 use Rattle.nameset.specs.Places.{places}
-use Rattle.model.specs.Record.{none as noFactor}
+use Rattle.model.specs.Record.{noFactor}
 use Rattle.declaration_spelling.specs.Token.{Token}
 use Rattle.declaration_spelling.specs.Form.{cut, tokens}
 use Rattle.declaration_spelling.specs.Read.{known, numberFor}

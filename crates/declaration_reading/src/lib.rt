@@ -3,7 +3,7 @@ use book::Found;
 use book::Layout;
 use declaration_scan::WORD;
 use model::Model;
-use model::NONE;
+use model::NO_FACTOR;
 use nameset::PLACES;
 use refusal::Outcome;
 use refusal::Refusal;
@@ -59,7 +59,7 @@ fn read_factors(bytes: &[u8], layout: Layout, text: &[u8], at: usize, parent: us
     requires { ⌜ LaidOut (now bytes) layout × (at ≤ length (now text)) ⌝ }
     ensures { λ r. ⌜ r ≡ declarationOf (factorsAnswer places (namesIn (now (bytes .entry))) parent (tokensAt (now (text .entry)) at)) ⌝ }
 {
-    let mut factor = [NONE; PLACES];
+    let mut factor = [NO_FACTOR; PLACES];
     let mut mode = [0u8; PLACES];
     let mut index = 0;
     let mut i = at;

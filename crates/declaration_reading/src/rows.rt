@@ -1,6 +1,6 @@
 // The rows of the record under way: the factor of each name, and the mode of each factor.
 use declaration_scan::WORD;
-use model::NONE;
+use model::NO_FACTOR;
 use nameset::PLACES;
 ghost use mathlib.Core.Path.{_≡_};
 ghost use mathlib.Core.Bool.{_&&_};
@@ -18,7 +18,7 @@ fn place_name(factor: &mut [u8], x: usize, index: usize) -> bool
     requires { ⌜ (x < length (now factor)) × (index < places) ⌝ }
     ensures { λ r. ⌜ (r ≡ freeAt (now (factor .entry)) x) × (now (factor .exit) ≡ set (now (factor .entry)) x index) × (length (now (factor .exit)) ≡ length (now (factor .entry))) ⌝ }
 {
-    let free = factor[x] == NONE;
+    let free = factor[x] == NO_FACTOR;
     factor[x] = index as u8;
     free
 }

@@ -15,7 +15,7 @@ use Rattle.book.specs.declared.Found.{Found}
 use Rattle.book.specs.declared.Found.the-variants.{At, Nothing}
 use Rattle.book.specs.Access.{numberIn}
 use Rattle.model.specs.declared.Model.{Model}
-use Rattle.model.specs.Record.{none as noFactor}
+use Rattle.model.specs.Record.{noFactor}
 use Rattle.declaration_spelling.specs.House.{Factor}
 use Rattle.declaration_spelling.specs.Spelled.{times}
 use Rattle.declaration_spelling.specs.Form.{allForm, formOf}

@@ -13,7 +13,7 @@ use Rattle.book.specs.Book.{Book, IsBook}
 use Rattle.book.specs.Taken.{TakenAs}
 use Rattle.book.proofs.Taken.{taken-law}
 use Rattle.model.specs.declared.Model.{Model}
-use Rattle.model.specs.Record.{none, IsChain}
+use Rattle.model.specs.Record.{noFactor, IsChain}
 use Rattle.model.specs.Accept.{Accepts, Names}
 use Rattle.model_language.specs.Word.{Fact, AcceptsAll}
 use Rattle.follow.specs.Follow.{Follow}
@@ -61,7 +61,7 @@ module _ (bytes : List ℕ) (parent : ℕ) (answer : Inferred) (call : answer �
   unfolding chainIn
   model-is = sym (ap (λ (x : Inferred). x .model) answer-is)
 
-  small : places ≤ none
+  small : places ≤ noFactor
   small = omega arith
 
   -- its model is a chain over the book's names,

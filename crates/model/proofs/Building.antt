@@ -15,7 +15,7 @@ use Rattle.nameset.specs.Places.{places}
 use Rattle.nameset.specs.Set.{member, first}
 use Rattle.nameset.specs.declared.NameSet.{NameSet}
 use Rattle.model.specs.declared.Model.{Model}
-use Rattle.model.specs.Record.{none}
+use Rattle.model.specs.Record.{noFactor}
 use Rattle.model.specs.Build.{entriesWith, withFactor}
 use Rattle.model.proofs.Tests.{and-left}
 
@@ -42,14 +42,14 @@ pub record Entered (names left : NameSet) (v : ℕ) (old new : List ℕ) : Type 
   pub before : length old ≡ places
   pub size : length new ≡ places
   pub within : (j : ℕ) → member left j ≡ true → member names j ≡ true
-  pub entry : (j : ℕ) → j < places → getD new j none ≡ cond (member names j && not (member left j)) v (getD old j none)
+  pub entry : (j : ℕ) → j < places → getD new j noFactor ≡ cond (member names j && not (member left j)) v (getD old j noFactor)
 
 none-entered : (b : Bool) (v e : ℕ) → e ≡ cond (b && not b) v e
 none-entered true v e = refl
 none-entered false v e = refl
 
 pub enter-none : (names : NameSet) (v : ℕ) (old : List ℕ) → length old ≡ places → Entered names names v old old
-enter-none names v old h = record { before = h; size = h; within = λ j e. e; entry = λ j l. none-entered (member names j) v (getD old j none) }
+enter-none names v old h = record { before = h; size = h; within = λ j e. e; entry = λ j l. none-entered (member names j) v (getD old j noFactor) }
 
 same-entry : (a b t : Bool) (v e : ℕ) → t ≡ false → cond (a && not b) v e ≡ cond (a && not (b && not t)) v e
 same-entry a true t v e h = rw h
@@ -65,17 +65,17 @@ enter-more {names} {left} {v} {old} {new} r x rest e h m law =
       entry = λ j l. at j l (ℕ-discrete j x);
     }
   where
-    at : (j : ℕ) → j < places → Dec (j ≡ x) → getD (set new x v) j none ≡ cond (member names j && not (member rest j)) v (getD old j none)
+    at : (j : ℕ) → j < places → Dec (j ≡ x) → getD (set new x v) j noFactor ≡ cond (member names j && not (member rest j)) v (getD old j noFactor)
     at j l (yes q) =
         let t : eqb (first left) j ≡ true = eq-eqb (first left) j (sym e ∙ sym q) in
         let n : member names j ≡ true = rw q (r .within x m) in
         let k : member left j ≡ true = rw q m in
-        let s : getD (set new x v) j none ≡ v = rw q (getD-set-same new x v none (rw (r .size) h)) in
+        let s : getD (set new x v) j noFactor ≡ v = rw q (getD-set-same new x v noFactor (rw (r .size) h)) in
         rw (law j, n, k, t) s
     at j l (no q) =
         let t : eqb (first left) j ≡ false = ne-eqb (first left) j (λ u. q (sym u ∙ sym e)) in
-        getD-set-other new x j v none q ∙ r .entry j l ∙ same-entry (member names j) (member left j) (eqb (first left) j) v (getD old j none) t
-        ∙ ap (λ (b : Bool). cond (member names j && not b) v (getD old j none)) (sym (law j))
+        getD-set-other new x j v noFactor q ∙ r .entry j l ∙ same-entry (member names j) (member left j) (eqb (first left) j) v (getD old j noFactor) t
+        ∙ ap (λ (b : Bool). cond (member names j && not b) v (getD old j noFactor)) (sym (law j))
 
 all-entered : (a b : Bool) (v e : ℕ) → b ≡ false → cond (a && not b) v e ≡ cond a v e
 all-entered true b v e h = rw h
@@ -83,8 +83,8 @@ all-entered false b v e h = refl
 
 pub enter-all : {names left : NameSet} {v : ℕ} {old new : List ℕ} → Entered names left v old new → ((j : ℕ) → member left j ≡ false) → new ≡ entriesWith (member names) v 0 old
 enter-all {names} {left} {v} {old} {new} r h =
-    ext-getD none new (entriesWith (member names) v 0 old) (r .size ∙ sym (r .before) ∙ sym (entries-length (member names) v 0 old))
-    (λ j l. r .entry j (rw (r .size) at l) ∙ all-entered (member names j) (member left j) v (getD old j none) (h j) ∙ sym (entries-at (member names) v old j none (rw (r .before) (rw (r .size) at l))))
+    ext-getD noFactor new (entriesWith (member names) v 0 old) (r .size ∙ sym (r .before) ∙ sym (entries-length (member names) v 0 old))
+    (λ j l. r .entry j (rw (r .size) at l) ∙ all-entered (member names j) (member left j) v (getD old j noFactor) (h j) ∙ sym (entries-at (member names) v old j noFactor (rw (r .before) (rw (r .size) at l))))
 
 -- ---- the record
 

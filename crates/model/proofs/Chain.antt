@@ -11,7 +11,7 @@ use borrow.Author.Tests.{eqb-true, eq-eqb, ltb-true, lt-ltb, le-ltb, leb-true, l
 use lib.Dec.{eqb, ltb, leb}
 use lib.ListN.{length, getD, List·getD-eq-default}
 use Rattle.model.specs.declared.Model.{Model}
-use Rattle.model.specs.Record.{none, factorOf, modeOf, IsChain}
+use Rattle.model.specs.Record.{noFactor, factorOf, modeOf, IsChain}
 use Rattle.model.specs.Check.{anyBelow, mayHold, mayBe, allPlaced, allNamed, allKnown, isChain}
 use Rattle.model.proofs.Tests.{or-split, or-right, all-law, any-law}
 
@@ -19,29 +19,29 @@ use Rattle.model.proofs.Tests.{or-split, or-right, all-law, any-law}
 
 -- What a chain over n names with `count` factors asks of the entry v of the number x.
 pub record Entry (n count x v : ℕ) : Type 0 where
-  pub named : x < n → (v ≡ none) ⊎ (v < count)
-  pub other : n ≤ x → v ≡ none
+  pub named : x < n → (v ≡ noFactor) ⊎ (v < count)
+  pub other : n ≤ x → v ≡ noFactor
 
 entry-law : (n count x v : ℕ) → (mayHold count (ltb x n) v ≡ true) ↔ Entry n count x v
 unfolding mayHold
 entry-law n count x v = go (decLt x n)
   where
-    free : (eqb v none ≡ true) ⊎ (ltb v count ≡ true) → (v ≡ none) ⊎ (v < count)
-    free (inl e) = inl (eqb-true v none e)
+    free : (eqb v noFactor ≡ true) ⊎ (ltb v count ≡ true) → (v ≡ noFactor) ⊎ (v < count)
+    free (inl e) = inl (eqb-true v noFactor e)
     free (inr e) = inr (ltb-true v count e)
 
-    held : (v ≡ none) ⊎ (v < count) → mayHold count true v ≡ true
-    held (inl e) = rw (eq-eqb v none e)
-    held (inr l) = or-right (eqb v none) (ltb v count) (lt-ltb v count l)
+    held : (v ≡ noFactor) ⊎ (v < count) → mayHold count true v ≡ true
+    held (inl e) = rw (eq-eqb v noFactor e)
+    held (inr l) = or-right (eqb v noFactor) (ltb v count) (lt-ltb v count l)
 
     go : Dec (x < n) → (mayHold count (ltb x n) v ≡ true) ↔ Entry n count x v
     go (yes l) = rw (lt-ltb x n l) (
-      λ e. record { named = λ p. free (or-split (eqb v none) (ltb v count) e); other = λ p. absurd (omega arith) },
+      λ e. record { named = λ p. free (or-split (eqb v noFactor) (ltb v count) e); other = λ p. absurd (omega arith) },
       λ r. held (r .named l),
     )
     go (no l) =
         let h : n ≤ x = omega arith in
-        rw (le-ltb x n h) (λ e. record { named = λ p. absurd (l p); other = λ p. eqb-true v none e }, λ r. eq-eqb v none (r .other h))
+        rw (le-ltb x n h) (λ e. record { named = λ p. absurd (l p); other = λ p. eqb-true v noFactor e }, λ r. eq-eqb v noFactor (r .other h))
 
 -- What a chain with `count` factors asks of the mode f of factor i.
 pub record Mode (count i f : ℕ) : Type 0 where
@@ -60,25 +60,25 @@ mode-law count i f = go (decLt i count)
 
 -- ---- all entries, all factors, all modes
 
-pub placed-law : (size n count : ℕ) (l : List ℕ) → (allPlaced size n count l ≡ true) ↔ ((x : ℕ) → x < size → Entry n count x (getD l x none))
+pub placed-law : (size n count : ℕ) (l : List ℕ) → (allPlaced size n count l ≡ true) ↔ ((x : ℕ) → x < size → Entry n count x (getD l x noFactor))
 unfolding allPlaced
 placed-law size n count l =
-    let a = all-law size (λ x. mayHold count (ltb x n) (getD l x none)) in
-    (λ e x h. entry-law n count x (getD l x none) .0 (a .0 e x h), λ f. a .1 (λ x h. entry-law n count x (getD l x none) .1 (f x h)))
+    let a = all-law size (λ x. mayHold count (ltb x n) (getD l x noFactor)) in
+    (λ e x h. entry-law n count x (getD l x noFactor) .0 (a .0 e x h), λ f. a .1 (λ x h. entry-law n count x (getD l x noFactor) .1 (f x h)))
 
 -- Factor i has a name below n.
 abbrev pub Named : ℕ → List ℕ → ℕ → Type 0
-Named n l i = (x : ℕ) × (x < n) × (getD l x none ≡ i)
+Named n l i = (x : ℕ) × (x < n) × (getD l x noFactor ≡ i)
 
-pub name-law : (n : ℕ) (l : List ℕ) (i : ℕ) → (anyBelow n (λ x. eqb (getD l x none) i) ≡ true) ↔ Named n l i
+pub name-law : (n : ℕ) (l : List ℕ) (i : ℕ) → (anyBelow n (λ x. eqb (getD l x noFactor) i) ≡ true) ↔ Named n l i
 name-law n l i =
-    let a = any-law n (λ x. eqb (getD l x none) i) in
-    (λ e. let p = a .0 e in (p .0, p .1, eqb-true (getD l (p .0) none) i (p .2)), λ p. a .1 (p .0, p .1, eq-eqb (getD l (p .0) none) i (p .2)))
+    let a = any-law n (λ x. eqb (getD l x noFactor) i) in
+    (λ e. let p = a .0 e in (p .0, p .1, eqb-true (getD l (p .0) noFactor) i (p .2)), λ p. a .1 (p .0, p .1, eq-eqb (getD l (p .0) noFactor) i (p .2)))
 
 named-law : (n count : ℕ) (l : List ℕ) → (allNamed n count l ≡ true) ↔ ((i : ℕ) → i < count → Named n l i)
 unfolding allNamed
 named-law n count l =
-    let a = all-law count (λ i. anyBelow n (λ x. eqb (getD l x none) i)) in
+    let a = all-law count (λ i. anyBelow n (λ x. eqb (getD l x noFactor) i)) in
     (λ e i h. name-law n l i .0 (a .0 e i h), λ f. a .1 (λ i h. name-law n l i .1 (f i h)))
 
 pub known-law : (size count : ℕ) (l : List ℕ) → (allKnown size count l ≡ true) ↔ ((i : ℕ) → i < size → Mode count i (getD l i 0))
@@ -106,7 +106,7 @@ chain-law size n m = (λ e. to (six (eqb (length (m .factor)) size) (eqb (length
     to (a, b, c, d, e, f) =
         let factors : length (m .factor) ≡ size = eqb-true (length (m .factor)) size a in
         let modes : length (m .mode) ≡ size = eqb-true (length (m .mode)) size b in
-        let entry : (x : ℕ) → Entry n (m .count) x (getD (m .factor) x none) = λ x. at-entry factors x (decLt x size) in
+        let entry : (x : ℕ) → Entry n (m .count) x (getD (m .factor) x noFactor) = λ x. at-entry factors x (decLt x size) in
         let mode : (i : ℕ) → Mode (m .count) i (getD (m .mode) i 0) = λ i. at-mode modes i (decLt i size) in
         record {
           factors = factors;
@@ -119,10 +119,10 @@ chain-law size n m = (λ e. to (six (eqb (length (m .factor)) size) (eqb (length
           rest = λ i l. mode i .rest l;
         }
       where
-        at-entry : length (m .factor) ≡ size → (x : ℕ) → Dec (x < size) → Entry n (m .count) x (getD (m .factor) x none)
+        at-entry : length (m .factor) ≡ size → (x : ℕ) → Dec (x < size) → Entry n (m .count) x (getD (m .factor) x noFactor)
         at-entry q x (yes l) = placed-law size n (m .count) (m .factor) .0 d x l
         at-entry q x (no l) =
-            let z : getD (m .factor) x none ≡ none = List·getD-eq-default (m .factor) none (omega arith) in
+            let z : getD (m .factor) x noFactor ≡ noFactor = List·getD-eq-default (m .factor) noFactor (omega arith) in
             record { named = λ p. inl z; other = λ p. z }
 
         at-mode : length (m .mode) ≡ size → (i : ℕ) → Dec (i < size) → Mode (m .count) i (getD (m .mode) i 0)

@@ -7,8 +7,8 @@ use mathlib.Core.Logic.{_↔_, inl}
 use native.Mathlib.Omega.{arith}
 use lib.ListN.{getD, replicate, length-replicate}
 use Rattle.model.specs.declared.Model.{Model}
-use Rattle.model.specs.Record.{none, factorOf, modeOf, IsChain, emptyModel}
-use Rattle.model.specs.Accept.{Joined, none as no-factor, part, Accepts}
+use Rattle.model.specs.Record.{noFactor, factorOf, modeOf, IsChain, emptyModel}
+use Rattle.model.specs.Accept.{Joined, none, part, Accepts}
 
 -- A row of one value has it at each place, and past its end where it is the default.
 pub replicate-at : (n i a : ℕ) → getD (replicate n a) i a ≡ a
@@ -20,11 +20,11 @@ replicate-at (suc n) (suc i) a = replicate-at n i a
 pub empty-chain : (size n : ℕ) → IsChain size n (emptyModel size)
 unfolding emptyModel factorOf modeOf
 empty-chain size n = record {
-  factors = length-replicate size none;
+  factors = length-replicate size noFactor;
   modes = length-replicate size 0;
   few = omega arith;
-  placed = λ x l. inl (replicate-at size x none);
-  others = λ x l. replicate-at size x none;
+  placed = λ x l. inl (replicate-at size x noFactor);
+  others = λ x l. replicate-at size x noFactor;
   named = λ i l. absurd (omega arith);
   known = λ i l. absurd (omega arith);
   rest = λ i l. replicate-at size i 0;
@@ -32,8 +32,8 @@ empty-chain size n = record {
 
 -- and its only word is the empty one.
 pub empty-words : (m : Model) (w : List ℕ) → m .count ≡ 0 → Accepts m w ↔ (w ≡ [])
-empty-words m w e = (go, λ f. no-factor (sym e) f)
+empty-words m w e = (go, λ f. none (sym e) f)
   where
     go : Joined m 0 w → w ≡ []
-    go (no-factor p f) = f
+    go (none p f) = f
     go (part u v l p k j) = absurd (omega arith)

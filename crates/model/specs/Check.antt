@@ -7,7 +7,7 @@ use mathlib.Core.List.{List}
 use lib.Dec.{eqb, ltb, leb}
 use lib.ListN.{length, getD}
 use Rattle.model.specs.declared.Model.{Model}
-use Rattle.model.specs.Record.{none}
+use Rattle.model.specs.Record.{noFactor}
 
 -- Every number below n passes the test.
 unfoldable pub everyBelow : ℕ → (ℕ → Bool) → Bool
@@ -21,8 +21,8 @@ anyBelow (suc n) test = anyBelow n test || test n
 
 -- Whether v may be the entry of a number: true for a number below N, false for the others.
 unfoldable pub mayHold : ℕ → Bool → ℕ → Bool
-mayHold count true v = eqb v none || ltb v count
-mayHold count false v = eqb v none
+mayHold count true v = eqb v noFactor || ltb v count
+mayHold count false v = eqb v noFactor
 
 -- Whether f may be a mode: true for a factor below F, false for the rest.
 unfoldable pub mayBe : Bool → ℕ → Bool
@@ -31,11 +31,11 @@ mayBe false f = eqb f 0
 
 -- "each number below N has 255 or a value below F, all others have 255"
 unfoldable pub allPlaced : ℕ → ℕ → ℕ → List ℕ → Bool
-allPlaced size n count factors = everyBelow size (λ x. mayHold count (ltb x n) (getD factors x none))
+allPlaced size n count factors = everyBelow size (λ x. mayHold count (ltb x n) (getD factors x noFactor))
 
 -- "each factor has a name"
 unfoldable pub allNamed : ℕ → ℕ → List ℕ → Bool
-allNamed n count factors = everyBelow count (λ i. anyBelow n (λ x. eqb (getD factors x none) i))
+allNamed n count factors = everyBelow count (λ i. anyBelow n (λ x. eqb (getD factors x noFactor) i))
 
 -- "modes below F are 0 to 3, the rest are 0"
 unfoldable pub allKnown : ℕ → ℕ → List ℕ → Bool

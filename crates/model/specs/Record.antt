@@ -10,8 +10,8 @@ use Rattle.nameset.specs.Places.{places}
 use Rattle.model.specs.declared.Model.{Model}
 
 -- The entry of a name that no factor holds.
-abbrev pub none : ℕ
-none = 255
+abbrev pub noFactor : ℕ
+noFactor = 255
 
 -- The record of a number of factors, a factor row and a mode row.
 abbrev pub ofRows : ℕ → List ℕ → List ℕ → Model
@@ -19,7 +19,7 @@ ofRows count factors modes = record { count = count; factor = factors; mode = mo
 
 -- The factor that holds the name x.
 unfoldable pub factorOf : Model → ℕ → ℕ
-factorOf m x = getD (m .factor) x none
+factorOf m x = getD (m .factor) x noFactor
 
 -- The mode of factor i: 0 plain, 1 `?`, 2 `+`, 3 `*`.
 unfoldable pub modeOf : Model → ℕ → ℕ
@@ -33,9 +33,9 @@ pub record IsChain (size n : ℕ) (m : Model) : Type 0 where
   -- "F is at most 64;"
   pub few : m .count ≤ size
   -- "each number below N has 255 or a value below F,"
-  pub placed : (x : ℕ) → x < n → (factorOf m x ≡ none) ⊎ (factorOf m x < m .count)
+  pub placed : (x : ℕ) → x < n → (factorOf m x ≡ noFactor) ⊎ (factorOf m x < m .count)
   -- "all others have 255;"
-  pub others : (x : ℕ) → n ≤ x → factorOf m x ≡ none
+  pub others : (x : ℕ) → n ≤ x → factorOf m x ≡ noFactor
   -- "each factor has a name;"
   pub named : (i : ℕ) → i < m .count → (x : ℕ) × (x < n) × (factorOf m x ≡ i)
   -- "modes below F are 0 to 3,"
@@ -45,7 +45,7 @@ pub record IsChain (size n : ℕ) (m : Model) : Type 0 where
 
 -- The model of a parent whose words are all empty: "F = 0, all 255, all modes 0".
 unfoldable pub emptyModel : ℕ → Model
-emptyModel size = record { count = 0; factor = replicate size none; mode = replicate size 0 }
+emptyModel size = record { count = 0; factor = replicate size noFactor; mode = replicate size 0 }
 
 -- What a refused call answers for a model: "a model due is the empty model".
 abbrev pub dueModel : Model

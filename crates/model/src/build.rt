@@ -6,7 +6,7 @@ ghost use Rattle.nameset.specs.Set.{member};
 ghost use Rattle.model.specs.Record.{emptyModel};
 ghost use Rattle.model.specs.Build.{withFactor};
 use super::Model;
-use super::NONE;
+use super::NO_FACTOR;
 use nameset::NameSet;
 use nameset::PLACES;
 
@@ -17,7 +17,7 @@ impl Model {
     {
         Model {
             count: 0,
-            factor: [NONE; PLACES],
+            factor: [NO_FACTOR; PLACES],
             mode: [0; PLACES],
         }
     }

@@ -6,7 +6,7 @@ ghost use lib.ListN.{getD};
 use nameset::PLACES;
 
 // The entry of a name that no factor holds.
-pub const NONE: u8 = 255;
+pub const NO_FACTOR: u8 = 255;
 
 // Paper 01's model record, laid out as C has it. `count` is its F, `factor` has for each name the factor that holds it
 // or 255 for none, and `mode` has the mode of each factor.

@@ -7,7 +7,7 @@ ghost use Rattle.model.specs.Record.{ofRows};
 ghost use Rattle.model.specs.Run.{turnOf, goesTo, move, mayEnd, accepts};
 use model::Model;
 use model::Moved;
-use model::NONE;
+use model::NO_FACTOR;
 use model::State;
 use model::Turn;
 use model::entry;
@@ -71,7 +71,7 @@ fn goes_to(count: usize, mode: &[u8], own: usize, through: bool, from: State) ->
 pub fn step(count: usize, factor: &[u8], mode: &[u8], x: u8, from: State) -> Moved
     ensures { λ r. ⌜ r ≡ move (ofRows count (now (factor .entry)) (now (mode .entry))) (To from) x ⌝ }
 {
-    let own = entry(factor, x as usize, NONE) as usize;
+    let own = entry(factor, x as usize, NO_FACTOR) as usize;
     if goes_to(count, mode, own, false, from) {
         Moved::To(State {
             factor: own,

@@ -7,7 +7,7 @@ use mathlib.Core.List.{List}
 use borrow.Author.Tests.{not-true, not-false, eq-eqb, ne-eqb, le-leb, lt-leb}
 use lib.Dec.{eqb, leb}
 use lib.ListN.{length, getD}
-use Rattle.model.specs.Record.{none, ofRows}
+use Rattle.model.specs.Record.{noFactor, ofRows}
 use Rattle.model.specs.Check.{everyBelow, anyBelow, allPlaced, allNamed, allKnown, isChain}
 use Rattle.model_check.proofs.Factors.{used-named}
 
@@ -34,7 +34,7 @@ module _ (size n count : ℕ) (factors modes : List ℕ) where
         pub misplaced : not r ≡ true → isChain size n (ofRows count factors modes) ≡ false
         misplaced h = rw (sized, le-leb count size l, ← f, ← e, not-true r h)
 
-        module _ (h : not r ≡ false) {used : ℕ → Bool} (u : (i : ℕ) → i < count → used i ≡ anyBelow n (λ x. eqb (getD factors x none) i))
+        module _ (h : not r ≡ false) {used : ℕ → Bool} (u : (i : ℕ) → i < count → used i ≡ anyBelow n (λ x. eqb (getD factors x noFactor) i))
             {t : Bool} (d : t ≡ everyBelow count used) where
           all : allPlaced size n count factors ≡ true
           all = rw (← f, ← e, not-false r h)

@@ -10,7 +10,7 @@ use native.Mathlib.Decide.{decLt, decLe}
 use borrow.Author.Tests.{eq-eqb, ne-eqb, lt-ltb, le-ltb, le-leb, lt-leb}
 use lib.Dec.{eqb, ltb, leb}
 use lib.ListN.{length, getD, List·getD-eq-default}
-use Rattle.model.specs.Record.{none}
+use Rattle.model.specs.Record.{noFactor}
 use Rattle.model.specs.Check.{everyBelow, anyBelow, mayHold, allPlaced, allNamed}
 use Rattle.model.proofs.Tests.{both, and-left, and-right, same-test, all-law}
 use Rattle.model.proofs.Chain.{name-law}
@@ -44,13 +44,13 @@ all-both n f g =
 
 -- ---- an entry counted from 1
 
-pub none-counted : (v : ℕ) → v ≡ none → (count : ℕ) → leb 0 count ≡ mayHold count true v
+pub none-counted : (v : ℕ) → v ≡ noFactor → (count : ℕ) → leb 0 count ≡ mayHold count true v
 unfolding mayHold
-none-counted v e count = rw (eq-eqb v none e) (le-leb 0 count (omega arith))
+none-counted v e count = rw (eq-eqb v noFactor e) (le-leb 0 count (omega arith))
 
-pub factor-counted : (v : ℕ) → (v ≡ none → ⊥) → (count : ℕ) → leb (v + 1) count ≡ mayHold count true v
+pub factor-counted : (v : ℕ) → (v ≡ noFactor → ⊥) → (count : ℕ) → leb (v + 1) count ≡ mayHold count true v
 unfolding mayHold
-factor-counted v h count = rw (ne-eqb v none h) (go (decLt v count))
+factor-counted v h count = rw (ne-eqb v noFactor h) (go (decLt v count))
   where
     go : Dec (v < count) → leb (v + 1) count ≡ ltb v count
     go (yes l) = let m : v + 1 ≤ count = omega arith in rw (lt-ltb v count l, le-leb (v + 1) count m)
@@ -69,12 +69,12 @@ both-most x y k = go (decLe x k) (decLe y k)
 module _ (count : ℕ) (factor : List ℕ) (from : ℕ) where
   -- The number x stands before the place, or is in one of the first `count` factors or in none.
   abbrev pub among : ℕ → Bool
-  among x = ltb x from || mayHold count true (getD factor x none)
+  among x = ltb x from || mayHold count true (getD factor x noFactor)
 
   pub among-start : leb 0 count ≡ everyBelow from among
   among-start = le-leb 0 count (omega arith) ∙ sym (all-law from among .1 (λ x l. rw (lt-ltb x from l)))
 
-  pub among-more : (x top v : ℕ) → from ≤ x → leb top count ≡ everyBelow x among → leb v count ≡ mayHold count true (getD factor x none)
+  pub among-more : (x top v : ℕ) → from ≤ x → leb top count ≡ everyBelow x among → leb v count ≡ mayHold count true (getD factor x noFactor)
       → leb (max top v) count ≡ everyBelow (x + 1) among
   unfolding everyBelow
   among-more x top v h p q = rw (add-one x, both-most top v count, p, q, le-ltb x from h)
@@ -83,9 +83,9 @@ module _ (count : ℕ) (factor : List ℕ) (from : ℕ) where
   unfolding mayHold
   among-done x top h p = p ∙ all-past (length factor) x among h (λ y l. past y l (ltb y from))
     where
-      past : (y : ℕ) → length factor ≤ y → (b : Bool) → (b || mayHold count true (getD factor y none)) ≡ true
+      past : (y : ℕ) → length factor ≤ y → (b : Bool) → (b || mayHold count true (getD factor y noFactor)) ≡ true
       past y l true = refl
-      past y l false = let e : getD factor y none ≡ none = List·getD-eq-default factor none l in rw (e, eq-eqb none none refl)
+      past y l false = let e : getD factor y noFactor ≡ noFactor = List·getD-eq-default factor noFactor l in rw (e, eq-eqb noFactor noFactor refl)
 
 -- ---- all entries
 
@@ -100,14 +100,14 @@ entry-split n count x v = go (ltb x n)
 
     go : (b : Bool) → mayHold count b v ≡ ((ltb x 0 || mayHold count true v) && (b || mayHold 0 true v))
     go true = rw (le-ltb x 0 (omega arith)) (sym (and-true (mayHold count true v)))
-    go false = rw (le-ltb x 0 (omega arith), le-ltb v 0 (omega arith)) (other (eqb v none) (ltb v count))
+    go false = rw (le-ltb x 0 (omega arith), le-ltb v 0 (omega arith)) (other (eqb v noFactor) (ltb v count))
 
 module _ (n count : ℕ) (factor : List ℕ) where
   placed : allPlaced (length factor) n count factor ≡ (everyBelow (length factor) (among count factor 0) && everyBelow (length factor) (among 0 factor n))
   unfolding allPlaced
   placed =
-      all-same (length factor) (λ x. mayHold count (ltb x n) (getD factor x none)) (λ x. among count factor 0 x && among 0 factor n x)
-      (λ x l. entry-split n count x (getD factor x none))
+      all-same (length factor) (λ x. mayHold count (ltb x n) (getD factor x noFactor)) (λ x. among count factor 0 x && among 0 factor n x)
+      (λ x l. entry-split n count x (getD factor x noFactor))
       ∙ all-both (length factor) (among count factor 0) (among 0 factor n)
 
   -- The same, as the code finds it.
@@ -121,17 +121,17 @@ module _ (n count : ℕ) (factor : List ℕ) where
 -- ---- the factors of names
 
 -- A number past the row's end is in no factor.
-pub named-within : (n : ℕ) (factor : List ℕ) (i : ℕ) → i < none → anyBelow (min n (length factor)) (λ x. eqb (getD factor x none) i) ≡ anyBelow n (λ x. eqb (getD factor x none) i)
+pub named-within : (n : ℕ) (factor : List ℕ) (i : ℕ) → i < noFactor → anyBelow (min n (length factor)) (λ x. eqb (getD factor x noFactor) i) ≡ anyBelow n (λ x. eqb (getD factor x noFactor) i)
 named-within n factor i h =
-    same-test (anyBelow (min n (length factor)) (λ x. eqb (getD factor x none) i)) (anyBelow n (λ x. eqb (getD factor x none) i))
+    same-test (anyBelow (min n (length factor)) (λ x. eqb (getD factor x noFactor) i)) (anyBelow n (λ x. eqb (getD factor x noFactor) i))
     (λ e. let r = name-law (min n (length factor)) factor i .0 e in name-law n factor i .1 (r .0, omega (arith, r .1), r .2))
     (λ e. let r = name-law n factor i .0 e in name-law (min n (length factor)) factor i .1 (r .0, within (r .0) (r .1) (r .2) (decLt (r .0) (length factor)), r .2))
   where
-    within : (x : ℕ) → x < n → getD factor x none ≡ i → Dec (x < length factor) → x < min n (length factor)
+    within : (x : ℕ) → x < n → getD factor x noFactor ≡ i → Dec (x < length factor) → x < min n (length factor)
     within x l e (yes b) = omega arith
-    within x l e (no b) = absurd (omega (arith, List·getD-eq-default factor none {n = x} (omega arith)))
+    within x l e (no b) = absurd (omega (arith, List·getD-eq-default factor noFactor {n = x} (omega arith)))
 
 pub used-named : (n count : ℕ) (factor : List ℕ) (used : ℕ → Bool)
-    → ((i : ℕ) → i < count → used i ≡ anyBelow n (λ x. eqb (getD factor x none) i)) → everyBelow count used ≡ allNamed n count factor
+    → ((i : ℕ) → i < count → used i ≡ anyBelow n (λ x. eqb (getD factor x noFactor) i)) → everyBelow count used ≡ allNamed n count factor
 unfolding allNamed
-used-named n count factor used u = all-same count used (λ i. anyBelow n (λ x. eqb (getD factor x none) i)) u
+used-named n count factor used u = all-same count used (λ i. anyBelow n (λ x. eqb (getD factor x noFactor) i)) u

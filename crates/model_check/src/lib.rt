@@ -6,12 +6,12 @@ ghost use lib.Dec.{eqb, ltb, leb};
 ghost use lib.ListN.{length, getD};
 ghost use Rattle.nameset.specs.Places.{places};
 ghost use Rattle.nameset.specs.Set.{member};
-ghost use Rattle.model.specs.Record.{none, ofRows};
+ghost use Rattle.model.specs.Record.{noFactor, ofRows};
 ghost use Rattle.model.specs.Check.{everyBelow, anyBelow, mayHold, mayBe, allPlaced, allKnown, isChain};
 use byte_row::larger;
 use byte_row::largest_from;
 use model::Model;
-use model::NONE;
+use model::NO_FACTOR;
 use model::entry;
 use nameset::NameSet;
 use nameset::PLACES;
@@ -20,18 +20,18 @@ use nameset::PLACES;
 fn counted(v: u8) -> u8
     ensures { λ r. ⌜ ((count : ℕ) → leb r count ≡ mayHold count true v) ⌝ }
 {
-    if v == NONE { 0 } else { v + 1 }
+    if v == NO_FACTOR { 0 } else { v + 1 }
 }
 
 // Whether each number from a place on is in one of the first `count` factors or in none. No early end: the loop runs
 // over many entries at once.
 fn all_among(count: usize, factor: &[u8], from: usize) -> bool
-    ensures { λ r. ⌜ r ≡ everyBelow (length (now (factor .entry))) (λ x. ltb x from || mayHold count true (getD (now (factor .entry)) x none)) ⌝ }
+    ensures { λ r. ⌜ r ≡ everyBelow (length (now (factor .entry))) (λ x. ltb x from || mayHold count true (getD (now (factor .entry)) x noFactor)) ⌝ }
 {
     let mut top: u8 = 0;
     let mut x = from;
     while x < factor.len() {
-        top = larger(top, counted(entry(factor, x, NONE)));
+        top = larger(top, counted(entry(factor, x, NO_FACTOR)));
         x += 1;
     }
     (top as usize) <= count
@@ -70,13 +70,13 @@ fn smaller(a: usize, b: usize) -> usize
 // The factors that hold one of the n names.
 fn used_factors(n: usize, count: usize, factor: &[u8]) -> NameSet
     requires { ⌜ count ≤ places ⌝ }
-    ensures { λ r. ⌜ ((i : ℕ) → i < count → member r i ≡ anyBelow n (λ x. eqb (getD (now (factor .entry)) x none) i)) ⌝ }
+    ensures { λ r. ⌜ ((i : ℕ) → i < count → member r i ≡ anyBelow n (λ x. eqb (getD (now (factor .entry)) x noFactor) i)) ⌝ }
 {
     let end = smaller(n, factor.len());
     let mut used = NameSet::empty();
     let mut x = 0;
     while x < end {
-        used = with_factor(used, count, entry(factor, x, NONE));
+        used = with_factor(used, count, entry(factor, x, NO_FACTOR));
         x += 1;
     }
     used

@@ -17,7 +17,7 @@ use Rattle.nameset.specs.Rows.{rowAt, putRow, noRows}
 use Rattle.nameset.proofs.Laws.{member-empty}
 use Rattle.nameset.proofs.Rows.{row-put, row-kept, length-put, has-row, no-rows, row-of-none}
 use Rattle.model.specs.declared.Model.{Model}
-use Rattle.model.specs.Record.{none, factorOf}
+use Rattle.model.specs.Record.{noFactor, factorOf}
 use Rattle.model_factors.specs.Names.{NamesOf, RowsOf}
 
 -- within the list the default does not matter
@@ -28,7 +28,7 @@ same-default (x ∷ l) (suc i) a b h = same-default l i a b (le-of-suc-le-suc h)
 
 pub entry-is : (m : Model) (x : ℕ) → length (m .factor) ≡ places → x < places → getD (m .factor) x 0 ≡ factorOf m x
 unfolding factorOf
-entry-is m x l h = same-default (m .factor) x 0 none (omega arith)
+entry-is m x l h = same-default (m .factor) x 0 noFactor (omega arith)
 
 -- no name was looked at yet
 pub rows-none : (m : Model) → RowsOf m 0 (noRows places)

@@ -8,7 +8,7 @@ use mathlib.Core.Logic.{_⊎_, inl, inr}
 use native.Mathlib.Omega.{arith}
 use native.Mathlib.Decide.{decLt, decLe, ℕ-discrete}
 use Rattle.model.specs.declared.Model.{Model}
-use Rattle.model.specs.Record.{none, factorOf, modeOf}
+use Rattle.model.specs.Record.{noFactor, factorOf, modeOf}
 use Rattle.model.specs.Accept.{Names}
 use Rattle.model_language.specs.Word.{Point, start, name, end}
 use Rattle.model_language.specs.Step.{optional, repeats, place, Held, Over, Repeat, Step, Includes}
@@ -118,7 +118,7 @@ compare m k u v = go (step? m u v) (step? k u v)
     go (no s) (no t) = inl (λ z. absurd (s z))
     go (yes s) (no t) = inr (s, t)
 
-module _ (n : ℕ) (m : Model) (few : m .count ≤ none) (others : (x : ℕ) → n ≤ x → factorOf m x ≡ none) where
+module _ (n : ℕ) (m : Model) (few : m .count ≤ noFactor) (others : (x : ℕ) → n ≤ x → factorOf m x ≡ noFactor) where
   held-below : (u : Point) → Held m u → Below n u
   held-below start h = tt
   held-below end h = tt

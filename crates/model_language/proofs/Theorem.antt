@@ -8,7 +8,7 @@ use mathlib.Core.Logic.{_⊎_, inl, inr, _↔_}
 use native.Mathlib.Omega.{arith}
 use lib.ListN.{length}
 use Rattle.model.specs.declared.Model.{Model}
-use Rattle.model.specs.Record.{none, factorOf, IsChain}
+use Rattle.model.specs.Record.{noFactor, factorOf, IsChain}
 use Rattle.model.specs.Accept.{Accepts, Names}
 use Rattle.model.proofs.Acceptance.{accepts-run}
 use Rattle.model_language.specs.Word.{Point, start, name, end, Shows, Fact, AcceptsAll}
@@ -66,7 +66,7 @@ module _ (size n : ℕ) (m : Model) (c : IsChain size n m) where
   step-to x l = let q = point m named (factorOf m x) (omega arith) in (q .0, step-up m (q .0) x (q .1) (q .2) l)
 
   -- Only words of names below n are accepted, if no place has the number that means none.
-  pub accepts-names : size ≤ none → (w : List ℕ) → Accepts m w → Names n w
+  pub accepts-names : size ≤ noFactor → (w : List ℕ) → Accepts m w → Names n w
   accepts-names small w a = walk-names n m (omega (arith, c .few)) (c .others) start w (accepts-walk w .0 a)
 
 -- Two chains over the same n names.
@@ -83,7 +83,7 @@ module _ (size n : ℕ) (m k : Model) (c : IsChain size n m) (d : IsChain size n
   Told = (w : List ℕ) × Accepts m w × (¬ Accepts k w) × (length w ≤ m .count + 1) × Names n w
 
   -- It is decided: every word of m is one of k, or a word tells them apart.
-  pub words-decided : size ≤ none → ((w : List ℕ) → Accepts m w → Accepts k w) ⊎ Told
+  pub words-decided : size ≤ noFactor → ((w : List ℕ) → Accepts m w → Accepts k w) ⊎ Told
   words-decided small = go (steps-decided n m (omega (arith, c .few)) (c .others) k)
     where
       go : Includes m k ⊎ ((u : Point) × ((v : Point) × Extra m k u v)) → ((w : List ℕ) → Accepts m w → Accepts k w) ⊎ Told

@@ -8,13 +8,13 @@ use borrow.Author.Needs.{needs}
 use lib.ListN.{getD}
 use Rattle.model.specs.declared.State.{State}
 use Rattle.model.specs.declared.Moved.the-variants.{To, Nowhere}
-use Rattle.model.specs.Record.{none, ofRows, factorOf}
+use Rattle.model.specs.Record.{noFactor, ofRows, factorOf}
 use Rattle.model.specs.Run.{state, goesTo, move}
 use Rattle.model_accept.proofs.step.Statement.{statement}
 use Rattle.model_accept.proofs.step.Tie as tie
 
 -- `own` is the factor of the name x, and r says whether the run goes there.
-module _ (count : ℕ) (factors modes : List ℕ) (x : ℕ) (s : State) {own : ℕ} (e : own ≡ getD factors x none) {r : Bool} (g : r ≡ goesTo count modes own false s) where
+module _ (count : ℕ) (factors modes : List ℕ) (x : ℕ) (s : State) {own : ℕ} (e : own ≡ getD factors x noFactor) {r : Bool} (g : r ≡ goesTo count modes own false s) where
   there : r ≡ true → To (state own true) ≡ move (ofRows count factors modes) (To s) x
   unfolding move factorOf
   there h = rw (← e, ← g, h)

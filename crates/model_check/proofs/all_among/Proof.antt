@@ -8,7 +8,7 @@ use native.Mathlib.Omega.{arith}
 use borrow.Author.Needs.{needs}
 use lib.Dec.{leb}
 use lib.ListN.{length, getD}
-use Rattle.model.specs.Record.{none}
+use Rattle.model.specs.Record.{noFactor}
 use Rattle.model.specs.Check.{everyBelow, mayHold}
 use Rattle.model_check.proofs.Factors.{among, among-start, among-more, among-done}
 use Rattle.model_check.proofs.all_among.Statement.{statement}
@@ -45,7 +45,7 @@ loop-again c =
     let t = c .before .before .before .before in
     let l = t .loop in
     let a = t .before .before .args in
-    let v : leb (c .before .counted .result) (a .count) ≡ mayHold (a .count) true (getD (a .factor .now) (l .x) none) =
+    let v : leb (c .before .counted .result) (a .count) ≡ mayHold (a .count) true (getD (a .factor .now) (l .x) noFactor) =
     c .before .counted .ensures (a .count) ∙ ap (mayHold (a .count) true) (c .before .before .entry .ensures) in
     (omega arith, search needs, rw (c .larger .ensures) (among-more (a .count) (a .factor .now) (a .from) (l .x) (l .top) (c .before .counted .result) (l .inv .0) (l .inv .2) v))
 

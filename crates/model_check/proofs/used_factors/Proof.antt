@@ -9,7 +9,7 @@ use borrow.Author.Needs.{needs}
 use lib.Dec.{eqb}
 use lib.ListN.{length, getD}
 use Rattle.nameset.specs.Set.{member}
-use Rattle.model.specs.Record.{none}
+use Rattle.model.specs.Record.{noFactor}
 use Rattle.model.specs.Check.{anyBelow}
 use Rattle.model.proofs.Tests.{any-start, any-more}
 use Rattle.model_check.proofs.Factors.{named-within}
@@ -18,7 +18,7 @@ use Rattle.model_check.proofs.used_factors.Tie as tie
 
 -- Whether factor i holds the name x.
 abbrev holds : List ℕ → ℕ → ℕ → Bool
-holds factor i x = eqb (getD factor x none) i
+holds factor i x = eqb (getD factor x noFactor) i
 
 abbrev Inv-loop : tie.InvT-loop
 Inv-loop n count factor end used₀ x₀ used x = (x ≤ end) × ((i : ℕ) → i < count → member used i ≡ anyBelow x (holds factor i))
