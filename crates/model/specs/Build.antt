@@ -7,6 +7,11 @@ use mathlib.Core.List.{List, [], _∷_}
 use lib.ListN.{set}
 use Rattle.model.specs.declared.Model.{Model}
 
+-- The record of its parts: the number of factors, the factor row and the mode row. Code that runs on borrowed rows
+-- promises what the definitions say of this record.
+abbrev pub ofRows : ℕ → List ℕ → List ℕ → Model
+ofRows count factors modes = record { count = count; factor = factors; mode = modes }
+
 -- The entries from place x on, with v for each name that the factor holds.
 unfoldable pub entriesWith : (ℕ → Bool) → ℕ → ℕ → List ℕ → List ℕ
 entriesWith holds v x [] = []

@@ -3,7 +3,6 @@
 -- Assumes nothing.
 use Prim.Native.Nat.{ℕ, _≤_, _<_}
 use mathlib.Core.Path.{_≡_}
-use mathlib.Core.List.{List}
 use mathlib.Core.Logic.{_⊎_}
 use lib.ListN.{length, getD, replicate}
 use Rattle.nameset.specs.Places.{places}
@@ -12,10 +11,6 @@ use Rattle.model.specs.declared.Model.{Model}
 -- The entry of a name that no factor holds.
 abbrev pub noFactor : ℕ
 noFactor = 255
-
--- The record of a number of factors, a factor row and a mode row.
-abbrev pub ofRows : ℕ → List ℕ → List ℕ → Model
-ofRows count factors modes = record { count = count; factor = factors; mode = modes }
 
 -- The factor that holds the name x.
 unfoldable pub factorOf : Model → ℕ → ℕ

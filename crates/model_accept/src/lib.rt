@@ -3,7 +3,7 @@ ghost use Prim.Native.Nat.{ℕ};
 ghost use mathlib.Core.Path.{_≡_};
 ghost use mathlib.Core.List.{List};
 ghost use Rattle.model.specs.declared.Moved.the-variants.{To};
-ghost use Rattle.model.specs.Record.{ofRows};
+ghost use Rattle.model.specs.Build.{ofRows};
 ghost use Rattle.model.specs.Run.{turnOf, goesTo, move, mayEnd, accepts};
 use model::Model;
 use model::Moved;

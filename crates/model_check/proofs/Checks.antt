@@ -7,7 +7,8 @@ use mathlib.Core.List.{List}
 use borrow.Author.Tests.{not-true, not-false, eq-eqb, ne-eqb, le-leb, lt-leb}
 use lib.Dec.{eqb, leb}
 use lib.ListN.{length, getD}
-use Rattle.model.specs.Record.{noFactor, ofRows}
+use Rattle.model.specs.Record.{noFactor}
+use Rattle.model.specs.Build.{ofRows}
 use Rattle.model.specs.Check.{everyBelow, anyBelow, allPlaced, allNamed, allKnown, isChain}
 use Rattle.model_check.proofs.Factors.{used-named}
 

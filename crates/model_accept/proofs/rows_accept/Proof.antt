@@ -8,7 +8,7 @@ use borrow.Author.Needs.{needs}
 use lib.ListN.{length, drop}
 use Rattle.model.specs.declared.Moved.{Moved}
 use Rattle.model.specs.declared.Moved.the-variants.{To}
-use Rattle.model.specs.Record.{ofRows}
+use Rattle.model.specs.Build.{ofRows}
 use Rattle.model.specs.Run.{state, run, mayEnd, accepts}
 use Rattle.model.proofs.Words.{run-nowhere, run-more, run-done}
 use Rattle.model_accept.proofs.rows_accept.Statement.{statement}

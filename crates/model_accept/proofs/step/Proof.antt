@@ -8,7 +8,8 @@ use borrow.Author.Needs.{needs}
 use lib.ListN.{getD}
 use Rattle.model.specs.declared.State.{State}
 use Rattle.model.specs.declared.Moved.the-variants.{To, Nowhere}
-use Rattle.model.specs.Record.{noFactor, ofRows, factorOf}
+use Rattle.model.specs.Record.{noFactor, factorOf}
+use Rattle.model.specs.Build.{ofRows}
 use Rattle.model.specs.Run.{state, goesTo, move}
 use Rattle.model_accept.proofs.step.Statement.{statement}
 use Rattle.model_accept.proofs.step.Tie as tie
