@@ -18,7 +18,7 @@ use Rattle.book.specs.Stops.{BlocksBelow}
 use Rattle.book.specs.Taken.{TakenAs}
 use Rattle.book.proofs.Taken.{taken-law, good-parent}
 use Rattle.book.proofs.Laws.{few-names, blocks-in, blocks-within}
-use Rattle.model.specs.Record.{none, IsChain}
+use Rattle.model.specs.Record.{noFactor, IsChain}
 use Rattle.model.specs.Accept.{Names}
 use Rattle.follow.specs.Sample.{wordsOf, Over}
 use Rattle.follow.proofs.Laws.{over-in, sample-over}
@@ -84,7 +84,7 @@ module _ (bytes : List ℕ) (book : Book) (read : IsBook bytes book) where
       -- and its chain is one over them
       pub sample-chain : IsChain places (length (book .names)) (chainIn book parent)
       unfolding chainIn chainOfWords
-      sample-chain = Demand.is-chain places (length (book .names)) few (let h : places ≤ none = omega arith in h) (sampleOf book parent) sample-names block
+      sample-chain = Demand.is-chain places (length (book .names)) few (let h : places ≤ noFactor = omega arith in h) (sampleOf book parent) sample-names block
 
 -- the answer of the call for a book that is taken
 pub answer-given : (bytes : List ℕ) (book : Book) → TakenAs bytes book → (parent : ℕ) → ¬ (sampleOf book parent ≡ []) → modelAnswer bytes parent ≡ given (chainIn book parent)
