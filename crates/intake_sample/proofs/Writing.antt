@@ -93,7 +93,10 @@ module _ (s : List ℕ) (p : ℕ) (x : InferredIn) (call : x ≡ inferredIn (rea
 
     text-is : (room : ℕ) → sampleText s p room ≡ fitted room (declaration (namesIn s) p (x .model))
     unfolding sampleText laid
-    text-is room = rw (names-in s (x .layout) laid, told .read, told .due)
+    text-is room =
+        ap (λ (a : Answer Book). onward a (λ b. onward (modelIn b p) (λ m. fitted room (declaration (b .names) p m)))) (told .read)
+        ∙ ap (λ (a : Answer Model). onward a (λ m. fitted room (declaration (told .book .names) p m))) (told .due)
+        ∙ ap (λ (names : List (List ℕ)). fitted room (declaration names p (x .model))) (sym (names-in s (x .layout) laid))
 
     pub text-written : (d : List ℕ) (w : Written) (f : List ℕ) → Writes (fitted (length d) (declaration (namesIn s) p (x .model))) w d f → Writes (sampleText s p (length d)) w d f
     text-written d w f h = rw (text-is (length d)) h
