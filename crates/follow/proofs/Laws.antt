@@ -14,7 +14,7 @@ use borrow.Author.Tests.{eqb-true, eq-eqb, ne-eqb, ltb-true}
 use Rattle.nameset.specs.Places.{places}
 use Rattle.nameset.specs.declared.NameSet.{NameSet}
 use Rattle.nameset.specs.Set.{member, with}
-use Rattle.nameset.specs.Rows.{IsRows, HasRow, rowAt, putRow, noRows}
+use Rattle.nameset.specs.Rows.{IsRows, HasRow, rowAt, noRows}
 use Rattle.nameset.proofs.Laws.{member-empty, member-with}
 use Rattle.nameset.proofs.Rows.{row-put, row-kept, length-put, has-row, no-rows, row-of-none}
 use Rattle.book.specs.declared.Layout.{Layout}

@@ -18,8 +18,8 @@ pub const PLACES: usize = 64;
 // How many numbers a set has room for. Each name's number is among them.
 pub const CAPACITY: usize = 64;
 
-// How many words keep a row for each place.
-pub const ROWS: usize = 64;
+// How many words keep a row for each place: one word a row.
+pub const ROWS: usize = PLACES;
 
 // Whether there may be this many names.
 pub fn good_count(names: usize) -> bool
