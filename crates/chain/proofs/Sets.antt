@@ -10,11 +10,10 @@ use native.Mathlib.Numerals.{add-one}
 use native.Mathlib.Decide.{ℕ-discrete}
 use borrow.Author.Tests.{eq-eqb, ne-eqb}
 use lib.Dec.{eqb, ltb}
-use lib.ListN.{length, getD}
 use Rattle.nameset.specs.Places.{places}
 use Rattle.nameset.specs.declared.NameSet.{NameSet}
-use Rattle.nameset.specs.Set.{member, Sized, first, ofWord}
-use Rattle.nameset.specs.Rows.{rowAt}
+use Rattle.nameset.specs.Set.{member, Sized, first}
+use Rattle.nameset.specs.Rows.{IsRows, rowAt}
 use Rattle.nameset.specs.Promise.{Emptiness, Shrunk}
 use Rattle.nameset.proofs.Laws.{first-in}
 use Rattle.model.proofs.Tests.{same-test}
@@ -28,43 +27,45 @@ use Rattle.chain_peel.specs.Shown.{Shown}
 use Rattle.chain_peel.specs.Sets.{meets, inRows, stepsOver}
 use Rattle.chain_levels.proofs.Tests.{and-is, or-is, ltb-is, some-is, refuted, both-ways}
 use Rattle.chain_levels.proofs.Below.{some-count}
-use Rattle.chain_peel.proofs.Reaching.{edge-follows}
-use Rattle.chain_rows.specs.Rows.{inWord, inRow, Round, amongRows}
-use Rattle.chain_rows.proofs.Laws.{rows-none, rows-both}
+use Rattle.chain_peel.proofs.Reaching.{occurs-small, edge-follows}
+use Rattle.chain_peel.proofs.Rows.{rows-none, rows-both}
+use Rattle.chain_rows.specs.Rows.{inRow, OnlyNames, Round, amongRows}
 use Rattle.chain.specs.Chain.{Reached}
 
 -- ---- reach
 
 pub reach-none : (facts : Facts) (n : ℕ) → Shown (viewOf n facts) → (a b : ℕ) → inRow (facts .follows) a b ≡ reachBy (viewOf n facts) 0 a b
-unfolding inRow inWord rowAt ofWord reachBy
+unfolding inRow reachBy
 reach-none facts n s a b = sym (edge-follows (viewOf n facts) s a b)
 
-pub reach-more : (f : Follow) (old new : List ℕ) (k : ℕ) → ((a b : ℕ) → inRow old a b ≡ reachBy f k a b) → Round old new k → (a b : ℕ) → inRow new a b ≡ reachBy f (k + 1) a b
+pub reach-more : (f : Follow) (n : ℕ) (old new : List ℕ) (k : ℕ) → ((a b : ℕ) → inRow old a b ≡ reachBy f k a b) → Round n old new k → (a b : ℕ) → inRow new a b ≡ reachBy f (k + 1) a b
 unfolding reachBy
-reach-more f old new k e r a b = r .law a b ∙ rw (add-one k, e a b, e a k, e k b)
+reach-more f n old new k e r a b = r .law a b ∙ rw (add-one k, e a b, e a k, e k b)
 
-pub reach-all : (facts : Facts) (n k : ℕ) (rows : List ℕ) → k ≡ n → length rows ≡ places → ((a b : ℕ) → inRow rows a b ≡ reachBy (viewOf n facts) k a b) → Reached (viewOf n facts) rows
-unfolding reaches
-reach-all facts n k rows q h e = record { size = h; law = λ a b. e a b ∙ ap (λ (j : ℕ). reachBy (viewOf n facts) j a b) q }
+-- the facts speak of names only
+only-shown : (facts : Facts) (n : ℕ) → Shown (viewOf n facts) → IsRows places (facts .follows) → OnlyNames n (facts .follows)
+unfolding inRow
+only-shown facts n s h = record { size = h; below = λ a b e. (occurs-small (viewOf n facts) a (s .followed a b e), s .follows a b e) }
 
 -- The rows after k rounds, whichever facts over n names the first rows are of.
 pub record Rounds (n : ℕ) (old new : List ℕ) (k : ℕ) : Type 0 where
-  pub size : length new ≡ places
+  pub names : OnlyNames n new
   pub law : (facts : Facts) → facts .follows ≡ old → Shown (viewOf n facts) → (a b : ℕ) → inRow new a b ≡ reachBy (viewOf n facts) k a b
 
-pub rounds-none : (n : ℕ) (old : List ℕ) → length old ≡ places → Rounds n old old 0
-rounds-none n old h = record { size = h; law = λ facts e s a b. ap (λ (r : List ℕ). inRow r a b) (sym e) ∙ reach-none facts n s a b }
+pub rounds-none : (n : ℕ) (first : Facts) → Shown (viewOf n first) → IsRows places (first .follows) → Rounds n (first .follows) (first .follows) 0
+rounds-none n first s h = record { names = only-shown first n s h; law = λ facts e q a b. ap (λ (r : List ℕ). inRow r a b) (sym e) ∙ reach-none facts n q a b }
 
-pub rounds-more : {n : ℕ} {old new : List ℕ} {k : ℕ} → Rounds n old new k → (next : List ℕ) → Round new next k → Rounds n old next (k + 1)
-rounds-more {n} {old} {new} {k} r next t = record { size = t .size; law = λ facts e s. reach-more (viewOf n facts) new next k (r .law facts e s) t }
+pub rounds-more : {n : ℕ} {old new : List ℕ} {k : ℕ} → Rounds n old new k → (next : List ℕ) → Round n new next k → Rounds n old next (k + 1)
+rounds-more {n} {old} {new} {k} r next t = record { names = t .names; law = λ facts e s. reach-more (viewOf n facts) n new next k (r .law facts e s) t }
 
 pub rounds-all : {n : ℕ} {old new : List ℕ} {k : ℕ} → Rounds n old new k → (facts : Facts) → facts .follows ≡ old → Shown (viewOf n facts) → k ≡ n → Reached (viewOf n facts) new
-rounds-all {n} {old} {new} {k} r facts e s q = reach-all facts n k new q (r .size) (r .law facts e s)
+unfolding reaches
+rounds-all {n} {old} {new} {k} r facts e s q = record { names = r .names; law = λ a b. r .law facts e s a b ∙ ap (λ (j : ℕ). reachBy (viewOf n facts) j a b) q }
 
 -- ---- names that occur
 
 pub occurs-law : (facts : Facts) (n : ℕ) → Shown (viewOf n facts) → (x : ℕ) → (member (facts .starts) x || amongRows n (facts .follows) x) ≡ occurs (viewOf n facts) x
-unfolding amongRows inRow inWord rowAt ofWord occurs
+unfolding amongRows inRow occurs
 occurs-law facts n s x =
     same-test (starts || follows) (ltb x n && (starts || follows)) (λ e. and-is (ltb x n) (starts || follows) .1 (ltb-is x n .1 (small (or-is starts follows .0 e)), e))
     (λ e. and-is (ltb x n) (starts || follows) .0 e .1)
@@ -114,7 +115,7 @@ pub record Stepped (starts : NameSet) (follows : List ℕ) (lower stepped : Name
   pub law : (b : ℕ) → member stepped b ≡ (member starts b || inRows places (inRow follows) (member lower) b)
 
 pub stepped-none : (starts : NameSet) (follows : List ℕ) (lower : NameSet) → ((x : ℕ) → member lower x ≡ false) → Stepped starts follows lower starts
-stepped-none starts follows lower none = record { law = λ b. sym (rw (rows-none (inRow follows) (member lower) b none) (or-false (member starts b))) }
+stepped-none starts follows lower none = record { law = λ b. sym (rw (rows-none places (inRow follows) (member lower) b none) (or-false (member starts b))) }
 
 pub stepped-more : {starts : NameSet} {follows : List ℕ} {lower stepped : NameSet} → Stepped starts follows lower stepped →
     (level rows more both : NameSet) → ((b : ℕ) → member rows b ≡ inRows places (inRow follows) (member level) b) → ((b : ℕ) → member more b ≡ (member stepped b || member rows b)) →
@@ -125,7 +126,7 @@ stepped-more {starts} {follows} {lower} {stepped} p level rows more both law sum
     at b =
         sum b ∙ ap₂ _||_ (p .law b) (law b)
         ∙ or-assoc (member starts b) (inRows places (inRow follows) (member lower) b) (inRows places (inRow follows) (member level) b)
-        ∙ ap (λ (x : Bool). member starts b || x) (sym (rows-both (inRow follows) (member lower) (member level) (member both) b join))
+        ∙ ap (λ (x : Bool). member starts b || x) (sym (rows-both places (inRow follows) (member lower) (member level) (member both) b join))
 
 -- so a step that goes over a level starts among them
 pub stepped-over : (empty : Bool) (starts ends : NameSet) (follows : List ℕ) (lower stepped higher : NameSet) (r : Bool) → Stepped starts follows lower stepped →

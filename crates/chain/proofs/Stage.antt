@@ -10,8 +10,8 @@ use native.Mathlib.Decide.{decLt}
 use lib.Dec.{eqb}
 use Rattle.nameset.specs.Places.{places}
 use Rattle.nameset.specs.declared.NameSet.{NameSet}
-use Rattle.nameset.specs.Set.{member, ofWord}
-use Rattle.nameset.specs.Rows.{rowAt}
+use Rattle.nameset.specs.Set.{member}
+use Rattle.nameset.specs.Rows.{IsRows}
 use Rattle.model.specs.declared.Model.{Model}
 use Rattle.model.specs.Record.{emptyModel}
 use Rattle.model.specs.Build.{withFactor}
@@ -32,7 +32,7 @@ use Rattle.chain_peel.proofs.Reaching.{occurs-small}
 use Rattle.chain_peel.proofs.Peel.{at-is, higher-is, higher-first, lower-first, higher-next, lower-next, single-at, leads-at, peel, level-left, level-none, level-found}
 use Rattle.chain_peel.proofs.Skips.{skipped-over}
 use Rattle.chain_peel.proofs.Counting.{level-room}
-use Rattle.chain_rows.specs.Rows.{inWord, inRow, OneWay, groupIn, smallestIn, leadsIn}
+use Rattle.chain_rows.specs.Rows.{inRow, leadsAway, OneWay, groupIn, loopsIn, smallestIn, leadsIn}
 use Rattle.chain_rows.proofs.Laws.{group-members}
 use Rattle.chain.specs.Chain.{Reached, holdsIn}
 use Rattle.chain.proofs.Factors.{each-upto}
@@ -40,6 +40,8 @@ use Rattle.chain.proofs.Factors.{each-upto}
 -- ---- the tables
 
 pub record Tables (f : Follow) (reach behind : List ℕ) (looping lead : NameSet) : Type 0 where
+  pub reach-size : IsRows places reach
+  pub behind-size : IsRows places behind
   pub behind-law : (a b : ℕ) → inRow behind a b ≡ isBefore f a b
   pub holds-law : (a b : ℕ) → holdsIn reach behind a b ≡ sameGroup f a b
   pub loops-law : (x : ℕ) → member looping x ≡ loops f x
@@ -81,11 +83,11 @@ leads-smallest f x =
           not-is (anyBelow x (sameGroup f x)) .1 (refuted (anyBelow x (sameGroup f x)) (λ t. let r = some-is x (sameGroup f x) .0 t in omega (arith, q, r .1, h, first-le (f .names) (sameGroup f x) (r .0) (omega (arith, r .1, h)) (r .2)))),
         )
 
-pub tables-made : (f : Follow) (reach behind : List ℕ) (looping lead : NameSet) → Reached f reach → OneWay reach behind → ((a : ℕ) → member looping a ≡ inRow reach a a) →
+pub tables-made : (f : Follow) (reach behind : List ℕ) (looping lead : NameSet) → Reached f reach → OneWay reach behind → ((a : ℕ) → member looping a ≡ loopsIn reach behind a) →
     ((a : ℕ) → member lead a ≡ leadsIn reach behind a) → Tables f reach behind looping lead
-unfolding isBefore loops holdsIn leadsIn smallestIn
+unfolding isBefore loops holdsIn leadsAway loopsIn leadsIn smallestIn
 tables-made f reach behind looping lead r o own small =
-    record { behind-law = before; holds-law = group; loops-law = λ x. own x ∙ r .law x x; leads-law = leading }
+    record { reach-size = r .names .size; behind-size = o .size; behind-law = before; holds-law = group; loops-law = λ x. own x ∙ group x x ∙ same-test _ _ (λ e. group-is f x x .0 e .0) (λ e. group-is f x x .1 (e, e)); leads-law = leading }
   where
     before : (a b : ℕ) → inRow behind a b ≡ (reaches f a b && not (reaches f b a))
     before a b = o .law a b ∙ ap₂ (λ (u v : Bool). u && not v) (r .law a b) (r .law b a)
@@ -140,7 +142,7 @@ module _ (f : Follow) (n : f .names ≤ places) where
 pub skips-view : (facts : Facts) (n : ℕ) (lower higher : NameSet) (r : Bool) →
     r ≡ stepsOver places (facts .empty) (member (facts .starts)) (member (facts .ends)) (inRow (facts .follows)) (member lower) (member higher) →
     r ≡ stepsOver places (viewOf n facts .empty) (viewOf n facts .starts) (viewOf n facts .ends) (viewOf n facts .follows) (member lower) (member higher)
-unfolding inRow inWord rowAt ofWord
+unfolding inRow
 skips-view facts n lower higher r e =
     let z : _≡_ {A = ℕ → ℕ → Bool} (inRow (facts .follows)) (viewOf n facts .follows) = fun-ext (λ a. fun-ext (λ b. refl)) in
     e ∙ ap (λ (q : ℕ → ℕ → Bool). stepsOver places (facts .empty) (member (facts .starts)) (member (facts .ends)) q (member lower) (member higher)) z

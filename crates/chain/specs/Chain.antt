@@ -5,16 +5,14 @@ use Prim.Native.Nat.{ℕ}
 use mathlib.Core.Path.{_≡_}
 use mathlib.Core.Bool.{Bool}
 use mathlib.Core.List.{List}
-use lib.ListN.{length}
-use Rattle.nameset.specs.Places.{places}
 use Rattle.nameset.specs.Set.{member}
 use Rattle.follow.specs.Follow.{Follow}
 use Rattle.chain_levels.specs.Reach.{reaches}
-use Rattle.chain_rows.specs.Rows.{inRow, groupIn}
+use Rattle.chain_rows.specs.Rows.{inRow, OnlyNames, groupIn}
 
 -- The rows keep what each name reaches.
 pub record Reached (f : Follow) (rows : List ℕ) : Type 0 where
-  pub size : length rows ≡ places
+  pub names : OnlyNames (f .names) rows
   pub law : (a b : ℕ) → inRow rows a b ≡ reaches f a b
 
 -- b is in the loop group of a.

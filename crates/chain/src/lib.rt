@@ -5,6 +5,7 @@ ghost use Prim.Native.Nat.{ℕ, _+_, _≤_, _<_};
 ghost use lib.Dec.{eqb};
 ghost use Rattle.nameset.specs.Places.{places};
 ghost use Rattle.nameset.specs.Set.{member};
+ghost use Rattle.nameset.specs.Rows.{IsRows};
 ghost use Rattle.chain_levels.specs.Below.{anyBelow, countBelow};
 ghost use Rattle.chain_levels.specs.Reach.{occurs};
 ghost use Rattle.chain_levels.specs.Chain.{factors, withAny, withEach, withBoth, chainOf};
@@ -14,26 +15,25 @@ ghost use Rattle.chain_peel.specs.Sets.{meets, inRows};
 ghost use Rattle.chain_rows.specs.Rows.{inRow};
 ghost use Rattle.chain.specs.Chain.{Reached, holdsIn};
 use chain_rows::group;
-use chain_rows::leaders;
+use chain_rows::loop_groups;
 use chain_rows::one_way;
-use chain_rows::own;
 use chain_rows::round;
 use chain_rows::rows_of;
 use chain_rows::with_rows;
 use follow::Facts;
 use model::Model;
 use nameset::NameSet;
-use nameset::PLACES;
+use nameset::ROWS;
 
 // What each name reaches.
-pub fn reach_rows(facts: Facts, n: usize) -> [u64; PLACES]
+pub fn reach_rows(facts: Facts, n: usize) -> [u64; ROWS]
     requires { ⌜ (n ≤ places) × Shown (viewOf n facts) ⌝ }
     ensures { λ r. ⌜ Reached (viewOf n facts) r ⌝ }
 {
     let mut rows = facts.follows;
     let mut k = 0;
     while k < n {
-        round(&mut rows, k);
+        round(&mut rows, n, k);
         k += 1;
     }
     rows
@@ -110,12 +110,12 @@ fn with_any(m: Model, names: NameSet, mode: u8) -> Model
 // The record with a factor for each loop group, in order of its smallest number.
 fn with_groups(
     m: Model,
-    reach: &[u64; PLACES],
-    behind: &[u64; PLACES],
+    reach: &[u64],
+    behind: &[u64],
     leaders: NameSet,
     mode: u8,
 ) -> Model
-    requires { ⌜ m .count + countBelow places (member leaders) ≤ places ⌝ }
+    requires { ⌜ (m .count + countBelow places (member leaders) ≤ places) × IsRows places (now reach) × IsRows places (now behind) ⌝ }
     ensures { λ r. ⌜ r ≡ withEach (member leaders) (holdsIn (now (reach .entry)) (now (behind .entry))) mode places m ⌝ }
 {
     let mut out = m;
@@ -132,13 +132,13 @@ fn with_groups(
 // The record with the factors of one level: its singles first, then its loop groups.
 fn with_level(
     m: Model,
-    reach: &[u64; PLACES],
-    behind: &[u64; PLACES],
+    reach: &[u64],
+    behind: &[u64],
     singles: NameSet,
     leaders: NameSet,
     skipped: bool,
 ) -> Model
-    requires { ⌜ m .count + factors places (member singles) (member leaders) ≤ places ⌝ }
+    requires { ⌜ (m .count + factors places (member singles) (member leaders) ≤ places) × IsRows places (now reach) × IsRows places (now behind) ⌝ }
     ensures { λ r. ⌜ r ≡ withBoth places (not skipped && eqb (factors places (member singles) (member leaders)) 1) (member singles) (member leaders) (holdsIn (now (reach .entry)) (now (behind .entry))) m ⌝ }
 {
     let fixed = is_fixed(skipped, one_factor(singles, leaders));
@@ -147,7 +147,8 @@ fn with_level(
 }
 
 // The names that stand behind none of the others: of those that are left, the next level.
-fn next_level(behind: &[u64; PLACES], higher: NameSet) -> NameSet
+fn next_level(behind: &[u64], higher: NameSet) -> NameSet
+    requires { ⌜ IsRows places (now behind) ⌝ }
     ensures { λ r. ⌜ ((x : ℕ) → member r x ≡ (member higher x && not (inRows places (inRow (now (behind .entry))) (member higher) x))) ⌝ }
 {
     higher.minus(rows_of(behind, higher))
@@ -167,9 +168,8 @@ pub fn chain(facts: Facts, n: usize) -> Model
     ensures { λ r. ⌜ r ≡ chainOf places (viewOf n facts) ⌝ }
 {
     let reach = reach_rows(facts, n);
-    let behind = one_way(&reach);
-    let looping = own(&reach);
-    let lead = leaders(&reach, &behind);
+    let behind = one_way(&reach, n);
+    let loops = loop_groups(&reach, &behind, n);
     let mut m = Model::empty();
     let mut lower = NameSet::empty();
     let mut higher = occurring(facts, n);
@@ -182,8 +182,8 @@ pub fn chain(facts: Facts, n: usize) -> Model
             m,
             &reach,
             &behind,
-            level.minus(looping),
-            level.both(lead),
+            level.minus(loops.names),
+            level.both(loops.leaders),
             skipped,
         );
         m = next;

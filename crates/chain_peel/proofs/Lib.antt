@@ -1,3 +1,4 @@
+pub mod Rows
 pub mod Reaching
 pub mod Peel
 pub mod Skips

@@ -14,9 +14,10 @@ use Rattle.chain_levels.specs.Rank.{isBefore, levelOf, lastLevel}
 use Rattle.chain_levels.specs.Chain.{singleAt, leadsAt}
 use Rattle.chain_peel.specs.Shown.{Shown}
 use Rattle.chain_peel.specs.Sets.{isLower, isAt, isHigher, inRows}
-use Rattle.chain_levels.proofs.Tests.{and-is, or-is, not-is, ltb-is, eqb-is, refuted, both-ways, some-is}
+use Rattle.chain_levels.proofs.Tests.{and-is, or-is, not-is, ltb-is, eqb-is, refuted, both-ways}
 use Rattle.chain_levels.proofs.Below.{largest-bounds, largest-most}
 use Rattle.chain_levels.proofs.Levels.{before-is, level-low, level-most, before-rises, level-has, reach-level}
+use Rattle.chain_peel.proofs.Rows.{rows-is}
 use Rattle.chain_peel.proofs.Reaching.{occurs-small, occurs-reached, occurs-reaching}
 
 module _ (f : Follow) where
@@ -39,13 +40,6 @@ module _ (f : Follow) where
   higher-is l x = (
     λ e. let p = and-is (occurs f x) (ltb l (levelOf f x)) .0 e in (p .0, ltb-is l (levelOf f x) .0 (p .1)),
     λ p. and-is (occurs f x) (ltb l (levelOf f x)) .1 (p .0, ltb-is l (levelOf f x) .1 (p .1)),
-  )
-
-  pub rows-is : (size : ℕ) (rows : ℕ → ℕ → Bool) (set : ℕ → Bool) (y : ℕ) → (inRows size rows set y ≡ true) ↔ ((x : ℕ) × (x < size) × (set x ≡ true) × (rows x y ≡ true))
-  unfolding inRows
-  rows-is size rows set y = (
-    λ e. let p = some-is size (λ x. set x && rows x y) .0 e in let q = and-is (set (p .0)) (rows (p .0) y) .0 (p .2) in (p .0, p .1, q .0, q .1),
-    λ p. some-is size (λ x. set x && rows x y) .1 (p .0, p .1, and-is (set (p .0)) (rows (p .0) y) .1 (p .2, p .3)),
   )
 
   -- ---- the sets from level to level

@@ -13,8 +13,9 @@ use Rattle.chain_levels.specs.Rank.{levelOf, lastLevel, skipped}
 use Rattle.chain_peel.specs.Shown.{Shown}
 use Rattle.chain_peel.specs.Sets.{isLower, isHigher, meets, inRows, stepsOver}
 use Rattle.chain_levels.proofs.Tests.{and-is, or-is, ltb-is, some-is}
+use Rattle.chain_peel.proofs.Rows.{rows-is}
 use Rattle.chain_peel.proofs.Reaching.{occurs-small, occurs-starts, occurs-after, edge-follows}
-use Rattle.chain_peel.proofs.Peel.{lower-is, higher-is, rows-is}
+use Rattle.chain_peel.proofs.Peel.{lower-is, higher-is}
 
 -- a test and two orders
 three : (b : Bool) (i j k l : ℕ) → ((b && (ltb i j && ltb k l)) ≡ true) ↔ ((b ≡ true) × (i < j) × (k < l))
@@ -117,7 +118,7 @@ module _ (f : Follow) (s : Shown f) (size l : ℕ) (k : f .names ≤ size) (firs
         y,
         omega arith,
         or-is (f .starts y) (inRows size (f .follows) (isLower f l) y) .1
-            (inr (rows-is f size (f .follows) (isLower f l) y .1 (x, omega (arith, occurs-small f x o), lower-is f l x .1 (o, h), e))),
+            (inr (rows-is size (f .follows) (isLower f l) y .1 (x, omega (arith, occurs-small f x o), lower-is f l x .1 (o, h), e))),
         higher-is f l y .1 (occurs-after f y x (edge-follows f s x y ∙ e), i),
       )
 
@@ -147,7 +148,7 @@ module _ (f : Follow) (s : Shown f) (size l : ℕ) (k : f .names ≤ size) (firs
   from-comes y p (inl e) = let o = higher-is f l y .0 p in inr (inl (start-is f l .1 (y, occurs-small f y (o .0), (e, first, o .1))))
   from-comes y p (inr e) =
       let o = higher-is f l y .0 p in
-      let r = rows-is f size (f .follows) (isLower f l) y .0 e in
+      let r = rows-is size (f .follows) (isLower f l) y .0 e in
       let q = lower-is f l (r .0) .0 (r .2) in
       inr (inr (inr (inner-is f l .1 (r .0, occurs-small f (r .0) (q .0), (y, occurs-small f y (o .0), (r .3, q .1, o .1))))))
 

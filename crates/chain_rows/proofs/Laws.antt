@@ -1,71 +1,61 @@
--- Laws of rows: one word set, a round row by row, a set and a table name by name.
+-- Laws of rows: a table row by row, a set name by name, rows joined one after the other, and loop groups.
 -- Assumes nothing.
 use Prim.Native.Nat.{ℕ, _+_, _≤_, _<_}
 use mathlib.Core.Path.{_≡_, refl, sym, _∙_, ap, ap₂}
 use mathlib.Core.Bool.{Bool, true, false, cond, _&&_, _||_, not, or-false, or-assoc, and-true, and-false}
 use mathlib.Core.List.{List}
-use mathlib.Core.Logic.{inl, inr, ⊎-elim}
+use mathlib.Core.Logic.{_⊎_, inl, inr}
 use native.Mathlib.Omega.{arith}
 use native.Mathlib.Numerals.{add-one}
 use native.Mathlib.Decide.{ℕ-discrete, decLt}
 use borrow.Author.Tests.{lt-ltb, le-ltb, eq-eqb, ne-eqb}
 use lib.Dec.{eqb, ltb}
-use lib.ListN.{length, getD, set, replicate, length-set, length-replicate, getD-replicate, List·getD-eq-default}
-use lib.Seq.{getD-set-same, getD-set-other}
+use lib.ListN.{length}
 use Rattle.nameset.specs.Places.{places}
 use Rattle.nameset.specs.declared.NameSet.{NameSet}
-use Rattle.nameset.specs.Set.{member, ofWord, wordOf, minus, isEmpty}
+use Rattle.nameset.specs.Set.{capacity, member, minus, isEmpty}
 use Rattle.nameset.specs.Promise.{Smallest}
-use Rattle.nameset.proofs.Laws.{member-empty, member-minus, member-some, of-word-of, of-zero}
+use Rattle.nameset.specs.Rows.{IsRows, HasRow, rowAt, putRow, noRows}
+use Rattle.nameset.proofs.Laws.{member-empty, member-minus, first-none}
+use Rattle.nameset.proofs.Rows.{row-put, row-kept, length-put, no-rows, row-of-none}
 use Rattle.chain_levels.specs.Below.{anyBelow}
-use Rattle.chain_peel.specs.Sets.{inRows}
-use Rattle.model.proofs.Tests.{same-test}
 use Rattle.chain_levels.proofs.Tests.{some-is, and-is, or-is, both-ways, refuted}
-use Rattle.chain_rows.specs.Rows.{inWord, inRow, Round, OneWay, groupIn, smallestIn, leadsIn, amongRows}
-
--- ---- words
-
-pub word-law : (w : ℕ) (s : NameSet) (b : ℕ) → w ≡ wordOf s → inWord w b ≡ member s b
-unfolding inWord
-word-law w s b e = ap (λ (v : ℕ). member (ofWord v) b) e ∙ ap (λ (t : NameSet). member t b) (of-word-of s)
-
-pub of-law : (w : ℕ) (s : NameSet) (b : ℕ) → s ≡ ofWord w → member s b ≡ inWord w b
-unfolding inWord
-of-law w s b e = ap (λ (t : NameSet). member t b) e
-
-pub word-none : (b : ℕ) → inWord 0 b ≡ false
-unfolding inWord
-word-none b = ap (λ (t : NameSet). member t b) of-zero ∙ member-empty b
+use Rattle.chain_peel.specs.Sets.{inRows}
+use Rattle.chain_peel.proofs.Rows.{rows-none, rows-first}
+use Rattle.chain_rows.specs.Rows.{inRow, leadsAway, OnlyNames, Round, OneWay, groupIn, loopsIn, smallestIn, leadsIn, amongRows}
 
 -- ---- rows
 
-pub row-word : (rows : List ℕ) (a b : ℕ) → inRow rows a b ≡ inWord (getD rows a 0) b
+-- a row that was read
+pub row-is : (rows : List ℕ) (a : ℕ) (s : NameSet) → s ≡ rowAt rows a → (b : ℕ) → member s b ≡ inRow rows a b
 unfolding inRow
-row-word rows a b = refl
+row-is rows a s e b = ap (λ (t : NameSet). member t b) e
 
-pub row-past : (rows : List ℕ) (a b : ℕ) → length rows ≡ places → places ≤ a → inRow rows a b ≡ false
+put-same : (rows : List ℕ) (i : ℕ) (s : NameSet) (b : ℕ) → HasRow rows i → inRow (putRow rows i s) i b ≡ member s b
 unfolding inRow
-row-past rows a b e h = ap (λ (w : ℕ). inWord w b) (List·getD-eq-default rows 0 {n = a} (omega arith)) ∙ word-none b
+put-same rows i s b h = ap (λ (t : NameSet). member t b) (row-put rows i s h)
 
-set-same : (rows : List ℕ) (i w b : ℕ) → i < length rows → inRow (set rows i w) i b ≡ inWord w b
+put-other : (rows : List ℕ) (i a : ℕ) (s : NameSet) (b : ℕ) → (a ≡ i → ⊥) → inRow (putRow rows i s) a b ≡ inRow rows a b
 unfolding inRow
-set-same rows i w b h = ap (λ (v : ℕ). inWord v b) (getD-set-same rows i w 0 h)
+put-other rows i a s b d = ap (λ (t : NameSet). member t b) (row-kept rows i a s d)
 
-set-other : (rows : List ℕ) (i a w b : ℕ) → (a ≡ i → ⊥) → inRow (set rows i w) a b ≡ inRow rows a b
+none-related : (a b : ℕ) → inRow (noRows places) a b ≡ false
 unfolding inRow
-set-other rows i a w b h = ap (λ (v : ℕ). inWord v b) (getD-set-other rows i a w 0 h)
+none-related a b = ap (λ (t : NameSet). member t b) (row-of-none places a) ∙ member-empty b
 
--- ---- a row joined with another
+-- a row from n on is empty
+past : {n : ℕ} {rows : List ℕ} → OnlyNames n rows → (a b : ℕ) → n ≤ a → inRow rows a b ≡ false
+past {n} {rows} o a b h = refuted (inRow rows a b) (λ e. omega (arith, o .below a b e .0))
 
-pub join-yes : (x p k r : ℕ) (row q u : NameSet) → row ≡ ofWord x → q ≡ ofWord p → ((j : ℕ) → member u j ≡ (member row j || member q j)) → r ≡ wordOf u →
-    member row k ≡ true → (b : ℕ) → inWord r b ≡ (inWord x b || (inWord x k && inWord p b))
-join-yes x p k r row q u ex ep law er e b =
-    word-law r u b er ∙ law b ∙ ap₂ _||_ (of-law x row b ex) (sym (rw (sym (of-law x row k ex) ∙ e) (sym (of-law p q b ep))))
+-- ---- a set joined with another
 
-pub join-no : (x p k : ℕ) (row : NameSet) → row ≡ ofWord x → member row k ≡ false → (b : ℕ) → inWord x b ≡ (inWord x b || (inWord x k && inWord p b))
-join-no x p k row ex e b = sym (rw (sym (of-law x row k ex) ∙ e) (or-false (inWord x b)))
+pub join-yes : (x p u : NameSet) (k : ℕ) → ((j : ℕ) → member u j ≡ (member x j || member p j)) → member x k ≡ true → (b : ℕ) → member u b ≡ (member x b || (member x k && member p b))
+join-yes x p u k law e b = law b ∙ sym (rw e)
 
--- ---- a round, row by row
+pub join-no : (x p : NameSet) (k : ℕ) → member x k ≡ false → (b : ℕ) → member x b ≡ (member x b || (member x k && member p b))
+join-no x p k e b = sym (rw e (or-false (member x b)))
+
+-- ---- a table, row by row
 
 below-next : (a i : ℕ) → (a ≡ i → ⊥) → ltb a (i + 1) ≡ ltb a i
 below-next a i h = go (decLt a i)
@@ -74,44 +64,85 @@ below-next a i h = go (decLt a i)
     go (yes l) = lt-ltb a (i + 1) (omega arith) ∙ sym (lt-ltb a i l)
     go (no l) = le-ltb a (i + 1) (omega arith) ∙ sym (le-ltb a i (omega arith))
 
--- The rows below i are those after the round, where row k was the word p.
-pub record Turned (old new : List ℕ) (p k i : ℕ) : Type 0 where
-  pub before : length old ≡ places
-  pub size : length new ≡ places
-  pub law : (a b : ℕ) → inRow new a b ≡ cond (ltb a i) (inRow old a b || (inRow old a k && inWord p b)) (inRow old a b)
+-- The rows below i have the names that pass the test; the others are those of `old`.
+pub record Filled (old new : List ℕ) (test : ℕ → ℕ → Bool) (i : ℕ) : Type 0 where
+  pub size : IsRows places new
+  pub law : (a b : ℕ) → inRow new a b ≡ cond (ltb a i) (test a b) (inRow old a b)
 
-pub turn-none : (old : List ℕ) (p k : ℕ) → length old ≡ places → Turned old old p k 0
-turn-none old p k h = record { before = h; size = h; law = λ a b. sym (rw (le-ltb a 0 (omega arith))) }
+pub fill-none : (old : List ℕ) (test : ℕ → ℕ → Bool) → IsRows places old → Filled old old test 0
+fill-none old test h = record { size = h; law = λ a b. sym (rw (le-ltb a 0 (omega arith))) }
 
-pub turn-more : {old new : List ℕ} {p k i : ℕ} → Turned old new p k i → (w : ℕ) → i < places →
-    ((b : ℕ) → inWord w b ≡ (inWord (getD new i 0) b || (inWord (getD new i 0) k && inWord p b))) → Turned old (set new i w) p k (i + 1)
-turn-more {old} {new} {p} {k} {i} r w h e = record { before = r .before; size = length-set new i w ∙ r .size; law = λ a b. at a b (ℕ-discrete a i) }
+module _ {old new : List ℕ} {test : ℕ → ℕ → Bool} {i : ℕ} (r : Filled old new test i) where
+  pub fill-more : (s : NameSet) → i < places → ((b : ℕ) → member s b ≡ test i b) → (next : List ℕ) → next ≡ putRow new i s → Filled old next test (i + 1)
+  fill-more s h e next n = record { size = ap length n ∙ length-put new i s ∙ r .size; law = λ a b. ap (λ (t : List ℕ). inRow t a b) n ∙ at a b (ℕ-discrete a i) }
+    where
+      at : (a b : ℕ) → Dec (a ≡ i) → inRow (putRow new i s) a b ≡ cond (ltb a (i + 1)) (test a b) (inRow old a b)
+      at a b (yes q) =
+          let t : ltb a (i + 1) ≡ true = lt-ltb a (i + 1) (omega arith) in
+          let z : HasRow new i = rw (r .size) h in
+          rw (t, q) (put-same new i s b z ∙ e b)
+      at a b (no q) = put-other new i a s b q ∙ r .law a b ∙ rw (below-next a i q)
+
+  -- the row whose turn it is
+  fill-own : (b : ℕ) → inRow new i b ≡ inRow old i b
+  fill-own b = r .law i b ∙ rw (le-ltb i i (omega arith))
+
+  fill-all : (n : ℕ) → n ≤ i → ((a b : ℕ) → n ≤ a → inRow old a b ≡ test a b) → (a b : ℕ) → inRow new a b ≡ test a b
+  fill-all n h rest a b = r .law a b ∙ at (decLt a i)
+    where
+      at : Dec (a < i) → cond (ltb a i) (test a b) (inRow old a b) ≡ test a b
+      at (yes l) = rw (lt-ltb a i l)
+      at (no l) = rw (le-ltb a i (omega arith)) (rest a b (omega arith))
+
+-- ---- a round
+
+-- a is related to b, or to k, and b is in the set p
+unfoldable pub turned : List ℕ → NameSet → ℕ → ℕ → ℕ → Bool
+turned rows p k a b = inRow rows a b || (inRow rows a k && member p b)
+
+pub turn-more : (old new : List ℕ) (p : NameSet) (k i : ℕ) → Filled old new (turned old p k) i → (x s : NameSet) → i < places → x ≡ rowAt new i →
+    ((b : ℕ) → member s b ≡ (member x b || (member x k && member p b))) → (next : List ℕ) → next ≡ putRow new i s → Filled old next (turned old p k) (i + 1)
+unfolding turned
+turn-more old new p k i r x s h q e = fill-more r s h (λ b. e b ∙ ap₂ (λ (u v : Bool). u || (v && member p b)) (own b) (own k))
   where
-    own : (b : ℕ) → inWord (getD new i 0) b ≡ inRow old i b
-    own b = sym (row-word new i b) ∙ r .law i b ∙ rw (le-ltb i i (omega arith))
+    own : (b : ℕ) → member x b ≡ inRow old i b
+    own b = row-is new i x q b ∙ fill-own r b
 
-    at : (a b : ℕ) → Dec (a ≡ i) → inRow (set new i w) a b ≡ cond (ltb a (i + 1)) (inRow old a b || (inRow old a k && inWord p b)) (inRow old a b)
-    at a b (yes q) =
-        let t : ltb a (i + 1) ≡ true = lt-ltb a (i + 1) (omega arith) in
-        let z : i < length new = rw (r .size) h in
-        rw (t, q) (set-same new i w b z ∙ e b ∙ ap₂ (λ (u v : Bool). u || (v && inWord p b)) (own b) (own k))
-    at a b (no q) = set-other new i a w b q ∙ r .law a b ∙ rw (below-next a i q)
+module _ {n : ℕ} {old : List ℕ} (o : OnlyNames n old) (p : NameSet) (k : ℕ) (q : p ≡ rowAt old k) where
+  through : (new : List ℕ) → IsRows places new → ((a b : ℕ) → inRow new a b ≡ (inRow old a b || (inRow old a k && inRow old k b))) → Round n old new k
+  through new h law = record { names = record { size = h; below = λ a b e. go a b (or-is (inRow old a b) _ .0 (sym (law a b) ∙ e)) }; law = law }
+    where
+      go : (a b : ℕ) → (inRow old a b ≡ true) ⊎ ((inRow old a k && inRow old k b) ≡ true) → (a < n) × (b < n)
+      go a b (inl e) = o .below a b e
+      go a b (inr e) = let t = and-is (inRow old a k) (inRow old k b) .0 e in (o .below a k (t .0) .0, o .below k b (t .1) .1)
 
--- a row without names turns nothing
-pub turn-still : (old : List ℕ) (k : ℕ) → length old ≡ places → getD old k 0 ≡ 0 → Round old old k
-turn-still old k h e = record { size = h; law = λ a b. sym (rw (row-word old k b, e, word-none b, and-false (inRow old a k)) (or-false (inRow old a b))) }
+  -- a row without names turns nothing
+  pub turn-still : ((b : ℕ) → member p b ≡ false) → Round n old old k
+  turn-still none = through old (o .size) (λ a b. let z : inRow old k b ≡ false = sym (row-is old k p q b) ∙ none b in sym (rw (z, and-false (inRow old a k)) (or-false (inRow old a b))))
 
-pub turn-all : {old new : List ℕ} {p k i : ℕ} → Turned old new p k i → places ≤ i → p ≡ getD old k 0 → Round old new k
-turn-all {old} {new} {p} {k} {i} r h e = record { size = r .size; law = λ a b. at a b (decLt a places) }
-  where
-    own : (b : ℕ) → inWord p b ≡ inRow old k b
-    own b = ap (λ (w : ℕ). inWord w b) e ∙ sym (row-word old k b)
+  pub turn-all : {new : List ℕ} {i : ℕ} → Filled old new (turned old p k) i → n ≤ i → Round n old new k
+  unfolding turned
+  turn-all {new} {i} r h =
+      through new (r .size) (λ a b. fill-all r n h (λ x y l. sym (rw (past o x y l, past o x k l))) a b ∙ ap (λ (v : Bool). inRow old a b || (inRow old a k && v)) (row-is old k p q b))
 
-    at : (a b : ℕ) → Dec (a < places) → inRow new a b ≡ (inRow old a b || (inRow old a k && inRow old k b))
-    at a b (yes l) = r .law a b ∙ rw (lt-ltb a i (omega arith), own b)
-    at a b (no l) =
-        let z : places ≤ a = omega arith in
-        row-past new a b (r .size) z ∙ sym (rw (row-past old a b (r .before) z, row-past old a k (r .before) z))
+-- ---- what goes one way
+
+pub part-none : (rows : List ℕ) → Filled (noRows places) (noRows places) (leadsAway rows) 0
+part-none rows = fill-none (noRows places) (leadsAway rows) (no-rows places)
+
+pub part-all : (n : ℕ) (old new : List ℕ) (i : ℕ) → OnlyNames n old → Filled (noRows places) new (leadsAway old) i → n ≤ i → OneWay old new
+unfolding leadsAway
+part-all n old new i o r h = record { size = r .size; law = fill-all r n h (λ a b l. none-related a b ∙ sym (rw (past o a b l))) }
+
+-- a row without the names of a set
+pub away-some : (rows : List ℕ) (a : ℕ) (own other rest : NameSet) → own ≡ rowAt rows a → ((j : ℕ) → member other j ≡ inRow rows j a) →
+    ((j : ℕ) → member rest j ≡ (member own j && not (member other j))) → (b : ℕ) → member rest b ≡ leadsAway rows a b
+unfolding leadsAway
+away-some rows a own other rest e f law b = law b ∙ ap₂ (λ (u v : Bool). u && not v) (row-is rows a own e b) (f b)
+
+pub away-none : (rows : List ℕ) (a : ℕ) (own : NameSet) → own ≡ rowAt rows a → ((j : ℕ) → member own j ≡ false) → (b : ℕ) → member own b ≡ leadsAway rows a b
+unfolding leadsAway
+away-none rows a own e none b = none b ∙ sym (rw (sym (row-is rows a own e b) ∙ none b))
 
 -- ---- a set, name by name
 
@@ -135,142 +166,26 @@ pick-more {s} {test} {i} p r more e law = record { law = λ j. law j ∙ at j (�
         let z : eqb i j ≡ false = ne-eqb i j (λ u. q (sym u)) in
         rw (z, and-false more) (or-false (member s j)) ∙ p .law j ∙ rw (below-next j i q)
 
-pub pick-all : {s : NameSet} {test : ℕ → Bool} {i : ℕ} → Picked s test i → places ≤ i → ((j : ℕ) → places ≤ j → test j ≡ false) → (j : ℕ) → member s j ≡ test j
-pick-all {s} {test} {i} p h past j = p .law j ∙ at (decLt j places)
+pick-all : {s : NameSet} {test : ℕ → Bool} {i : ℕ} → Picked s test i → (n : ℕ) → n ≤ i → ((j : ℕ) → n ≤ j → test j ≡ false) → (j : ℕ) → member s j ≡ test j
+pick-all {s} {test} {i} p n h rest j = p .law j ∙ at (decLt j i)
   where
-    at : Dec (j < places) → (ltb j i && test j) ≡ test j
-    at (yes l) = rw (lt-ltb j i (omega arith))
-    at (no l) = rw (past j (omega arith)) (and-false (ltb j i))
+    at : Dec (j < i) → (ltb j i && test j) ≡ test j
+    at (yes l) = rw (lt-ltb j i l)
+    at (no l) = rw (rest j (omega arith)) (and-false (ltb j i))
 
 -- the names that are related to x
 unfoldable pub toward : List ℕ → ℕ → ℕ → Bool
 toward rows x a = inRow rows a x
 
-pub toward-has : (rows : List ℕ) (x a : ℕ) (s : NameSet) (more : Bool) → s ≡ ofWord (getD rows a 0) → more ≡ member s x → more ≡ toward rows x a
+pub toward-has : (rows : List ℕ) (x a : ℕ) (s : NameSet) (more : Bool) → s ≡ rowAt rows a → more ≡ member s x → more ≡ toward rows x a
 unfolding toward
-toward-has rows x a s more e m = m ∙ of-law (getD rows a 0) s x e ∙ sym (row-word rows a x)
+toward-has rows x a s more e m = m ∙ row-is rows a s e x
 
-pub toward-all : (rows : List ℕ) (x i : ℕ) (s : NameSet) → Picked s (toward rows x) i → places ≤ i → length rows ≡ places → (a : ℕ) → member s a ≡ inRow rows a x
+pub toward-all : (n : ℕ) (rows : List ℕ) (x i : ℕ) (s : NameSet) → OnlyNames n rows → Picked s (toward rows x) i → n ≤ i → (a : ℕ) → member s a ≡ inRow rows a x
 unfolding toward
-toward-all rows x i s p h e a = pick-all p h (λ j l. row-past rows j x e l) a
-
--- those that are related to themselves
-unfoldable pub itself : List ℕ → ℕ → Bool
-itself rows a = inRow rows a a
-
-pub itself-has : (rows : List ℕ) (a : ℕ) (s : NameSet) (more : Bool) → s ≡ ofWord (getD rows a 0) → more ≡ member s a → more ≡ itself rows a
-unfolding itself
-itself-has rows a s more e m = m ∙ of-law (getD rows a 0) s a e ∙ sym (row-word rows a a)
-
-pub itself-all : (rows : List ℕ) (i : ℕ) (s : NameSet) → Picked s (itself rows) i → places ≤ i → length rows ≡ places → (a : ℕ) → member s a ≡ inRow rows a a
-unfolding itself
-itself-all rows i s p h e a = pick-all p h (λ j l. row-past rows j j e l) a
-
--- ---- a table, row by row
-
--- The rows below i have what goes one way; the others are empty.
-pub record Parted (old new : List ℕ) (i : ℕ) : Type 0 where
-  pub before : length old ≡ places
-  pub size : length new ≡ places
-  pub law : (a b : ℕ) → inRow new a b ≡ (ltb a i && (inRow old a b && not (inRow old b a)))
-
-zero-at : (n a : ℕ) → _≡_ {A = ℕ} (getD (replicate n 0) a 0) 0
-zero-at n a = go (decLt a n)
-  where
-    go : Dec (a < n) → _≡_ {A = ℕ} (getD (replicate n 0) a 0) 0
-    go (yes l) = getD-replicate n a 0 0 l
-    go (no l) = List·getD-eq-default (replicate n 0) 0 {n = a} (omega (arith, length-replicate {A = ℕ} n 0))
-
-pub part-zero : (old : List ℕ) → length old ≡ places → Parted old (replicate places 0) 0
-part-zero old h =
-    record {
-      before = h;
-      size = length-replicate {A = ℕ} places 0;
-      law = λ a b. row-word (replicate places 0) a b ∙ ap (λ (w : ℕ). inWord w b) (zero-at places a) ∙ word-none b ∙ sym (rw (le-ltb a 0 (omega arith)));
-    }
-
-pub part-more : {old new : List ℕ} {i : ℕ} → Parted old new i → (w : ℕ) → i < places → ((b : ℕ) → inWord w b ≡ (inRow old i b && not (inRow old b i))) → Parted old (set new i w) (i + 1)
-part-more {old} {new} {i} r w h e = record { before = r .before; size = length-set new i w ∙ r .size; law = λ a b. at a b (ℕ-discrete a i) }
-  where
-    at : (a b : ℕ) → Dec (a ≡ i) → inRow (set new i w) a b ≡ (ltb a (i + 1) && (inRow old a b && not (inRow old b a)))
-    at a b (yes q) =
-        let z : i < length new = rw (r .size) h in
-        rw (q, lt-ltb i (i + 1) (omega arith)) (set-same new i w b z ∙ e b)
-    at a b (no q) = set-other new i a w b q ∙ r .law a b ∙ rw (below-next a i q)
-
-pub part-all : {old new : List ℕ} {i : ℕ} → Parted old new i → places ≤ i → OneWay old new
-part-all {old} {new} {i} r h = record { size = r .size; law = λ a b. at a b (decLt a places) }
-  where
-    at : (a b : ℕ) → Dec (a < places) → inRow new a b ≡ (inRow old a b && not (inRow old b a))
-    at a b (yes l) = r .law a b ∙ rw (lt-ltb a i (omega arith))
-    at a b (no l) = let z : places ≤ a = omega arith in row-past new a b (r .size) z ∙ sym (rw (row-past old a b (r .before) z))
-
--- the word of a row without the names of a set
-pub part-word : (rows : List ℕ) (a w : ℕ) (own other rest : NameSet) → own ≡ ofWord (getD rows a 0) → ((j : ℕ) → member other j ≡ inRow rows j a) →
-    ((j : ℕ) → member rest j ≡ (member own j && not (member other j))) → w ≡ wordOf rest → (b : ℕ) → inWord w b ≡ (inRow rows a b && not (inRow rows b a))
-part-word rows a w own other rest e f law er b =
-    word-law w rest b er ∙ law b ∙ ap₂ (λ (u v : Bool). u && not v) (of-law (getD rows a 0) own b e ∙ sym (row-word rows a b)) (f b)
-
-pub part-none : (rows : List ℕ) (a w : ℕ) → w ≡ getD rows a 0 → w ≡ 0 → (b : ℕ) → inWord 0 b ≡ (inRow rows a b && not (inRow rows b a))
-part-none rows a w e z b = word-none b ∙ sym (rw (row-word rows a b, ← e, z, word-none b))
+toward-all n rows x i s o p h = pick-all p n h (λ j l. past o j x l)
 
 -- ---- rows joined one after the other
-
--- the row of one name of the set, and those of the others
-pub rows-first : (rows : ℕ → ℕ → Bool) (set others : ℕ → Bool) (a b : ℕ) → a < places → set a ≡ true → ((j : ℕ) → others j ≡ (set j && not (eqb a j))) →
-    inRows places rows set b ≡ (rows a b || inRows places rows others b)
-unfolding inRows
-rows-first rows set others a b h e law = same-test _ _ there back
-  where
-    there : anyBelow places (λ x. set x && rows x b) ≡ true → (rows a b || anyBelow places (λ x. others x && rows x b)) ≡ true
-    there t = let (k, l, q) = some-is places (λ x. set x && rows x b) .0 t in go k l (and-is (set k) (rows k b) .0 q) (ℕ-discrete a k)
-      where
-        go : (k : ℕ) → k < places → (set k ≡ true) × (rows k b ≡ true) → Dec (a ≡ k) → (rows a b || anyBelow places (λ x. others x && rows x b)) ≡ true
-        go k l (p, q) (yes u) = or-is (rows a b) _ .1 (inl (rw u q))
-        go k l (p, q) (no u) =
-            or-is (rows a b) _ .1 (inr (some-is places (λ x. others x && rows x b) .1 (k, l, and-is (others k) (rows k b) .1 (law k ∙ rw (p, ne-eqb a k u), q))))
-
-    back : (rows a b || anyBelow places (λ x. others x && rows x b)) ≡ true → anyBelow places (λ x. set x && rows x b) ≡ true
-    back t = ⊎-elim own other (or-is (rows a b) _ .0 t)
-      where
-        own : rows a b ≡ true → anyBelow places (λ x. set x && rows x b) ≡ true
-        own q = some-is places (λ x. set x && rows x b) .1 (a, h, and-is (set a) (rows a b) .1 (e, q))
-
-        other : anyBelow places (λ x. others x && rows x b) ≡ true → anyBelow places (λ x. set x && rows x b) ≡ true
-        other q =
-            let (k, l, r) = some-is places (λ x. others x && rows x b) .0 q in
-            let (o, w) = and-is (others k) (rows k b) .0 r in
-            some-is places (λ x. set x && rows x b) .1 (k, l, and-is (set k) (rows k b) .1 (and-is (set k) (not (eqb a k)) .0 (sym (law k) ∙ o) .0, w))
-
-pub rows-none : (rows : ℕ → ℕ → Bool) (set : ℕ → Bool) (b : ℕ) → ((j : ℕ) → set j ≡ false) → inRows places rows set b ≡ false
-unfolding inRows
-rows-none rows set b none = refuted _ (λ t. let (k, l, q) = some-is places (λ x. set x && rows x b) .0 t in both-ways (set k) (and-is (set k) (rows k b) .0 q .0) (none k))
-
--- the rows of the names of two sets
-pub rows-both : (rows : ℕ → ℕ → Bool) (p q both : ℕ → Bool) (b : ℕ) → ((j : ℕ) → both j ≡ (p j || q j)) → inRows places rows both b ≡ (inRows places rows p b || inRows places rows q b)
-unfolding inRows
-rows-both rows p q both b law = same-test _ _ there back
-  where
-    there : anyBelow places (λ x. both x && rows x b) ≡ true → (anyBelow places (λ x. p x && rows x b) || anyBelow places (λ x. q x && rows x b)) ≡ true
-    there t =
-        let (k, l, e) = some-is places (λ x. both x && rows x b) .0 t in
-        let (u, v) = and-is (both k) (rows k b) .0 e in
-        or-is _ _ .1 (⊎-elim
-        (λ w. inl (some-is places (λ x. p x && rows x b) .1 (k, l, and-is (p k) (rows k b) .1 (w, v))))
-        (λ w. inr (some-is places (λ x. q x && rows x b) .1 (k, l, and-is (q k) (rows k b) .1 (w, v))))
-        (or-is (p k) (q k) .0 (sym (law k) ∙ u)))
-
-    part : (r : ℕ → Bool) → ((j : ℕ) → r j ≡ true → both j ≡ true) → anyBelow places (λ x. r x && rows x b) ≡ true → anyBelow places (λ x. both x && rows x b) ≡ true
-    part r in-both t =
-        let (k, l, e) = some-is places (λ x. r x && rows x b) .0 t in
-        let (u, v) = and-is (r k) (rows k b) .0 e in
-        some-is places (λ x. both x && rows x b) .1 (k, l, and-is (both k) (rows k b) .1 (in-both k u, v))
-
-    back : (anyBelow places (λ x. p x && rows x b) || anyBelow places (λ x. q x && rows x b)) ≡ true → anyBelow places (λ x. both x && rows x b) ≡ true
-    back t = ⊎-elim
-        (part p (λ j u. law j ∙ or-is (p j) (q j) .1 (inl u)))
-        (part q (λ j u. law j ∙ or-is (p j) (q j) .1 (inr u)))
-        (or-is _ _ .0 t)
 
 -- s has the rows of the names of the set that are not left
 pub record Joined (rows : List ℕ) (set left s : NameSet) : Type 0 where
@@ -279,69 +194,76 @@ pub record Joined (rows : List ℕ) (set left s : NameSet) : Type 0 where
 pub join-start : (rows : List ℕ) (set s : NameSet) → ((j : ℕ) → member s j ≡ false) → Joined rows set set s
 join-start rows set s none = record { law = λ b. sym (rw (none b)) }
 
-pub join-more : {rows : List ℕ} {set left s : NameSet} → Joined rows set left s → (a : ℕ) → a < places → member left a ≡ true →
-    (row r others : NameSet) → row ≡ ofWord (getD rows a 0) → ((j : ℕ) → member r j ≡ (member s j || member row j)) → ((j : ℕ) → member others j ≡ (member left j && not (eqb a j))) →
+pub join-more : {rows : List ℕ} {set left s : NameSet} → Joined rows set left s → {a : ℕ} → (a < places) × (member left a ≡ true) →
+    (row r others : NameSet) → row ≡ rowAt rows a → ((j : ℕ) → member r j ≡ (member s j || member row j)) → ((j : ℕ) → member others j ≡ (member left j && not (eqb a j))) →
     Joined rows set others r
-join-more {rows} {set} {left} {s} p a h e row r others q law rest = record { law = at }
+join-more {rows} {set} {left} {s} p {a} (h, e) row r others q law rest = record { law = at }
   where
     at : (b : ℕ) → inRows places (inRow rows) (member set) b ≡ (member r b || inRows places (inRow rows) (member others) b)
     at b =
         p .law b
-        ∙ ap (λ (x : Bool). member s b || x) (rows-first (inRow rows) (member left) (member others) a b h e rest)
+        ∙ ap (λ (x : Bool). member s b || x) (rows-first places (inRow rows) (member left) (member others) a b h e rest)
         ∙ sym (or-assoc (member s b) (inRow rows a b) (inRows places (inRow rows) (member others) b))
-        ∙ ap (λ (x : Bool). x || inRows places (inRow rows) (member others) b) (ap (λ (x : Bool). member s b || x) (row-word rows a b ∙ sym (of-law (getD rows a 0) row b q)) ∙ sym (law b))
+        ∙ ap (λ (x : Bool). x || inRows places (inRow rows) (member others) b) (ap (λ (x : Bool). member s b || x) (sym (row-is rows a row q b)) ∙ sym (law b))
 
 pub join-all : {rows : List ℕ} {set left s : NameSet} → Joined rows set left s → ((j : ℕ) → member left j ≡ false) → (b : ℕ) → member s b ≡ inRows places (inRow rows) (member set) b
-join-all {rows} {set} {left} {s} p none b = sym (p .law b ∙ ap (λ (x : Bool). member s b || x) (rows-none (inRow rows) (member left) b none) ∙ or-false (member s b))
+join-all {rows} {set} {left} {s} p none b = sym (p .law b ∙ ap (λ (x : Bool). member s b || x) (rows-none places (inRow rows) (member left) b none) ∙ or-false (member s b))
 
 pub among-none : (rows : List ℕ) (b : ℕ) (x : Bool) → x ≡ (x || amongRows 0 rows b)
 unfolding amongRows anyBelow
 among-none rows b x = sym (or-false x)
 
-pub among-more : (rows : List ℕ) (s r q : NameSet) (a b : ℕ) (x : Bool) → member s b ≡ (x || amongRows a rows b) → q ≡ ofWord (getD rows a 0) →
+pub among-more : (rows : List ℕ) (s r q : NameSet) (a b : ℕ) (x : Bool) → member s b ≡ (x || amongRows a rows b) → q ≡ rowAt rows a →
     member r b ≡ (member s b || member q b) → member r b ≡ (x || amongRows (a + 1) rows b)
-unfolding amongRows anyBelow inRow
-among-more rows s r q a b x e f law = law ∙ rw (add-one a, e, of-law (getD rows a 0) q b f) (or-assoc x (anyBelow a (λ k. inWord (getD rows k 0) b)) (inWord (getD rows a 0) b))
+unfolding amongRows anyBelow
+among-more rows s r q a b x e f law = law ∙ rw (add-one a, e, row-is rows a q f b) (or-assoc x (anyBelow a (λ k. inRow rows k b)) (inRow rows a b))
 
 -- ---- loop groups
 
 pub group-members : (reach behind : List ℕ) (a b : ℕ) → member (groupIn reach behind a) b ≡ (inRow reach a b && not (inRow behind a b))
-unfolding groupIn inRow inWord
-group-members reach behind a b = member-minus (ofWord (getD reach a 0)) (ofWord (getD behind a 0)) b
+unfolding groupIn inRow
+group-members reach behind a b = member-minus (rowAt reach a) (rowAt behind a) b
 
-pub leads-past : (reach behind : List ℕ) (a : ℕ) → length reach ≡ places → places ≤ a → leadsIn reach behind a ≡ false
-unfolding leadsIn smallestIn
-leads-past reach behind a e h = rw (group-members reach behind a a, row-past reach a a e h)
-
-pub group-made : (reach behind : List ℕ) (a : ℕ) (p q r : NameSet) → p ≡ ofWord (getD reach a 0) → q ≡ ofWord (getD behind a 0) → r ≡ minus p q → r ≡ groupIn reach behind a
+pub group-made : (reach behind : List ℕ) (a : ℕ) (p q r : NameSet) → p ≡ rowAt reach a → q ≡ rowAt behind a → r ≡ minus p q → r ≡ groupIn reach behind a
 unfolding groupIn
 group-made reach behind a p q r e f g = rw (← e, ← f) g
 
--- the smallest member, found or not
-pub leads-yes : (s : NameSet) (a r : ℕ) → Smallest s r → member s a ≡ true → eqb r a ≡ smallestIn s a
+-- the smallest member, or none
+leads-is : (s : NameSet) (a r : ℕ) → a < places → Smallest s r → eqb r a ≡ smallestIn s a
 unfolding smallestIn
-leads-yes s a r q e = go (decLt r a) (decLt a r)
+leads-is s a r h q = go (decLt r a) (decLt a r)
   where
-    found : isEmpty s ≡ false
-    found = member-some s a e
+    found : r < capacity → member s r ≡ true
+    found l = q .found (refuted (isEmpty s) (λ e. omega (arith, q .same, first-none s e))) .1
 
     go : Dec (r < a) → Dec (a < r) → eqb r a ≡ (member s a && not (anyBelow a (member s)))
-    go (yes l) d =
-        let z : anyBelow a (member s) ≡ true = some-is a (member s) .1 (r, l, q .found found .1) in
-        rw (e, z) (ne-eqb r a (λ u. omega arith))
-    go (no l) (yes d) = absurd (both-ways (member s a) e (q .least a d))
+    go (yes l) d = let z : anyBelow a (member s) ≡ true = some-is a (member s) .1 (r, l, found (omega arith)) in rw (z, and-false (member s a)) (ne-eqb r a (λ u. omega arith))
+    go (no l) (yes d) = rw (q .least a d) (ne-eqb r a (λ u. omega arith))
     go (no l) (no d) =
         let u : r ≡ a = omega arith in
+        let m : member s a ≡ true = ap (member s) (sym u) ∙ found (omega arith) in
         let z : anyBelow a (member s) ≡ false = refuted (anyBelow a (member s)) (λ t. let p = some-is a (member s) .0 t in both-ways (member s (p .0)) (p .2) (q .least (p .0) (omega (arith, p .1)))) in
-        rw (e, z) (eq-eqb r a u)
+        rw (m, z) (eq-eqb r a u)
 
-pub leads-no : (s : NameSet) (a : ℕ) → member s a ≡ false → false ≡ smallestIn s a
-unfolding smallestIn
-leads-no s a e = rw e
+pub loops-has : (reach behind : List ℕ) (a : ℕ) (s : NameSet) (more : Bool) → s ≡ groupIn reach behind a → more ≡ member s a → more ≡ loopsIn reach behind a
+unfolding loopsIn
+loops-has reach behind a s more e f = rw (← e) f
 
-pub leads-has : (reach behind : List ℕ) (a : ℕ) (s : NameSet) (more : Bool) → s ≡ groupIn reach behind a → more ≡ smallestIn s a → more ≡ leadsIn reach behind a
+pub leads-has : (reach behind : List ℕ) (a : ℕ) (s : NameSet) (r : ℕ) → a < places → s ≡ groupIn reach behind a → Smallest s r → eqb r a ≡ leadsIn reach behind a
 unfolding leadsIn
-leads-has reach behind a s more e f = rw (← e) f
+leads-has reach behind a s r h e f = rw (← e) (leads-is s a r h f)
+
+module _ (n : ℕ) (reach behind : List ℕ) (o : OnlyNames n reach) (i : ℕ) (s : NameSet) (h : n ≤ i) where
+  alone : (a b : ℕ) → n ≤ a → member (groupIn reach behind a) b ≡ false
+  alone a b l = group-members reach behind a b ∙ rw (past o a b l)
+
+  pub loops-all : Picked s (loopsIn reach behind) i → (a : ℕ) → member s a ≡ loopsIn reach behind a
+  unfolding loopsIn
+  loops-all p = pick-all p n h (λ j l. alone j j l)
+
+  pub leads-all : Picked s (leadsIn reach behind) i → (a : ℕ) → member s a ≡ leadsIn reach behind a
+  unfolding leadsIn smallestIn
+  leads-all p = pick-all p n h (λ j l. rw (alone j j l))
 
 -- ---- more or not
 

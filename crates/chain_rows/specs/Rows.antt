@@ -1,37 +1,47 @@
 -- A means: `tables-made` in crates/chain/proofs/Stage.antt joins it to crates/chain_levels/specs/Reach.antt.
 -- Assumes nothing.
--- A relation between names, kept as a row of words: word a keeps the set of the names that a is related to.
-use Prim.Native.Nat.{ℕ}
+-- A relation between names, kept as rows of words: row a keeps the set of the names that a is related to.
+use Prim.Native.Nat.{ℕ, _<_}
 use mathlib.Core.Path.{_≡_}
-use mathlib.Core.Bool.{Bool, _&&_, _||_, not}
+use mathlib.Core.Bool.{Bool, true, _&&_, _||_, not}
 use mathlib.Core.List.{List}
-use lib.ListN.{length, getD}
 use Rattle.nameset.specs.Places.{places}
 use Rattle.nameset.specs.declared.NameSet.{NameSet}
-use Rattle.nameset.specs.Set.{member, ofWord, minus}
+use Rattle.nameset.specs.Set.{member, minus}
+use Rattle.nameset.specs.Rows.{IsRows, rowAt}
 use Rattle.chain_levels.specs.Below.{anyBelow}
-
--- The set that the word w keeps has the name b.
-unfoldable pub inWord : ℕ → ℕ → Bool
-inWord w b = member (ofWord w) b
 
 -- a is related to b.
 unfoldable pub inRow : List ℕ → ℕ → ℕ → Bool
-inRow rows a b = inWord (getD rows a 0) b
+inRow rows a b = member (rowAt rows a) b
+
+-- There is a row for each place, and only the first n names are related: no name from n on is in a row, and the rows
+-- from n on are empty.
+pub record OnlyNames (n : ℕ) (rows : List ℕ) : Type 0 where
+  pub size : IsRows places rows
+  pub below : (a b : ℕ) → inRow rows a b ≡ true → (a < n) × (b < n)
 
 -- `new` is `old` after one round: k may now stand between two names.
-pub record Round (old new : List ℕ) (k : ℕ) : Type 0 where
-  pub size : length new ≡ places
+pub record Round (n : ℕ) (old new : List ℕ) (k : ℕ) : Type 0 where
+  pub names : OnlyNames n new
   pub law : (a b : ℕ) → inRow new a b ≡ (inRow old a b || (inRow old a k && inRow old k b))
 
--- `new` has the names that a is related to in `old`, and that are not related to a.
+-- a is related to b, and b is not related to a.
+unfoldable pub leadsAway : List ℕ → ℕ → ℕ → Bool
+leadsAway rows a b = inRow rows a b && not (inRow rows b a)
+
+-- The rows of `new` have the names that `old` leads to one way.
 pub record OneWay (old new : List ℕ) : Type 0 where
-  pub size : length new ≡ places
-  pub law : (a b : ℕ) → inRow new a b ≡ (inRow old a b && not (inRow old b a))
+  pub size : IsRows places new
+  pub law : (a b : ℕ) → inRow new a b ≡ leadsAway old a b
 
 -- The names that a reaches and that do not stand behind it: its loop group.
 unfoldable pub groupIn : List ℕ → List ℕ → ℕ → NameSet
-groupIn reach behind a = minus (ofWord (getD reach a 0)) (ofWord (getD behind a 0))
+groupIn reach behind a = minus (rowAt reach a) (rowAt behind a)
+
+-- a is in its loop group: it reaches itself.
+unfoldable pub loopsIn : List ℕ → List ℕ → ℕ → Bool
+loopsIn reach behind a = member (groupIn reach behind a) a
 
 -- a is the smallest name of the set.
 unfoldable pub smallestIn : NameSet → ℕ → Bool

@@ -1,42 +1,41 @@
-// Tables of names as rows of words, one bit for each name.
+// Relations between names, kept as rows of words: row a has the names that a is related to. Each loop over names ends
+// at the number of names, and not at that of places.
 ghost use mathlib.Core.Path.{_≡_};
-ghost use mathlib.Core.Bool.{_&&_, _||_, not};
+ghost use mathlib.Core.Bool.{_&&_, _||_};
 ghost use Prim.Native.Nat.{ℕ, _≤_, _<_};
 ghost use lib.Dec.{eqb};
-ghost use lib.ListN.{length};
 ghost use Rattle.nameset.specs.Places.{places};
 ghost use Rattle.nameset.specs.Set.{member};
+ghost use Rattle.nameset.specs.Rows.{IsRows};
 ghost use Rattle.chain_peel.specs.Sets.{inRows};
-ghost use Rattle.chain_rows.specs.Rows.{inWord, inRow, Round, OneWay, groupIn, smallestIn, leadsIn, amongRows};
+ghost use Rattle.chain_rows.specs.Rows.{inRow, leadsAway, OnlyNames, Round, OneWay, groupIn, loopsIn, leadsIn, amongRows};
 use nameset::NameSet;
-use nameset::PLACES;
+use nameset::ROWS;
+use nameset::put_row;
+use nameset::row_at;
 
-// The row x, joined with the row p where x has the name k.
-fn joined(x: u64, p: u64, k: usize) -> u64
+// The set x, joined with the set p if x has the name k.
+fn joined(x: NameSet, p: NameSet, k: usize) -> NameSet
     requires { ⌜ k < places ⌝ }
-    ensures { λ r. ⌜ ((b : ℕ) → inWord r b ≡ (inWord x b || (inWord x k && inWord p b))) ⌝ }
+    ensures { λ r. ⌜ ((b : ℕ) → member r b ≡ (member x b || (member x k && member p b))) ⌝ }
 {
-    let row = NameSet::of_word(x);
-    if row.has(k) {
-        row.union(NameSet::of_word(p)).word()
-    } else {
-        x
-    }
+    if x.has(k) { x.union(p) } else { x }
 }
 
-// One round of reach: k may now stand between two names. A name that leads nowhere stands between none.
-pub fn round(rows: &mut [u64; PLACES], k: usize)
-    requires { ⌜ (k < places) × (length (now rows) ≡ places) ⌝ }
-    ensures { λ _. ⌜ Round (now (rows .entry)) (now (rows .exit)) k ⌝ }
+// One round of reach among n names: k may now stand between two names. A name that leads nowhere stands between none.
+pub fn round(rows: &mut [u64], n: usize, k: usize)
+    requires { ⌜ (k < places) × (n ≤ places) × OnlyNames n (now rows) ⌝ }
+    ensures { λ _. ⌜ Round n (now (rows .entry)) (now (rows .exit)) k ⌝ }
 {
-    let p = rows[k];
-    if p == 0 {
+    let p = row_at(rows, k);
+    if p.is_empty() {
         return;
     }
-    let mut i = 0;
-    while i < PLACES {
-        rows[i] = joined(rows[i], p, k);
-        i += 1;
+    let mut a = 0;
+    while a < n {
+        let more = joined(row_at(rows, a), p, k);
+        put_row(rows, a, more);
+        a += 1;
     }
 }
 
@@ -49,113 +48,103 @@ fn with_if(s: NameSet, i: usize, more: bool) -> NameSet
 }
 
 // The names that are related to x.
-fn related(rows: &[u64; PLACES], x: usize) -> NameSet
-    requires { ⌜ (x < places) × (length (now rows) ≡ places) ⌝ }
+fn related(rows: &[u64], n: usize, x: usize) -> NameSet
+    requires { ⌜ (x < places) × (n ≤ places) × OnlyNames n (now rows) ⌝ }
     ensures { λ r. ⌜ ((a : ℕ) → member r a ≡ inRow (now (rows .entry)) a x) ⌝ }
 {
     let mut s = NameSet::empty();
     let mut a = 0;
-    while a < PLACES {
-        s = with_if(s, a, NameSet::of_word(rows[a]).has(x));
+    while a < n {
+        s = with_if(s, a, row_at(rows, a).has(x));
         a += 1;
     }
     s
 }
 
 // The names that a is related to and that are not related to a.
-fn away(rows: &[u64; PLACES], a: usize) -> u64
-    requires { ⌜ (a < places) × (length (now rows) ≡ places) ⌝ }
-    ensures { λ r. ⌜ ((b : ℕ) → inWord r b ≡ (inRow (now (rows .entry)) a b && not (inRow (now (rows .entry)) b a))) ⌝ }
+fn away(rows: &[u64], n: usize, a: usize) -> NameSet
+    requires { ⌜ (a < places) × (n ≤ places) × OnlyNames n (now rows) ⌝ }
+    ensures { λ r. ⌜ ((b : ℕ) → member r b ≡ leadsAway (now (rows .entry)) a b) ⌝ }
 {
-    let row = rows[a];
-    if row == 0 {
-        return 0;
+    let row = row_at(rows, a);
+    if row.is_empty() {
+        return row;
     }
-    NameSet::of_word(row).minus(related(rows, a)).word()
+    row.minus(related(rows, n, a))
 }
 
 // Each row without the names that are related to its own.
-pub fn one_way(rows: &[u64; PLACES]) -> [u64; PLACES]
-    requires { ⌜ length (now rows) ≡ places ⌝ }
+pub fn one_way(rows: &[u64], n: usize) -> [u64; ROWS]
+    requires { ⌜ (n ≤ places) × OnlyNames n (now rows) ⌝ }
     ensures { λ r. ⌜ OneWay (now (rows .entry)) r ⌝ }
 {
-    let mut out = [0u64; PLACES];
+    let mut out = [0u64; ROWS];
     let mut a = 0;
-    while a < PLACES {
-        out[a] = away(rows, a);
+    while a < n {
+        let row = away(rows, n, a);
+        put_row(&mut out, a, row);
         a += 1;
     }
     out
 }
 
-// The names that are related to themselves.
-pub fn own(rows: &[u64; PLACES]) -> NameSet
-    requires { ⌜ length (now rows) ≡ places ⌝ }
-    ensures { λ r. ⌜ ((a : ℕ) → member r a ≡ inRow (now (rows .entry)) a a) ⌝ }
-{
-    let mut s = NameSet::empty();
-    let mut a = 0;
-    while a < PLACES {
-        s = with_if(s, a, NameSet::of_word(rows[a]).has(a));
-        a += 1;
-    }
-    s
-}
-
 // The names in the rows of the names of a set.
-pub fn rows_of(rows: &[u64; PLACES], set: NameSet) -> NameSet
+pub fn rows_of(rows: &[u64], set: NameSet) -> NameSet
+    requires { ⌜ IsRows places (now rows) ⌝ }
     ensures { λ r. ⌜ ((b : ℕ) → member r b ≡ inRows places (inRow (now (rows .entry))) (member set) b) ⌝ }
 {
     let mut s = NameSet::empty();
     let mut left = set;
     while !left.is_empty() {
         let a = left.first();
-        s = s.union(NameSet::of_word(rows[a]));
+        s = s.union(row_at(rows, a));
         left = left.rest();
     }
     s
 }
 
 // The set s, with the names in the first n rows.
-pub fn with_rows(s: NameSet, rows: &[u64; PLACES], n: usize) -> NameSet
-    requires { ⌜ n ≤ places ⌝ }
+pub fn with_rows(s: NameSet, rows: &[u64], n: usize) -> NameSet
+    requires { ⌜ (n ≤ places) × IsRows places (now rows) ⌝ }
     ensures { λ r. ⌜ ((b : ℕ) → member r b ≡ (member s b || amongRows n (now (rows .entry)) b)) ⌝ }
 {
     let mut out = s;
-    let mut a = 0;
-    while a < n {
-        out = out.union(NameSet::of_word(rows[a]));
-        a += 1;
+    let mut i = 0;
+    while i < n {
+        out = out.union(row_at(rows, i));
+        i += 1;
     }
     out
 }
 
 // The loop group of a name.
-pub fn group(reach: &[u64; PLACES], behind: &[u64; PLACES], a: usize) -> NameSet
-    requires { ⌜ a < places ⌝ }
+pub fn group(reach: &[u64], behind: &[u64], a: usize) -> NameSet
+    requires { ⌜ (a < places) × IsRows places (now reach) × IsRows places (now behind) ⌝ }
     ensures { λ r. ⌜ r ≡ groupIn (now (reach .entry)) (now (behind .entry)) a ⌝ }
 {
-    NameSet::of_word(reach[a]).minus(NameSet::of_word(behind[a]))
+    row_at(reach, a).minus(row_at(behind, a))
 }
 
-// Whether a is the smallest name of the set.
-fn leads(s: NameSet, a: usize) -> bool
-    requires { ⌜ a < places ⌝ }
-    ensures { λ r. ⌜ r ≡ smallestIn s a ⌝ }
-{
-    if s.has(a) { s.first() == a } else { false }
+// The names in loop groups, and the smallest name of each group.
+pub struct Loops {
+    pub names: NameSet,
+    pub leaders: NameSet,
 }
 
-// The smallest names of the loop groups.
-pub fn leaders(reach: &[u64; PLACES], behind: &[u64; PLACES]) -> NameSet
-    requires { ⌜ length (now reach) ≡ places ⌝ }
-    ensures { λ r. ⌜ ((a : ℕ) → member r a ≡ leadsIn (now (reach .entry)) (now (behind .entry)) a) ⌝ }
+// The loop groups of n names, told by their names and their smallest names.
+pub fn loop_groups(reach: &[u64], behind: &[u64], n: usize) -> Loops
+    requires { ⌜ (n ≤ places) × OnlyNames n (now reach) × IsRows places (now behind) ⌝ }
+    ensures { λ r. ⌜ ((a : ℕ) → member (r .names) a ≡ loopsIn (now (reach .entry)) (now (behind .entry)) a)
+        × ((a : ℕ) → member (r .leaders) a ≡ leadsIn (now (reach .entry)) (now (behind .entry)) a) ⌝ }
 {
-    let mut s = NameSet::empty();
+    let mut names = NameSet::empty();
+    let mut leaders = NameSet::empty();
     let mut a = 0;
-    while a < PLACES {
-        s = with_if(s, a, leads(group(reach, behind, a), a));
+    while a < n {
+        let own = group(reach, behind, a);
+        names = with_if(names, a, own.has(a));
+        leaders = with_if(leaders, a, own.first() == a);
         a += 1;
     }
-    s
+    Loops { names, leaders }
 }

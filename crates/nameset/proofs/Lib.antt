@@ -2,3 +2,4 @@ mod Digits
 pub mod Laws
 pub mod Count
 pub mod Rows
+pub mod Turns

@@ -14,11 +14,11 @@ use Rattle.chain.proofs.chain.Statement.{statement}
 use Rattle.chain.proofs.chain.Tie as tie
 
 abbrev Inv-loop : tie.InvT-loop
-Inv-loop n facts reach behind looping lead m₀ lower₀ higher₀ stepped₀ m lower higher stepped =
-    (n ≤ places) × Shown (viewOf n facts) × Tables (viewOf n facts) reach behind looping lead × Stage (viewOf n facts) m lower higher × Stepped (facts .starts) (facts .follows) lower stepped
+Inv-loop n facts reach behind loops m₀ lower₀ higher₀ stepped₀ m lower higher stepped =
+    (n ≤ places) × Shown (viewOf n facts) × Tables (viewOf n facts) reach behind (loops .names) (loops .leaders) × Stage (viewOf n facts) m lower higher × Stepped (facts .starts) (facts .follows) lower stepped
 
 abbrev μ-loop : tie.MeasureT-loop
-μ-loop n facts reach behind looping lead m₀ lower₀ higher₀ stepped₀ m lower higher stepped = countBelow places (member higher)
+μ-loop n facts reach behind loops m₀ lower₀ higher₀ stepped₀ m lower higher stepped = countBelow places (member higher)
 
 reach-rows-requires : tie.Need-reach-rows-requires Inv-loop μ-loop
 reach-rows-requires c κs = search needs
@@ -26,11 +26,8 @@ reach-rows-requires c κs = search needs
 one-way-requires : tie.Need-one-way-requires Inv-loop μ-loop
 one-way-requires c κs = search needs
 
-own-requires : tie.Need-own-requires Inv-loop μ-loop
-own-requires c κs = search needs
-
-leaders-requires : tie.Need-leaders-requires Inv-loop μ-loop
-leaders-requires c κs = search needs
+loop-groups-requires : tie.Need-loop-groups-requires Inv-loop μ-loop
+loop-groups-requires c κs = search needs
 
 empty-requires : tie.Need-empty-requires Inv-loop μ-loop
 empty-requires c κs = search needs
@@ -40,6 +37,24 @@ empty-requires-2 c κs = search needs
 
 occurring-requires : tie.Need-occurring-requires Inv-loop μ-loop
 occurring-requires c κs = search needs
+
+slice-aggregate-one-way : tie.Need-slice-aggregate-one-way Inv-loop μ-loop
+slice-aggregate-one-way c = search needs
+
+slice-aggregate-loop-groups : tie.Need-slice-aggregate-loop-groups Inv-loop μ-loop
+slice-aggregate-loop-groups c = search needs
+
+slice-aggregate-loop-groups-2 : tie.Need-slice-aggregate-loop-groups-2 Inv-loop μ-loop
+slice-aggregate-loop-groups-2 c = search needs
+
+slice-aggregate-next-level : tie.Need-slice-aggregate-next-level Inv-loop μ-loop
+slice-aggregate-next-level c = search needs
+
+slice-aggregate-with-level : tie.Need-slice-aggregate-with-level Inv-loop μ-loop
+slice-aggregate-with-level c = search needs
+
+slice-aggregate-with-level-2 : tie.Need-slice-aggregate-with-level-2 Inv-loop μ-loop
+slice-aggregate-with-level-2 c = search needs
 
 loop-holds : tie.Need-loop-holds Inv-loop μ-loop
 loop-holds c = (search needs, search needs, tables-made _ _ _ _ _ (search needs) (search needs) (search needs) (search needs), stage-none _ _ _ _ (search needs) (search needs) (search needs), stepped-none _ _ _ (search needs))
@@ -64,11 +79,20 @@ both-requires c κs = search needs
 
 with-level-requires : tie.Need-with-level-requires Inv-loop μ-loop
 with-level-requires c κs =
-    stage-room (c .before .before .before .before .before .before .before .before .before .before .before .loop .inv .1) (c .before .before .before .before .before .before .before .before .before .before .before .loop .inv .0) (c .before .before .before .before .before .before .before .before .before .before .before .loop .inv .3) (c .before .before .before .before .before .before .before .before .before .before .before .loop .inv .2)
-    (some-full _ _ (c .before .before .before .before .before .before .before .before .before .before .is-empty .ensures) (not-true (c .before .before .before .before .before .before .before .before .before .before .is-empty .result) (c .before .before .before .before .before .before .before .before .before .if1 .taken)))
-    _ _ (c .before .before .before .before .before .before .before .next-level .ensures) (c .before .before .before .before .before .before .minus .ensures .members)
-    (c .before .before .before .before .steps-over .result) (skips-view (c .before .before .before .before .before .before .before .before .before .before .before .before .before .before .before .before .before .before .before .before .before .before .before .before .args .t1) (c .before .before .before .before .before .before .before .before .before .before .before .before .before .before .before .before .before .before .before .before .before .before .before .before .args .n) _ _ _ (stepped-over _ _ _ _ _ _ _ _ (c .before .before .before .before .before .before .before .before .before .before .before .loop .inv .4) (c .before .before .before .before .steps-over .ensures)))
-    _ _ (c .before .minus2 .ensures .members) (c .both .ensures .members)
+    let over = c .before .before .before .before in
+    let more = over .before .before in
+    let level = more .before in
+    let turn = level .before .before in
+    let loop = turn .before .before .loop in
+    let inv = loop .inv in
+    let tables = turn .before .before .before .before .before .before .before in
+    let args = tables .before .before .before .before .before .before .args in
+    let room =
+        stage-room (inv .1) (inv .0) (inv .3) (inv .2) (some-full _ _ (turn .before .is-empty .ensures) (not-true (turn .before .is-empty .result) (turn .if1 .taken)))
+        _ _ (level .next-level .ensures) (more .minus .ensures .members)
+        (over .steps-over .result) (skips-view (args .t1) (args .n) _ _ _ (stepped-over _ _ _ _ _ _ _ _ (inv .4) (over .steps-over .ensures)))
+        _ _ (c .before .minus2 .ensures .members) (c .both .ensures .members) in
+    (room, inv .2 .reach-size, inv .2 .behind-size)
 
 rows-of-requires : tie.Need-rows-of-requires Inv-loop μ-loop
 rows-of-requires c κs = search needs
@@ -81,27 +105,44 @@ union-requires-2 c κs = search needs
 
 loop-less : tie.Need-loop-less Inv-loop μ-loop
 loop-less c =
-    fewer (c .before .before .before .before .before .before .before .before .before .before .before .before .before .before .before .before .before .loop .inv .1) (c .before .before .before .before .before .before .before .before .before .before .before .before .before .before .before .before .before .loop .inv .0) (c .before .before .before .before .before .before .before .before .before .before .before .before .before .before .before .before .before .loop .inv .3) (c .before .before .before .before .before .before .before .before .before .before .before .before .before .before .before .before .before .loop .inv .2)
-    (some-full _ _ (c .before .before .before .before .before .before .before .before .before .before .before .before .before .before .before .before .is-empty .ensures) (not-true (c .before .before .before .before .before .before .before .before .before .before .before .before .before .before .before .before .is-empty .result) (c .before .before .before .before .before .before .before .before .before .before .before .before .before .before .before .if1 .taken)))
-    _ _ (c .before .before .before .before .before .before .before .before .before .before .before .before .before .next-level .ensures) (c .before .before .before .before .before .before .before .before .before .before .before .before .minus .ensures .members)
+    let made = c .before .before .before .before .before .before in
+    let over = made .before .before .before .before .before in
+    let more = over .before .before in
+    let level = more .before in
+    let turn = level .before .before in
+    let loop = turn .before .before .loop in
+    let inv = loop .inv in
+    fewer (inv .1) (inv .0) (inv .3) (inv .2) (some-full _ _ (turn .before .is-empty .ensures) (not-true (turn .before .is-empty .result) (turn .if1 .taken)))
+    _ _ (level .next-level .ensures) (more .minus .ensures .members)
 
 loop-again : tie.Need-loop-again Inv-loop μ-loop
-loop-again c = (
-  c .before .before .before .before .before .before .before .before .before .before .before .before .before .before .before .before .before .loop .inv .0,
-  c .before .before .before .before .before .before .before .before .before .before .before .before .before .before .before .before .before .loop .inv .1,
-  c .before .before .before .before .before .before .before .before .before .before .before .before .before .before .before .before .before .loop .inv .2,
-  stage-more (c .before .before .before .before .before .before .before .before .before .before .before .before .before .before .before .before .before .loop .inv .1) (c .before .before .before .before .before .before .before .before .before .before .before .before .before .before .before .before .before .loop .inv .0) (c .before .before .before .before .before .before .before .before .before .before .before .before .before .before .before .before .before .loop .inv .3) (c .before .before .before .before .before .before .before .before .before .before .before .before .before .before .before .before .before .loop .inv .2)
-      (some-full _ _ (c .before .before .before .before .before .before .before .before .before .before .before .before .before .before .before .before .is-empty .ensures) (not-true (c .before .before .before .before .before .before .before .before .before .before .before .before .before .before .before .before .is-empty .result) (c .before .before .before .before .before .before .before .before .before .before .before .before .before .before .before .if1 .taken)))
-      _ _ (c .before .before .before .before .before .before .before .before .before .before .before .before .before .next-level .ensures) (c .before .before .before .before .before .before .before .before .before .before .before .before .minus .ensures .members)
-      (c .before .before .before .before .before .before .before .before .before .before .steps-over .result) (skips-view (c .before .before .before .before .before .before .before .before .before .before .before .before .before .before .before .before .before .before .before .before .before .before .before .before .before .before .before .before .before .before .args .t1) (c .before .before .before .before .before .before .before .before .before .before .before .before .before .before .before .before .before .before .before .before .before .before .before .before .before .before .before .before .before .before .args .n) _ _ _ (stepped-over _ _ _ _ _ _ _ _ (c .before .before .before .before .before .before .before .before .before .before .before .before .before .before .before .before .before .loop .inv .4) (c .before .before .before .before .before .before .before .before .before .before .steps-over .ensures)))
-      _ _ (c .before .before .before .before .before .before .before .minus2 .ensures .members) (c .before .before .before .before .before .before .both .ensures .members)
-      _ _ (c .before .before .before .before .before .with-level .ensures) (c .union2 .ensures .members),
-  stepped-more (c .before .before .before .before .before .before .before .before .before .before .before .before .before .before .before .before .before .loop .inv .4) _ _ _ _ (c .before .before .rows-of .ensures) (c .before .union .ensures .members) (c .union2 .ensures .members),
-)
+loop-again c =
+    let rows = c .before .before in
+    let made = rows .before .before .before .before in
+    let sets = made .before in
+    let over = sets .before .before .before .before in
+    let more = over .before .before in
+    let level = more .before in
+    let turn = level .before .before in
+    let loop = turn .before .before .loop in
+    let inv = loop .inv in
+    let tables = turn .before .before .before .before .before .before .before in
+    let args = tables .before .before .before .before .before .before .args in (
+      inv .0,
+      inv .1,
+      inv .2,
+      stage-more (inv .1) (inv .0) (inv .3) (inv .2) (some-full _ _ (turn .before .is-empty .ensures) (not-true (turn .before .is-empty .result) (turn .if1 .taken)))
+          _ _ (level .next-level .ensures) (more .minus .ensures .members)
+          (over .steps-over .result) (skips-view (args .t1) (args .n) _ _ _ (stepped-over _ _ _ _ _ _ _ _ (inv .4) (over .steps-over .ensures)))
+          _ _ (sets .before .minus2 .ensures .members) (sets .both .ensures .members)
+          _ _ (made .with-level .ensures) (c .union2 .ensures .members),
+      stepped-more (inv .4) _ _ _ _ (rows .rows-of .ensures) (c .before .union .ensures .members) (c .union2 .ensures .members),
+    )
 
 returns : tie.Need-returns Inv-loop μ-loop
 returns c =
-    stage-last (c .before .before .loop .inv .1) (c .before .before .loop .inv .0) (c .before .before .loop .inv .3)
+    let inv = c .before .before .loop .inv in
+    stage-last (inv .1) (inv .0) (inv .3)
     (some-empty _ _ (c .before .is-empty .ensures) (not-false (c .before .is-empty .result) (c .if1 .left)))
 
 pub chain-spec : {M : Type 1} → statement M
@@ -111,17 +152,22 @@ chain-spec =
     Inv-loop
     μ-loop
     reach-rows-requires
+    slice-aggregate-one-way
     one-way-requires
-    own-requires
-    leaders-requires
+    slice-aggregate-loop-groups
+    slice-aggregate-loop-groups-2
+    loop-groups-requires
     empty-requires
     empty-requires-2
     occurring-requires
     loop-holds
     is-empty-requires
+    slice-aggregate-next-level
     next-level-requires
     minus-requires
     steps-over-requires
+    slice-aggregate-with-level
+    slice-aggregate-with-level-2
     minus-requires-2
     both-requires
     with-level-requires

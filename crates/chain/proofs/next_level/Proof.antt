@@ -14,7 +14,7 @@ minus-requires : tie.Need-minus-requires
 minus-requires c κs = search needs
 
 returns : tie.Need-returns
-returns c = λ x. c .minus .ensures .members x ∙ ap (λ (b : Bool). member (c .before .before .args .higher) x && not b) (c .before .rows-of .ensures x)
+returns c = λ x. c .minus .ensures .members x ∙ ap (λ (b : Bool). member (c .before .before .before .args .higher) x && not b) (c .before .rows-of .ensures x)
 
 pub next-level-spec : {M : Type 1} → statement M
 next-level-spec = tie.close (tie.spec rows-of-requires minus-requires returns)

@@ -10,7 +10,7 @@ with-rows-requires : tie.Need-with-rows-requires
 with-rows-requires c κs = search needs
 
 returns : tie.Need-returns
-returns c = λ x. c .with-rows .ensures x ∙ occurs-law _ _ (c .before .before .before .before .pre .1) x
+returns c = λ x. c .with-rows .ensures x ∙ occurs-law _ _ (c .before .before .before .before .before .pre .1) x
 
 pub occurring-spec : {M : Type 1} → statement M
 occurring-spec = tie.close (tie.spec with-rows-requires returns)

@@ -17,10 +17,13 @@ abbrev μ-loop : tie.MeasureT-loop
 μ-loop n rows₀ k₀ rows k = n - k
 
 loop-holds : tie.Need-loop-holds Inv-loop μ-loop
-loop-holds c = (omega arith, omega arith, rounds-none _ _ (search needs))
+loop-holds c = (omega arith, omega arith, rounds-none _ (c .before .args .facts) (search needs) (search needs))
+
+slice-aggregate-round : tie.Need-slice-aggregate-round Inv-loop μ-loop
+slice-aggregate-round c = search needs
 
 round-requires : tie.Need-round-requires Inv-loop μ-loop
-round-requires c κs = (omega arith, c .before .before .loop .inv .2 .size)
+round-requires c κs = let inv = c .before .before .loop .inv in (omega arith, inv .1, inv .2 .names)
 
 add-k : tie.Need-add-k Inv-loop μ-loop
 add-k c = search needs
@@ -29,7 +32,7 @@ loop-less : tie.Need-loop-less Inv-loop μ-loop
 loop-less c = search needs
 
 loop-again : tie.Need-loop-again Inv-loop μ-loop
-loop-again c = let inv = c .before .before .before .loop .inv in (omega arith, inv .1, rounds-more (inv .2) _ (c .round .ensures))
+loop-again c = let turn = c .before in let inv = turn .before .before .before .loop .inv in (omega arith, inv .1, rounds-more (inv .2) _ (turn .round .ensures))
 
 returns : tie.Need-returns Inv-loop μ-loop
 returns c = rounds-all (c .before .loop .inv .2) _ refl (c .before .before .before .pre .1) (omega arith)
@@ -37,4 +40,4 @@ returns c = rounds-all (c .before .loop .inv .2) _ refl (c .before .before .befo
 pub reach-rows-spec : {M : Type 1} → statement M
 reach-rows-spec =
     tie.close
-    (tie.spec Inv-loop μ-loop loop-holds round-requires add-k loop-less loop-again returns)
+    (tie.spec Inv-loop μ-loop loop-holds slice-aggregate-round round-requires add-k loop-less loop-again returns)

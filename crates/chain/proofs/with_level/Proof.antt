@@ -16,19 +16,25 @@ mode-requires : tie.Need-mode-requires
 mode-requires c κs = search needs
 
 with-any-requires : tie.Need-with-any-requires
-with-any-requires c κs = level-any _ _ _ (c .before .before .before .pre)
+with-any-requires c κs = level-any _ _ _ (c .before .before .before .before .before .pre .0)
 
 mode-requires-2 : tie.Need-mode-requires-2
 mode-requires-2 c κs = search needs
 
 with-groups-requires : tie.Need-with-groups-requires
-with-groups-requires c κs = level-groups _ _ _ _ _ (c .before .with-any .ensures) (c .before .before .before .before .before .pre)
+with-groups-requires c κs =
+    let any = c .before in
+    (level-groups _ _ _ _ _ (any .with-any .ensures) (any .before .before .before .before .before .before .pre .0), search needs, search needs)
 
 returns : tie.Need-returns
 returns c =
-    level-both (c .before .before .before .before .before .before .args .m) (c .before .before .with-any .result) (c .with-groups .result) (c .before .before .before .before .before .before .args .singles) (c .before .before .before .before .before .before .args .leaders)
-    (holdsIn (c .before .before .before .before .before .before .args .reach .now) (c .before .before .before .before .before .before .args .behind .now)) (c .before .before .before .before .before .before .args .skipped) (c .before .before .before .before .before .one-factor .result) (c .before .before .before .before .is-fixed .result) (c .before .before .before .mode .result) (c .before .mode2 .result)
-    (c .before .before .before .before .before .one-factor .ensures) (c .before .before .before .before .is-fixed .ensures) (c .before .before .before .mode .ensures) (c .before .mode2 .ensures) (c .before .before .with-any .ensures) (c .with-groups .ensures)
+    let any = c .before .before in
+    let fixed = any .before .before in
+    let one = fixed .before in
+    let args = one .before .before .before .args in
+    level-both (args .m) (any .with-any .result) (c .with-groups .result) (args .singles) (args .leaders) (holdsIn (args .reach .now) (args .behind .now)) (args .skipped)
+    (one .one-factor .result) (fixed .is-fixed .result) (any .before .mode .result) (c .before .mode2 .result)
+    (one .one-factor .ensures) (fixed .is-fixed .ensures) (any .before .mode .ensures) (c .before .mode2 .ensures) (any .with-any .ensures) (c .with-groups .ensures)
 
 pub with-level-spec : {M : Type 1} → statement M
 with-level-spec =

@@ -1,22 +1,18 @@
 -- `away` meets its contract: an empty row, or what the row has more than the names related to a.
 -- Assumes nothing.
-use mathlib.Core.Path.{refl}
 use borrow.Author.Needs.{needs}
-use Rattle.chain_rows.proofs.Laws.{part-none, part-word}
+use Rattle.chain_rows.proofs.Laws.{away-none, away-some}
 use Rattle.chain_rows.proofs.away.Statement.{statement}
 use Rattle.chain_rows.proofs.away.Tie as tie
 
-mul-row : tie.Need-mul-row
-mul-row c = search needs
+row-at-requires : tie.Need-row-at-requires
+row-at-requires c κs = search needs
 
-element-copy-out-row : tie.Need-element-copy-out-row
-element-copy-out-row c = search needs
+is-empty-requires : tie.Need-is-empty-requires
+is-empty-requires c κs = search needs
 
 returns : tie.Need-returns
-returns c = part-none _ _ _ refl (c .if1 .taken)
-
-of-word-requires : tie.Need-of-word-requires
-of-word-requires c κs = search needs
+returns c = away-none _ _ _ (c .before .before .row-at .ensures) (c .before .is-empty .ensures .none (c .if1 .taken))
 
 related-requires : tie.Need-related-requires
 related-requires c κs = search needs
@@ -24,21 +20,8 @@ related-requires c κs = search needs
 minus-requires : tie.Need-minus-requires
 minus-requires c κs = search needs
 
-word-requires : tie.Need-word-requires
-word-requires c κs = search needs
-
 returns-2 : tie.Need-returns-2
-returns-2 c = part-word _ _ _ _ _ _ (c .before .before .before .of-word .ensures) (c .before .before .related .ensures) (c .before .minus .ensures .members) (c .word .ensures)
+returns-2 c = away-some _ _ _ _ _ (c .before .before .before .before .row-at .ensures) (c .before .related .ensures) (c .minus .ensures .members)
 
 pub away-spec : {M : Type 1} → statement M
-away-spec =
-    tie.close
-    (tie.spec
-    mul-row
-    element-copy-out-row
-    returns
-    of-word-requires
-    related-requires
-    minus-requires
-    word-requires
-    returns-2)
+away-spec = tie.close (tie.spec row-at-requires is-empty-requires returns related-requires minus-requires returns-2)

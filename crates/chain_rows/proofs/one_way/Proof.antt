@@ -4,27 +4,30 @@ use Prim.Native.Nat.{_-_, _≤_}
 use native.Mathlib.Omega.{arith}
 use borrow.Author.Needs.{needs}
 use Rattle.nameset.specs.Places.{places}
-use Rattle.chain_rows.proofs.Laws.{Parted, part-zero, part-more, part-all}
+use Rattle.nameset.specs.Rows.{noRows}
+use Rattle.chain_rows.specs.Rows.{leadsAway, OnlyNames}
+use Rattle.chain_rows.proofs.Laws.{Filled, fill-more, part-none, part-all}
 use Rattle.chain_rows.proofs.one_way.Statement.{statement}
 use Rattle.chain_rows.proofs.one_way.Tie as tie
 
 abbrev Inv-loop : tie.InvT-loop
-Inv-loop rows out₀ a₀ out a = (a ≤ places) × Parted rows out a
+Inv-loop rows n out₀ a₀ out a = (a ≤ n) × (n ≤ places) × OnlyNames n rows × Filled (noRows places) out (leadsAway rows) a
 
 abbrev μ-loop : tie.MeasureT-loop
-μ-loop rows out₀ a₀ out a = places - a
+μ-loop rows n out₀ a₀ out a = n - a
 
 loop-holds : tie.Need-loop-holds Inv-loop μ-loop
-loop-holds c = (omega arith, part-zero _ (c .pre))
+unfolding noRows
+loop-holds c = (omega arith, search needs, search needs, part-none _)
 
 away-requires : tie.Need-away-requires Inv-loop μ-loop
 away-requires c κs = search needs
 
-mul-out : tie.Need-mul-out Inv-loop μ-loop
-mul-out c = search needs
+slice-aggregate-put-row : tie.Need-slice-aggregate-put-row Inv-loop μ-loop
+slice-aggregate-put-row c = search needs
 
-array-write-out : tie.Need-array-write-out Inv-loop μ-loop
-array-write-out c = search needs
+put-row-requires : tie.Need-put-row-requires Inv-loop μ-loop
+put-row-requires c κs = search needs
 
 add-a : tie.Need-add-a Inv-loop μ-loop
 add-a c = search needs
@@ -33,10 +36,13 @@ loop-less : tie.Need-loop-less Inv-loop μ-loop
 loop-less c = search needs
 
 loop-again : tie.Need-loop-again Inv-loop μ-loop
-loop-again c = let inv = c .before .before .loop .inv in (omega arith, part-more (inv .1) _ (omega arith) (c .away .ensures))
+loop-again c =
+    let row = c .before .before .before in
+    let inv = row .before .before .loop .inv in
+    (omega arith, inv .1, inv .2, fill-more (inv .3) _ (omega arith) (row .away .ensures) _ (c .before .put-row .ensures .0))
 
 returns : tie.Need-returns Inv-loop μ-loop
-returns c = part-all (c .before .loop .inv .1) (omega arith)
+returns c = let inv = c .before .loop .inv in part-all _ _ _ _ (inv .2) (inv .3) (omega arith)
 
 pub one-way-spec : {M : Type 1} → statement M
 one-way-spec =
@@ -46,8 +52,8 @@ one-way-spec =
     μ-loop
     loop-holds
     away-requires
-    mul-out
-    array-write-out
+    slice-aggregate-put-row
+    put-row-requires
     add-a
     loop-less
     loop-again

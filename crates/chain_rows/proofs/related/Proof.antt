@@ -1,35 +1,28 @@
 -- `related` meets its contract.
 -- Assumes nothing.
 use Prim.Native.Nat.{_-_, _≤_}
-use mathlib.Core.Path.{_≡_}
 use native.Mathlib.Omega.{arith}
-use lib.ListN.{length}
 use borrow.Author.Needs.{needs}
 use Rattle.nameset.specs.Places.{places}
+use Rattle.chain_rows.specs.Rows.{OnlyNames}
 use Rattle.chain_rows.proofs.Laws.{Picked, pick-none, pick-more, toward, toward-has, toward-all}
 use Rattle.chain_rows.proofs.related.Statement.{statement}
 use Rattle.chain_rows.proofs.related.Tie as tie
 
 abbrev Inv-loop : tie.InvT-loop
-Inv-loop rows x s₀ a₀ s a = (a ≤ places) × Picked s (toward rows x) a × (length rows ≡ places)
+Inv-loop rows n x s₀ a₀ s a = (a ≤ n) × (n ≤ places) × OnlyNames n rows × Picked s (toward rows x) a
 
 abbrev μ-loop : tie.MeasureT-loop
-μ-loop rows x s₀ a₀ s a = places - a
+μ-loop rows n x s₀ a₀ s a = n - a
 
 empty-requires : tie.Need-empty-requires Inv-loop μ-loop
 empty-requires c κs = search needs
 
 loop-holds : tie.Need-loop-holds Inv-loop μ-loop
-loop-holds c = (omega arith, pick-none _ _ (c .empty .ensures .members), c .before .pre .1)
+loop-holds c = (omega arith, search needs, search needs, pick-none _ _ (c .empty .ensures .members))
 
-mul-of-word : tie.Need-mul-of-word Inv-loop μ-loop
-mul-of-word c = search needs
-
-element-copy-out-of-word : tie.Need-element-copy-out-of-word Inv-loop μ-loop
-element-copy-out-of-word c = search needs
-
-of-word-requires : tie.Need-of-word-requires Inv-loop μ-loop
-of-word-requires c κs = search needs
+row-at-requires : tie.Need-row-at-requires Inv-loop μ-loop
+row-at-requires c κs = search needs
 
 has-requires : tie.Need-has-requires Inv-loop μ-loop
 has-requires c κs = search needs
@@ -45,11 +38,12 @@ loop-less c = search needs
 
 loop-again : tie.Need-loop-again Inv-loop μ-loop
 loop-again c =
-    let inv = c .before .before .before .before .before .loop .inv in
-    (omega arith, pick-more (inv .1) _ _ (toward-has _ _ _ _ _ (c .before .before .of-word .ensures) (c .before .has .ensures)) (c .with-if .ensures), inv .2)
+    let row = c .before .before in
+    let inv = row .before .before .loop .inv in
+    (omega arith, inv .1, inv .2, pick-more (inv .3) _ _ (toward-has _ _ _ _ _ (row .row-at .ensures) (c .before .has .ensures)) (c .with-if .ensures))
 
 returns : tie.Need-returns Inv-loop μ-loop
-returns c = let inv = c .before .loop .inv in toward-all _ _ _ _ (inv .1) (omega arith) (inv .2)
+returns c = let inv = c .before .loop .inv in toward-all _ _ _ _ _ (inv .2) (inv .3) (omega arith)
 
 pub related-spec : {M : Type 1} → statement M
 related-spec =
@@ -59,9 +53,7 @@ related-spec =
     μ-loop
     empty-requires
     loop-holds
-    mul-of-word
-    element-copy-out-of-word
-    of-word-requires
+    row-at-requires
     has-requires
     with-if-requires
     add-a

@@ -1,19 +1,17 @@
 -- `rows_of` meets its contract: the rows of the names passed are joined, those of the names left are to come.
 -- Assumes nothing.
-use Prim.Native.Nat.{ℕ}
-use mathlib.Core.Path.{_≡_, sym, _∙_, ap}
-use mathlib.Core.Bool.{false, _&&_, not}
-use lib.Dec.{eqb}
+use native.Mathlib.Omega.{arith}
 use borrow.Author.Needs.{needs}
-use borrow.Author.Tests.{not-true, not-false}
-use Rattle.nameset.specs.declared.NameSet.{NameSet}
-use Rattle.nameset.specs.Set.{member, isEmpty, first, size}
+use Rattle.nameset.specs.Places.{places}
+use Rattle.nameset.specs.Set.{size}
+use Rattle.nameset.specs.Rows.{IsRows}
+use Rattle.nameset.proofs.Turns.{turn-first, turn-fewer, turn-rest, turns-done}
 use Rattle.chain_rows.proofs.Laws.{Joined, join-start, join-more, join-all}
 use Rattle.chain_rows.proofs.rows_of.Statement.{statement}
 use Rattle.chain_rows.proofs.rows_of.Tie as tie
 
 abbrev Inv-loop : tie.InvT-loop
-Inv-loop rows s₀ left₀ s left = Joined rows left₀ left s
+Inv-loop rows s₀ left₀ s left = IsRows places rows × Joined rows left₀ left s
 
 abbrev μ-loop : tie.MeasureT-loop
 μ-loop rows s₀ left₀ s left = size left
@@ -22,7 +20,7 @@ empty-requires : tie.Need-empty-requires Inv-loop μ-loop
 empty-requires c κs = search needs
 
 loop-holds : tie.Need-loop-holds Inv-loop μ-loop
-loop-holds c = join-start _ _ _ (c .empty .ensures .members)
+loop-holds c = (search needs, join-start _ _ _ (c .empty .ensures .members))
 
 is-empty-requires : tie.Need-is-empty-requires Inv-loop μ-loop
 is-empty-requires c κs = search needs
@@ -30,22 +28,11 @@ is-empty-requires c κs = search needs
 first-requires : tie.Need-first-requires Inv-loop μ-loop
 first-requires c κs = search needs
 
--- the set that is left has lost its smallest name, which is a
-smallest-out : (s r : NameSet) (a : ℕ) → a ≡ first s → ((j : ℕ) → member r j ≡ (member s j && not (eqb (first s) j))) → (j : ℕ) → member r j ≡ (member s j && not (eqb a j))
-smallest-out s r a e law j = law j ∙ ap (λ (k : ℕ). member s j && not (eqb k j)) (sym e)
-
--- a turn has a name left
-some-left : (c : tie.Then1 Inv-loop μ-loop) → isEmpty (c .before .before .loop .left) ≡ false
-some-left c = sym (c .before .is-empty .ensures .same) ∙ not-true (c .before .is-empty .result) (c .if1 .taken)
-
-mul-of-word : tie.Need-mul-of-word Inv-loop μ-loop
-mul-of-word c = let h = c .first .ensures .found (some-left (c .before)) .0 in search needs
-
-element-copy-out-of-word : tie.Need-element-copy-out-of-word Inv-loop μ-loop
-element-copy-out-of-word c = c .first .ensures .found (some-left (c .before)) .0
-
-of-word-requires : tie.Need-of-word-requires Inv-loop μ-loop
-of-word-requires c κs = search needs
+row-at-requires : tie.Need-row-at-requires Inv-loop μ-loop
+row-at-requires c κs =
+    let turn = c .before in
+    let found = turn-first (turn .before .is-empty .ensures) (turn .if1 .taken) (c .first .ensures) in
+    omega (arith, found .0, turn .before .before .loop .inv .0)
 
 union-requires : tie.Need-union-requires Inv-loop μ-loop
 union-requires c κs = search needs
@@ -54,16 +41,19 @@ rest-requires : tie.Need-rest-requires Inv-loop μ-loop
 rest-requires c κs = search needs
 
 loop-less : tie.Need-loop-less Inv-loop μ-loop
-loop-less c = c .rest .ensures .smaller (some-left (c .before .before .before .before .before))
+loop-less c = let turn = c .before .before .before .before in turn-fewer (turn .before .is-empty .ensures) (turn .if1 .taken) (c .rest .ensures)
 
 loop-again : tie.Need-loop-again Inv-loop μ-loop
 loop-again c =
-    let first = c .before .before .before .before .first in
-    let found = first .ensures .found (some-left (c .before .before .before .before .before)) in
-    join-more (c .before .before .before .before .before .before .before .loop .inv) _ (found .0) (found .1) _ _ _ (c .before .before .of-word .ensures) (c .before .union .ensures .members) (smallest-out _ _ _ (first .ensures .same) (c .rest .ensures .members))
+    let row = c .before .before in
+    let first = row .before in
+    let turn = first .before in
+    let inv = turn .before .before .loop .inv in
+    let found = turn-first (turn .before .is-empty .ensures) (turn .if1 .taken) (first .first .ensures) in
+    (inv .0, join-more (inv .1) found _ _ _ (row .row-at .ensures) (c .before .union .ensures .members) (turn-rest (first .first .ensures) (c .rest .ensures)))
 
 returns : tie.Need-returns Inv-loop μ-loop
-returns c = join-all (c .before .before .loop .inv) (c .before .is-empty .ensures .none (not-false (c .before .is-empty .result) (c .if1 .left)))
+returns c = join-all (c .before .before .loop .inv .1) (turns-done (c .before .is-empty .ensures) (c .if1 .left))
 
 pub rows-of-spec : {M : Type 1} → statement M
 rows-of-spec =
@@ -75,9 +65,7 @@ rows-of-spec =
     loop-holds
     is-empty-requires
     first-requires
-    mul-of-word
-    element-copy-out-of-word
-    of-word-requires
+    row-at-requires
     union-requires
     rest-requires
     loop-less
