@@ -71,9 +71,6 @@ module _ (s : List ℕ) (r : Reading) (read : r ≡ readingOf (takenBook s)) whe
     unfolding book
     taken = reading-done (takenBook s) r read done .1
 
-    pub goes-on : {A : Type 0} (next : Book → Answer A) → onward (takenBook s) next ≡ next book
-    goes-on next = rw taken
-
     pub laid : LaidOut s (r .layout)
     unfolding book
     laid = record { book = book; read = taken-law s book .0 taken; same = reading-done (takenBook s) r read done .2 }

@@ -19,7 +19,7 @@ use denote.Array.{each}
 use denote.Struct.Declared.{row}
 use borrow.Author.Tests.{eqb-true, eqb-false, eq-eqb}
 use Rattle.nameset.specs.declared.NameSet.{NameSet}
-use Rattle.nameset.specs.Set.{capacity, member, Sized, empty, full, with, union, both, minus, isEmpty, first, rest, size, ofWord, wordOf}
+use Rattle.nameset.specs.Set.{capacity, member, Sized, empty, full, with, union, both, minus, isEmpty, first, rest, size}
 use Rattle.nameset.proofs.NameSet.{the-type, the-field}
 use Rattle.nameset.proofs.Digits.{bit, bit-or, bit-and, bit-diff, bit-zero, bit-pow, bit-past, bit-all, same-bits, zeros-below, lowest-one, cleared, bit-cleared, ones-cleared}
 
@@ -170,22 +170,3 @@ rest-bits s h =
 pub rest-smaller : (s : NameSet) → Sized s → isEmpty s ≡ false → size (rest s) < size s
 unfolding size
 rest-smaller s h e = rw (rest-bits s h) (ones-cleared capacity (s .bits) (positive s e) h)
-
--- ---- sets kept as words
-
-pub of-word-of : (s : NameSet) → ofWord (wordOf s) ≡ s
-unfolding ofWord wordOf
-of-word-of s = refl
-
-pub word-of-word : (w : ℕ) → wordOf (ofWord w) ≡ w
-unfolding ofWord wordOf
-word-of-word w = refl
-
-pub sized-word : (w : ℕ) → w < 2 ^ capacity → Sized (ofWord w)
-unfolding ofWord
-sized-word w h = h
-
--- the word 0 keeps the empty set
-pub of-zero : ofWord 0 ≡ empty
-unfolding ofWord
-of-zero = refl

@@ -8,7 +8,7 @@ use lib.Bits.{bitOr, bitAnd, bitXor}
 use lib.Count.{trailingZeros, ones}
 use Rattle.nameset.specs.declared.NameSet.{NameSet}
 
--- How many numbers a set has room for: those below it. The code has it as `CAPACITY`. Each name has a number below
+-- How many numbers a set has room for, those below it: the bits of a machine word. Each name has a number below
 -- `places`, and so below it: `names-fit` in proofs/Count.antt.
 abbrev pub capacity : ℕ
 capacity = 64
@@ -60,10 +60,3 @@ rest s = minus s (with empty (first s))
 -- The number of members.
 unfoldable pub size : NameSet → ℕ
 size s = ones (s .bits)
-
--- The set that a word keeps, and the word that keeps a set.
-unfoldable pub ofWord : ℕ → NameSet
-ofWord word = record { bits = word }
-
-unfoldable pub wordOf : NameSet → ℕ
-wordOf s = s .bits

@@ -4,7 +4,7 @@ ghost use mathlib.Core.Bool.{false, _&&_, _||_, not};
 ghost use Prim.Native.Nat.{_<_};
 ghost use lib.Dec.{eqb, ltb};
 ghost use Rattle.nameset.specs.Places.{goodCount};
-ghost use Rattle.nameset.specs.Set.{capacity, member, empty, full, with, union, both, minus, ofWord, wordOf};
+ghost use Rattle.nameset.specs.Set.{capacity, member, empty, full, with, union, both, minus};
 ghost use Rattle.nameset.specs.Promise.{Made, Emptiness, Smallest, Shrunk};
 
 mod row; // row.rt: sets kept as rows of machine words
@@ -14,9 +14,6 @@ pub use row::row_at;
 
 // The number of places: names are numbered below it.
 pub const PLACES: usize = 64;
-
-// How many numbers a set has room for. Each name's number is among them.
-pub const CAPACITY: usize = 64;
 
 // How many words keep a row for each place: one word a row.
 pub const ROWS: usize = PLACES;
@@ -114,20 +111,5 @@ impl NameSet {
         NameSet {
             bits: self.bits & std::num::wrapping_sub_u64(self.bits, 1),
         }
-    }
-
-    // A set and the word that keeps it in a row of numbers: rows that are lent to a call are numbers, since a lent row
-    // of structs takes a proof by hand.
-    pub fn of_word(word: u64) -> NameSet
-        ensures { λ r. ⌜ r ≡ ofWord word ⌝ }
-    {
-        NameSet { bits: word }
-    }
-
-    pub fn word(self) -> u64
-        ensures { λ r. ⌜ r ≡ wordOf self ⌝ }
-    {
-        let word = self.bits;
-        word
     }
 }
