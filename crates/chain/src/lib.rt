@@ -108,13 +108,7 @@ fn with_any(m: Model, names: NameSet, mode: u8) -> Model
 }
 
 // The record with a factor for each loop group, in order of its smallest number.
-fn with_groups(
-    m: Model,
-    reach: &[u64],
-    behind: &[u64],
-    leaders: NameSet,
-    mode: u8,
-) -> Model
+fn with_groups(m: Model, reach: &[u64], behind: &[u64], leaders: NameSet, mode: u8) -> Model
     requires { ⌜ (m .count + countBelow places (member leaders) ≤ places) × IsRows places (now reach) × IsRows places (now behind) ⌝ }
     ensures { λ r. ⌜ r ≡ withEach (member leaders) (holdsIn (now (reach .entry)) (now (behind .entry))) mode places m ⌝ }
 {

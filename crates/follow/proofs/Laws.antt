@@ -215,7 +215,3 @@ same-facts n us vs same =
       follows = λ a b. some-same (hasPair a b) us vs same i;
       empty = some-same isEmpty us vs same i;
     }
-
--- The same of the struct.
-pub same-view : (n : ℕ) (us vs : List (List ℕ)) → n ≤ places → Over n us → Over n vs → SameWords us vs → viewOf n (factsOf us) ≡ viewOf n (factsOf vs)
-same-view n us vs l hu hv same = facts-shown n us l hu ∙ same-facts n us vs same ∙ sym (facts-shown n vs l hv)

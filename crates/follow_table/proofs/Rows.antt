@@ -102,9 +102,6 @@ module _ (v : List ℕ) (l : length v ≡ rowSize) where
   part-all : take (length v - 4) (drop 4 v) ≡ drop 4 v
   part-all = take-all (length v - 4) (drop 4 v) (omega (arith, left-long))
 
-  pub part-long : length (take (length v - 4) (drop 4 v)) ≡ places
-  part-long = ap length part-all ∙ left-long
-
   none-behind : drop (length v - 4) (drop 4 v) ≡ []
   none-behind = drop-of-length-le (drop 4 v) {i = length v - 4} (omega (arith, left-long))
 

@@ -2,15 +2,15 @@
 -- are equal, that a set of code is `Sized` and stays so, the smallest member, and that a set without it is smaller.
 -- Assumes nothing.
 use Prim.Native.Nat.{ℕ, zero, suc, _-_, _^_, _≤_, _<_}
-use mathlib.Core.Path.{_≡_, refl, sym, _∙_, ap}
+use mathlib.Core.Path.{_≡_, sym, _∙_, ap}
 use mathlib.Core.Bool.{Bool, true, false, _&&_, _||_, not}
 use mathlib.Core.List.{List, [], _∷_, map, map-id}
 use native.Mathlib.Omega.{arith}
 use native.Mathlib.Nat.{lt-of-le-of-lt}
 use lib.Dec.{eqb, ltb}
 use lib.ListN.{getD}
-use lib.Pow.{pow-pos, pow-lt}
-use lib.Bits.{and-le-l, or-lt, xor-lt}
+use lib.Pow.{pow-pos}
+use lib.Bits.{and-le-l, xor-lt}
 use lib.Count.{trailingZeros, trailing-le}
 use mir.Val.{Val}
 use base.Fml.{Fml}
@@ -21,7 +21,7 @@ use borrow.Author.Tests.{eqb-true, eqb-false, eq-eqb}
 use Rattle.nameset.specs.declared.NameSet.{NameSet}
 use Rattle.nameset.specs.Set.{capacity, member, Sized, empty, full, with, union, both, minus, isEmpty, first, rest, size}
 use Rattle.nameset.proofs.NameSet.{the-type, the-field}
-use Rattle.nameset.proofs.Digits.{bit, bit-or, bit-and, bit-diff, bit-zero, bit-pow, bit-past, bit-all, same-bits, zeros-below, lowest-one, cleared, bit-cleared, ones-cleared}
+use Rattle.nameset.proofs.Digits.{bit, bit-or, bit-and, bit-diff, bit-zero, bit-pow, bit-all, same-bits, zeros-below, lowest-one, cleared, bit-cleared, ones-cleared}
 
 -- ---- members
 
@@ -65,14 +65,6 @@ member-rest s j =
 pub sized-empty : Sized empty
 sized-empty = pow-pos capacity
 
-pub sized-with : (s : NameSet) (i : ℕ) → Sized s → i < capacity → Sized (with s i)
-unfolding with
-sized-with s i h l = or-lt capacity (s .bits) (2 ^ i) h (pow-lt l)
-
-pub sized-union : (a b : NameSet) → Sized a → Sized b → Sized (union a b)
-unfolding union
-sized-union a b = or-lt capacity (a .bits) (b .bits)
-
 pub sized-both : (a b : NameSet) → Sized a → Sized (both a b)
 unfolding both
 sized-both a b h = lt-of-le-of-lt (and-le-l (a .bits) (b .bits)) h
@@ -105,10 +97,6 @@ sized-field = each-element (the-field .row .own) (the-field .into) Sized (λ x u
 same : (a b : NameSet) → a .bits ≡ b .bits → a ≡ b
 same a b e = ap (λ (n : ℕ). record { bits = n }) e
 
-pub member-past : (s : NameSet) (j : ℕ) → Sized s → capacity ≤ j → member s j ≡ false
-unfolding member bit
-member-past s j = bit-past capacity (s .bits) j
-
 pub ext : (a b : NameSet) → Sized a → Sized b → ((j : ℕ) → j < capacity → member a j ≡ member b j) → a ≡ b
 unfolding member bit
 ext a b ha hb h = same a b (same-bits capacity (a .bits) (b .bits) ha hb h)
@@ -125,13 +113,6 @@ isEmpty-none s e j = rw (isEmpty-is s e) (member-empty j)
 pub none-isEmpty : (s : NameSet) → Sized s → ((j : ℕ) → j < capacity → member s j ≡ false) → isEmpty s ≡ true
 unfolding isEmpty
 none-isEmpty s hs h = eq-eqb (s .bits) 0 (ap (λ (t : NameSet). t .bits) (ext s empty hs sized-empty (λ j l. h j l ∙ sym (member-empty j))))
-
-pub member-some : (s : NameSet) (j : ℕ) → member s j ≡ true → isEmpty s ≡ false
-member-some s j m = go (isEmpty s) refl
-  where
-    go : (b : Bool) → isEmpty s ≡ b → b ≡ false
-    go false e = refl
-    go true e = sym m ∙ isEmpty-none s e j
 
 -- ---- the smallest member
 
@@ -154,9 +135,6 @@ positive s e = let f = eqb-false (s .bits) 0 e in omega arith
 pub first-in : (s : NameSet) → Sized s → isEmpty s ≡ false → (first s < capacity) × (member s (first s) ≡ true)
 unfolding first member bit
 first-in s h e = lowest-one capacity (s .bits) (positive s e) h
-
-pub some-member : (s : NameSet) → Sized s → isEmpty s ≡ false → (j : ℕ) × (j < capacity) × (member s j ≡ true)
-some-member s h e = let r = first-in s h e in (first s, r .0, r .1)
 
 -- ---- the set without it
 

@@ -70,20 +70,11 @@ middle-told c p e =
 loop-holds : tie.Need-loop-holds Inv-loop μ-loop
 loop-holds c = (omega arith, λ k h. absurd (omega arith), λ k h l. absurd (omega arith))
 
-sub-middle : tie.Need-sub-middle Inv-loop μ-loop
-sub-middle c = omega arith
-
-add-middle : tie.Need-add-middle Inv-loop μ-loop
-add-middle c = omega arith
-
 mul-at : tie.Need-mul-at Inv-loop μ-loop
 mul-at c = omega (arith, few-names _ _ (c .before .before .before .before .before .pre))
 
 array-read-at : tie.Need-array-read-at Inv-loop μ-loop
 array-read-at c = omega (arith, few-names _ _ (c .before .before .before .before .before .pre))
-
-cast-at : tie.Need-cast-at Inv-loop μ-loop
-cast-at c = search needs
 
 compare-at-place-requires : tie.Need-compare-at-place-requires Inv-loop μ-loop
 compare-at-place-requires c κs =
@@ -95,31 +86,16 @@ compare-at-place-requires c κs =
 enum-told : tie.Need-enum-told Inv-loop μ-loop
 enum-told c = search needs
 
-add-low : tie.Need-add-low Inv-loop μ-loop
-add-low c = omega arith
-
-loop-less : tie.Need-loop-less Inv-loop μ-loop
-loop-less c = omega arith
-
 loop-again : tie.Need-loop-again Inv-loop μ-loop
 loop-again c =
     let b = c .before .before in
     let i = b .before .before .loop .inv in
     (i .0, below _ _ (b .before .before .before .before .before .before .pre) _ _ (among-names b) (middle-told b _ (c .enum-told .given .1)), i .2)
 
-enum-told-2 : tie.Need-enum-told-2 Inv-loop μ-loop
-enum-told-2 c = search needs
-
 returns : tie.Need-returns Inv-loop μ-loop
 returns c =
     let b = c .before .before in
     hit _ _ (b .before .before .before .before .before .before .pre) _ _ (among-names b) (middle-told b _ (c .enum-told2 .given .1))
-
-enum-told-3 : tie.Need-enum-told-3 Inv-loop μ-loop
-enum-told-3 c = search needs
-
-loop-less-2 : tie.Need-loop-less-2 Inv-loop μ-loop
-loop-less-2 c = omega arith
 
 loop-again-2 : tie.Need-loop-again-2 Inv-loop μ-loop
 loop-again-2 c =
@@ -137,23 +113,6 @@ returns-2 c =
 pub find-name-spec : {M : Type 1} → statement M
 find-name-spec =
     tie.close
-    (tie.spec
-    Inv-loop
-    μ-loop
-    loop-holds
-    sub-middle
-    add-middle
-    mul-at
-    array-read-at
-    cast-at
-    compare-at-place-requires
-    enum-told
-    add-low
-    loop-less
-    loop-again
-    enum-told-2
-    returns
-    enum-told-3
-    loop-less-2
-    loop-again-2
-    returns-2)
+    (tie.spec Inv-loop μ-loop loop-holds (λ c. omega arith) (λ c. omega arith) mul-at array-read-at
+    (λ c. search needs) compare-at-place-requires enum-told (λ c. omega arith) (λ c. omega arith) loop-again
+    (λ c. search needs) returns (λ c. search needs) (λ c. omega arith) loop-again-2 returns-2)

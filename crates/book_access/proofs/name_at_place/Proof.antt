@@ -16,25 +16,11 @@ use Rattle.book.proofs.wide.Reads as wide-reads
 sized : (s : List ℕ) (at size n : ℕ) → size ≡ n → take (at + 1 + size - (at + 1)) (drop (at + 1) s) ≡ take n (drop (at + 1) s)
 sized s at size n e = let d : at + 1 + size - (at + 1) ≡ n = omega arith in rw d
 
-add-from : tie.Need-add-from
-add-from c = search needs
-
-shared-slice-read-wide : tie.Need-shared-slice-read-wide
-shared-slice-read-wide c = search needs
-
-wide-requires : tie.Need-wide-requires
-wide-requires c κs = search needs
-
-add-part : tie.Need-add-part
-add-part c = search needs
-
-part-requires : tie.Need-part-requires
-part-requires c κs = search needs
-
 returns : tie.Need-returns
 returns c = c .part .ensures ∙ sized _ _ _ _ (c .before .wide .ensures .0)
 
 pub name-at-place-spec : {M : Type 1} → statement M
 name-at-place-spec =
     tie.close
-    (tie.spec add-from shared-slice-read-wide wide-requires add-part part-requires returns)
+    (tie.spec (λ c. search needs) (λ c. search needs) (λ c κs. search needs) (λ c. search needs)
+    (λ c κs. search needs) returns)

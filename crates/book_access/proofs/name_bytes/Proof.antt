@@ -16,9 +16,6 @@ mul-at c = let p = c .before .before .pre in omega (arith, few-names _ _ (p .0),
 array-read-at : tie.Need-array-read-at
 array-read-at c = let p = c .before .before .pre in omega (arith, few-names _ _ (p .0), p .1)
 
-cast-at : tie.Need-cast-at
-cast-at c = search needs
-
 name-at-place-requires : tie.Need-name-at-place-requires
 name-at-place-requires c κs = let p = c .before .before .pre in let t = name-laid _ _ (p .0) _ (p .1) in (t .size, t .whole)
 
@@ -26,4 +23,4 @@ returns : tie.Need-returns
 returns c = let p = c .before .before .before .pre in c .name-at-place .ensures ∙ name-laid _ _ (p .0) _ (p .1) .bytes
 
 pub name-bytes-spec : {M : Type 1} → statement M
-name-bytes-spec = tie.close (tie.spec mul-at array-read-at cast-at name-at-place-requires returns)
+name-bytes-spec = tie.close (tie.spec mul-at array-read-at (λ c. search needs) name-at-place-requires returns)

@@ -81,34 +81,13 @@ module _ (s : List ℕ) (n at : ℕ) where
 returns : tie.Need-returns
 returns c = no-parent _ _ _ (c .if1 .taken)
 
-shared-slice-read-wide : tie.Need-shared-slice-read-wide
-shared-slice-read-wide c = search needs
-
-wide-requires : tie.Need-wide-requires
-wide-requires c κs = search needs
-
 returns-2 : tie.Need-returns-2
 returns-2 c = bad-parent _ _ _ (c .before .before .before .if1 .left) _ (c .before .wide .ensures .0) (c .if2 .taken)
-
-add-count : tie.Need-add-count
-add-count c = search needs
 
 returns-3 : tie.Need-returns-3
 returns-3 c =
     let p = c .before .before in
     no-size _ _ _ (p .before .before .if1 .left) _ (p .wide .ensures .0) (c .before .if2 .left) (c .if3 .taken)
-
-shared-slice-read-wide-2 : tie.Need-shared-slice-read-wide-2
-shared-slice-read-wide-2 c = search needs
-
-wide-requires-2 : tie.Need-wide-requires-2
-wide-requires-2 c κs = search needs
-
-add-from : tie.Need-add-from
-add-from c = search needs
-
-sub-if4 : tie.Need-sub-if4
-sub-if4 c = search needs
 
 returns-4 : tie.Need-returns-4
 returns-4 c =
@@ -116,15 +95,6 @@ returns-4 c =
     let p = k .before .before .before .before in
     short _ _ _ (p .before .before .if1 .left) _ (p .wide .ensures .0) (k .before .before .before .if2 .left) (k .before .before .if3 .left) _ (k .wide2 .ensures .0)
     (c .if4 .taken)
-
-add-part : tie.Need-add-part
-add-part c = search needs
-
-part-requires : tie.Need-part-requires
-part-requires c κs = search needs
-
-all-below-requires : tie.Need-all-below-requires
-all-below-requires c κs = search needs
 
 returns-5 : tie.Need-returns-5
 returns-5 c =
@@ -145,20 +115,6 @@ returns-6 c =
 pub block-at-spec : {M : Type 1} → statement M
 block-at-spec =
     tie.close
-    (tie.spec
-    returns
-    shared-slice-read-wide
-    wide-requires
-    returns-2
-    add-count
-    returns-3
-    shared-slice-read-wide-2
-    wide-requires-2
-    add-from
-    sub-if4
-    returns-4
-    add-part
-    part-requires
-    all-below-requires
-    returns-5
-    returns-6)
+    (tie.spec returns (λ c. search needs) (λ c κs. search needs) returns-2 (λ c. search needs) returns-3
+    (λ c. search needs) (λ c κs. search needs) (λ c. search needs) (λ c. search needs) returns-4 (λ c. search needs)
+    (λ c κs. search needs) (λ c κs. search needs) returns-5 returns-6)

@@ -71,26 +71,8 @@ module _ (s : List ℕ) (n at : ℕ) where
           let k : length (t .0 .rest) ≤ 0 = rw (t .2) (omega arith) in
           rw (count-given s at (omega arith), ← e, t .1, le-ltb 0 (length (t .0 .rest)) k, t .3)
 
-sub-if1 : tie.Need-sub-if1
-sub-if1 c = search needs
-
 returns : tie.Need-returns
 returns c = missing _ _ _ (c .before .before .pre .0) (c .if1 .taken)
-
-count-at-requires : tie.Need-count-at-requires
-count-at-requires c κs = search needs
-
-add-read-blocks : tie.Need-add-read-blocks
-add-read-blocks c = search needs
-
-read-blocks-requires : tie.Need-read-blocks-requires
-read-blocks-requires c κs = search needs
-
-enum-known-end : tie.Need-enum-known-end
-enum-known-end c = search needs
-
-enum-known-refusal : tie.Need-enum-known-refusal
-enum-known-refusal c = search needs
 
 returns-2 : tie.Need-returns-2
 returns-2 c =
@@ -112,14 +94,5 @@ returns-4 c =
 pub block-section-spec : {M : Type 1} → statement M
 block-section-spec =
     tie.close
-    (tie.spec
-    sub-if1
-    returns
-    count-at-requires
-    add-read-blocks
-    read-blocks-requires
-    enum-known-end
-    enum-known-refusal
-    returns-2
-    returns-3
-    returns-4)
+    (tie.spec (λ c. search needs) returns (λ c κs. search needs) (λ c. search needs) (λ c κs. search needs)
+    (λ c. search needs) (λ c. search needs) returns-2 returns-3 returns-4)

@@ -60,31 +60,13 @@ placed c = block-read _ _ _ _ (sym (c .before .before .before .block-at .ensures
 loop-holds : tie.Need-loop-holds Inv-loop μ-loop
 loop-holds c = (omega arith, refl)
 
-block-at-requires : tie.Need-block-at-requires Inv-loop μ-loop
-block-at-requires c κs = omega arith
-
-enum-known-size : tie.Need-enum-known-size Inv-loop μ-loop
-enum-known-size c = search needs
-
-add-at : tie.Need-add-at Inv-loop μ-loop
-add-at c = omega arith
-
 add-at-2 : tie.Need-add-at-2 Inv-loop μ-loop
 add-at-2 c = let t = placed c in omega (arith, t .fits)
-
-enum-known-refusal : tie.Need-enum-known-refusal Inv-loop μ-loop
-enum-known-refusal c = search needs
 
 returns : tie.Need-returns Inv-loop μ-loop
 returns c =
     let b = c .before .before .before in
     sym (b .before .before .loop .inv .1 ∙ stop _ _ _ _ (b .before .loop-test .taken) _ (block-stopped _ _ (sym (b .block-at .ensures) ∙ c .before .refusal .given .1)))
-
-sub-left : tie.Need-sub-left Inv-loop μ-loop
-sub-left c = omega arith
-
-loop-less : tie.Need-loop-less Inv-loop μ-loop
-loop-less c = omega arith
 
 loop-again : tie.Need-loop-again Inv-loop μ-loop
 loop-again c =
@@ -98,17 +80,5 @@ returns-2 c = sym (c .before .loop .inv .1 ∙ done _ _ _ _ (c .loop-test .left)
 pub read-blocks-spec : {M : Type 1} → statement M
 read-blocks-spec =
     tie.close
-    (tie.spec
-    Inv-loop
-    μ-loop
-    loop-holds
-    block-at-requires
-    enum-known-size
-    add-at
-    add-at-2
-    enum-known-refusal
-    returns
-    sub-left
-    loop-less
-    loop-again
-    returns-2)
+    (tie.spec Inv-loop μ-loop loop-holds (λ c κs. omega arith) (λ c. search needs) (λ c. omega arith) add-at-2
+    (λ c. search needs) returns (λ c. omega arith) (λ c. omega arith) loop-again returns-2)

@@ -32,12 +32,6 @@ module _ (before name : List ℕ) (good : Bool) (e : good ≡ goodBytes name) wh
     unfolding judgedName nameStep
     read l = rw (← e, h, ← k, l)
 
-good-bytes-requires : tie.Need-good-bytes-requires
-good-bytes-requires c κs = search needs
-
-rises-requires : tie.Need-rises-requires
-rises-requires c κs = search needs
-
 returns : tie.Need-returns
 returns c = read _ _ _ (c .before .before .before .good-bytes .ensures) (c .before .before .if1 .taken) _ (c .before .rises .ensures) (c .if2 .taken)
 
@@ -48,4 +42,4 @@ returns-3 : tie.Need-returns-3
 returns-3 c = bad _ _ _ (c .before .good-bytes .ensures) (c .if1 .left)
 
 pub judge-spec : {M : Type 1} → statement M
-judge-spec = tie.close (tie.spec good-bytes-requires rises-requires returns returns-2 returns-3)
+judge-spec = tie.close (tie.spec (λ c κs. search needs) (λ c κs. search needs) returns returns-2 returns-3)

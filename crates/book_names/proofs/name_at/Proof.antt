@@ -65,34 +65,10 @@ module _ (before s : List ℕ) (at : ℕ) where
 returns : tie.Need-returns
 returns c = no-size _ _ _ (c .if1 .taken)
 
-shared-slice-read-wide : tie.Need-shared-slice-read-wide
-shared-slice-read-wide c = search needs
-
-wide-requires : tie.Need-wide-requires
-wide-requires c κs = search needs
-
-good-length-requires : tie.Need-good-length-requires
-good-length-requires c κs = search needs
-
-add-from : tie.Need-add-from
-add-from c = search needs
-
-sub-if3 : tie.Need-sub-if3
-sub-if3 c = search needs
-
 returns-2 : tie.Need-returns-2
 returns-2 c =
     let w = c .before .before in
     short _ _ _ (w .before .before .before .if1 .left) _ (w .before .wide .ensures .0) _ (w .good-length .ensures) (c .before .if2 .taken) (c .if3 .taken)
-
-add-part : tie.Need-add-part
-add-part c = search needs
-
-part-requires : tie.Need-part-requires
-part-requires c κs = search needs
-
-judge-requires : tie.Need-judge-requires
-judge-requires c κs = search needs
 
 returns-3 : tie.Need-returns-3
 returns-3 c =
@@ -107,16 +83,6 @@ returns-4 c = bad-size _ _ _ (c .before .before .before .before .if1 .left) _ (c
 pub name-at-spec : {M : Type 1} → statement M
 name-at-spec =
     tie.close
-    (tie.spec
-    returns
-    shared-slice-read-wide
-    wide-requires
-    good-length-requires
-    add-from
-    sub-if3
-    returns-2
-    add-part
-    part-requires
-    judge-requires
-    returns-3
+    (tie.spec returns (λ c. search needs) (λ c κs. search needs) (λ c κs. search needs) (λ c. search needs)
+    (λ c. search needs) returns-2 (λ c. search needs) (λ c κs. search needs) (λ c κs. search needs) returns-3
     returns-4)

@@ -36,23 +36,11 @@ module _ (s : List ℕ) (h : countSize ≤ length s) (n : ℕ) (e : n ≡ countA
   unfolding nameSection
   counted k = rw (count-given s 0 h, ← e, ← g, k)
 
-no-names-requires : tie.Need-no-names-requires
-no-names-requires c κs = search needs
-
 returns : tie.Need-returns
 returns c = c .no-names .ensures ∙ missing _ (c .before .if1 .taken)
 
-count-at-requires : tie.Need-count-at-requires
-count-at-requires c κs = search needs
-
-good-count-requires : tie.Need-good-count-requires
-good-count-requires c κs = search needs
-
 read-names-requires : tie.Need-read-names-requires
 read-names-requires c κs = (omega arith, omega arith, count-bounds _ (sym (c .before .good-count .ensures) ∙ c .if2 .taken) .1)
-
-no-names-requires-2 : tie.Need-no-names-requires-2
-no-names-requires-2 c κs = search needs
 
 returns-2 : tie.Need-returns-2
 returns-2 c =
@@ -69,12 +57,5 @@ returns-3 c =
 pub name-section-spec : {M : Type 1} → statement M
 name-section-spec =
     tie.close
-    (tie.spec
-    no-names-requires
-    returns
-    count-at-requires
-    good-count-requires
-    read-names-requires
-    no-names-requires-2
-    returns-2
-    returns-3)
+    (tie.spec (λ c κs. search needs) returns (λ c κs. search needs) (λ c κs. search needs) read-names-requires
+    (λ c κs. search needs) returns-2 returns-3)

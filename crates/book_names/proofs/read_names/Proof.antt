@@ -98,35 +98,8 @@ loop-holds : tie.Need-loop-holds Inv-loop μ-loop
 unfolding noOffsets
 loop-holds c = (omega arith, omega arith, omega arith, begin _ (c .before .args .bytes .now))
 
-part-requires : tie.Need-part-requires Inv-loop μ-loop
-part-requires c κs = omega arith
-
-name-at-requires : tie.Need-name-at-requires Inv-loop μ-loop
-name-at-requires c κs = omega arith
-
-enum-known-size : tie.Need-enum-known-size Inv-loop μ-loop
-enum-known-size c = search needs
-
-cast-offsets : tie.Need-cast-offsets Inv-loop μ-loop
-cast-offsets c = omega arith
-
-mul-offsets : tie.Need-mul-offsets Inv-loop μ-loop
-mul-offsets c = search needs
-
-array-write-offsets : tie.Need-array-write-offsets Inv-loop μ-loop
-array-write-offsets c = search needs
-
-add-from : tie.Need-add-from Inv-loop μ-loop
-add-from c = omega arith
-
 add-at : tie.Need-add-at Inv-loop μ-loop
 add-at c = let t = named c in omega (arith, t .fits)
-
-enum-known-refusal : tie.Need-enum-known-refusal Inv-loop μ-loop
-enum-known-refusal c = search needs
-
-no-names-requires : tie.Need-no-names-requires Inv-loop μ-loop
-no-names-requires c κs = search needs
 
 returns : tie.Need-returns Inv-loop μ-loop
 returns c =
@@ -135,12 +108,6 @@ returns c =
     ∙ sym (b .before .before .before .loop .inv .3
     ∙ stop _ _ _ _ _ _ _ (b .before .before .loop-test .taken) (b .before .part .ensures) _
     (name-stopped _ _ (sym (b .name-at .ensures) ∙ c .before .before .refusal .given .1)))
-
-add-i : tie.Need-add-i Inv-loop μ-loop
-add-i c = omega arith
-
-loop-less : tie.Need-loop-less Inv-loop μ-loop
-loop-less c = omega arith
 
 loop-again : tie.Need-loop-again Inv-loop μ-loop
 loop-again c =
@@ -159,22 +126,6 @@ returns-2 c =
 pub read-names-spec : {M : Type 1} → statement M
 read-names-spec =
     tie.close
-    (tie.spec
-    Inv-loop
-    μ-loop
-    loop-holds
-    part-requires
-    name-at-requires
-    enum-known-size
-    cast-offsets
-    mul-offsets
-    array-write-offsets
-    add-from
-    add-at
-    enum-known-refusal
-    no-names-requires
-    returns
-    add-i
-    loop-less
-    loop-again
-    returns-2)
+    (tie.spec Inv-loop μ-loop loop-holds (λ c κs. omega arith) (λ c κs. omega arith) (λ c. search needs)
+    (λ c. omega arith) (λ c. search needs) (λ c. search needs) (λ c. omega arith) add-at (λ c. search needs)
+    (λ c κs. search needs) returns (λ c. omega arith) (λ c. omega arith) loop-again returns-2)

@@ -72,20 +72,8 @@ module _ (s : List ℕ) (h : length s ≤ longestBook) (t : NameTable) (e : t �
             laid-out s h (named .names) (named .read) bs b (t .names) (t .offsets) (t .end) m (named .many) (named .placed) (named .end) (sym z)
         go (refused r) k q = absurd (false≢true cc)
 
-refused-requires : tie.Need-refused-requires
-refused-requires c κs = search needs
-
 returns : tie.Need-returns
 returns c = c .refused .ensures ∙ too-long _ (c .before .if1 .taken)
-
-name-section-requires : tie.Need-name-section-requires
-name-section-requires c κs = search needs
-
-enum-known-outcome : tie.Need-enum-known-outcome
-enum-known-outcome c = search needs
-
-refused-requires-2 : tie.Need-refused-requires-2
-refused-requires-2 c κs = search needs
 
 returns-2 : tie.Need-returns-2
 returns-2 c =
@@ -100,21 +88,12 @@ block-section-requires c κs =
     let n = c .before .before .before in
     (table-told _ _ (n .name-section .ensures) (c .before .enum-told .given .1) .fits, n .before .if1 .left)
 
-enum-known-blocks : tie.Need-enum-known-blocks
-enum-known-blocks c = search needs
-
 add-t15 : tie.Need-add-t15
 add-t15 c =
     let p = c .before .before .before .before in
     let n = p .before .before .before in
     let t = table-told _ _ (n .name-section .ensures) (p .before .enum-told .given .1) in
     omega (arith, t .fits)
-
-enum-known-refusal : tie.Need-enum-known-refusal
-enum-known-refusal c = search needs
-
-refused-requires-3 : tie.Need-refused-requires-3
-refused-requires-3 c κs = search needs
 
 returns-3 : tie.Need-returns-3
 returns-3 c =
@@ -133,18 +112,6 @@ returns-4 c =
 pub read-book-spec : {M : Type 1} → statement M
 read-book-spec =
     tie.close
-    (tie.spec
-    refused-requires
-    returns
-    name-section-requires
-    enum-known-outcome
-    refused-requires-2
-    returns-2
-    enum-told
-    block-section-requires
-    enum-known-blocks
-    add-t15
-    enum-known-refusal
-    refused-requires-3
-    returns-3
-    returns-4)
+    (tie.spec (λ c κs. search needs) returns (λ c κs. search needs) (λ c. search needs) (λ c κs. search needs)
+    returns-2 enum-told block-section-requires (λ c. search needs) add-t15 (λ c. search needs) (λ c κs. search needs)
+    returns-3 returns-4)

@@ -19,11 +19,8 @@ all-taken s = go (bookOf s)
     go (given b) = refl
     go (refused f) = refl
 
-read-book-requires : tie.Need-read-book-requires
-read-book-requires c κs = search needs
-
 returns : tie.Need-returns
 returns c = c .read-book .ensures ∙ ap readingOf (all-taken _)
 
 pub take-book-spec : {M : Type 1} → statement M
-take-book-spec = tie.close (tie.spec read-book-requires returns)
+take-book-spec = tie.close (tie.spec (λ c κs. search needs) returns)

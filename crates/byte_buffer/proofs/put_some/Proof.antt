@@ -15,18 +15,8 @@ slice-write-buffer c = room-one (c .before .args .buffer .now) _ _ (c .if1 .left
 add-result : tie.Need-add-result
 add-result c = let h = room-one (c .before .args .buffer .now) _ _ (c .if1 .left) (c .before .pre) in omega arith
 
-same-length : tie.Need-same-length
-same-length c = search needs
-
 returns-2 : tie.Need-returns-2
 returns-2 c = put-one _ _ _ (c .if1 .left)
 
 pub put-some-spec : {M : Type 1} → statement M
-put-some-spec =
-    tie.close
-    (tie.spec
-    returns
-    slice-write-buffer
-    add-result
-    same-length
-    returns-2)
+put-some-spec = tie.close (tie.spec returns slice-write-buffer add-result (λ c. search needs) returns-2)

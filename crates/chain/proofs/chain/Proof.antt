@@ -20,62 +20,8 @@ Inv-loop n facts reach behind loops m₀ lower₀ higher₀ stepped₀ m lower h
 abbrev μ-loop : tie.MeasureT-loop
 μ-loop n facts reach behind loops m₀ lower₀ higher₀ stepped₀ m lower higher stepped = countBelow places (member higher)
 
-reach-rows-requires : tie.Need-reach-rows-requires Inv-loop μ-loop
-reach-rows-requires c κs = search needs
-
-one-way-requires : tie.Need-one-way-requires Inv-loop μ-loop
-one-way-requires c κs = search needs
-
-loop-groups-requires : tie.Need-loop-groups-requires Inv-loop μ-loop
-loop-groups-requires c κs = search needs
-
-empty-requires : tie.Need-empty-requires Inv-loop μ-loop
-empty-requires c κs = search needs
-
-empty-requires-2 : tie.Need-empty-requires-2 Inv-loop μ-loop
-empty-requires-2 c κs = search needs
-
-occurring-requires : tie.Need-occurring-requires Inv-loop μ-loop
-occurring-requires c κs = search needs
-
-slice-aggregate-one-way : tie.Need-slice-aggregate-one-way Inv-loop μ-loop
-slice-aggregate-one-way c = search needs
-
-slice-aggregate-loop-groups : tie.Need-slice-aggregate-loop-groups Inv-loop μ-loop
-slice-aggregate-loop-groups c = search needs
-
-slice-aggregate-loop-groups-2 : tie.Need-slice-aggregate-loop-groups-2 Inv-loop μ-loop
-slice-aggregate-loop-groups-2 c = search needs
-
-slice-aggregate-next-level : tie.Need-slice-aggregate-next-level Inv-loop μ-loop
-slice-aggregate-next-level c = search needs
-
-slice-aggregate-with-level : tie.Need-slice-aggregate-with-level Inv-loop μ-loop
-slice-aggregate-with-level c = search needs
-
-slice-aggregate-with-level-2 : tie.Need-slice-aggregate-with-level-2 Inv-loop μ-loop
-slice-aggregate-with-level-2 c = search needs
-
 loop-holds : tie.Need-loop-holds Inv-loop μ-loop
 loop-holds c = (search needs, search needs, tables-made _ _ _ _ _ (search needs) (search needs) (search needs) (search needs), stage-none _ _ _ _ (search needs) (search needs) (search needs), stepped-none _ _ _ (search needs))
-
-is-empty-requires : tie.Need-is-empty-requires Inv-loop μ-loop
-is-empty-requires c κs = search needs
-
-next-level-requires : tie.Need-next-level-requires Inv-loop μ-loop
-next-level-requires c κs = search needs
-
-minus-requires : tie.Need-minus-requires Inv-loop μ-loop
-minus-requires c κs = search needs
-
-steps-over-requires : tie.Need-steps-over-requires Inv-loop μ-loop
-steps-over-requires c κs = search needs
-
-minus-requires-2 : tie.Need-minus-requires-2 Inv-loop μ-loop
-minus-requires-2 c κs = search needs
-
-both-requires : tie.Need-both-requires Inv-loop μ-loop
-both-requires c κs = search needs
 
 with-level-requires : tie.Need-with-level-requires Inv-loop μ-loop
 with-level-requires c κs =
@@ -88,20 +34,11 @@ with-level-requires c κs =
     let tables = turn .before .before .before .before .before .before .before in
     let args = tables .before .before .before .before .before .before .args in
     let room =
-        stage-room (inv .1) (inv .0) (inv .3) (inv .2) (some-full _ _ (turn .before .is-empty .ensures) (not-true (turn .before .is-empty .result) (turn .if1 .taken)))
-        _ _ (level .next-level .ensures) (more .minus .ensures .members)
-        (over .steps-over .result) (skips-view (args .t1) (args .n) _ _ _ (stepped-over _ _ _ _ _ _ _ _ (inv .4) (over .steps-over .ensures)))
-        _ _ (c .before .minus2 .ensures .members) (c .both .ensures .members) in
+    stage-room (inv .1) (inv .0) (inv .3) (inv .2) (some-full _ _ (turn .before .is-empty .ensures) (not-true (turn .before .is-empty .result) (turn .if1 .taken)))
+    _ _ (level .next-level .ensures) (more .minus .ensures .members)
+    (over .steps-over .result) (skips-view (args .t1) (args .n) _ _ _ (stepped-over _ _ _ _ _ _ _ _ (inv .4) (over .steps-over .ensures)))
+    _ _ (c .before .minus2 .ensures .members) (c .both .ensures .members) in
     (room, inv .2 .reach-size, inv .2 .behind-size)
-
-rows-of-requires : tie.Need-rows-of-requires Inv-loop μ-loop
-rows-of-requires c κs = search needs
-
-union-requires : tie.Need-union-requires Inv-loop μ-loop
-union-requires c κs = search needs
-
-union-requires-2 : tie.Need-union-requires-2 Inv-loop μ-loop
-union-requires-2 c κs = search needs
 
 loop-less : tie.Need-loop-less Inv-loop μ-loop
 loop-less c =
@@ -148,32 +85,9 @@ returns c =
 pub chain-spec : {M : Type 1} → statement M
 chain-spec =
     tie.close
-    (tie.spec
-    Inv-loop
-    μ-loop
-    reach-rows-requires
-    slice-aggregate-one-way
-    one-way-requires
-    slice-aggregate-loop-groups
-    slice-aggregate-loop-groups-2
-    loop-groups-requires
-    empty-requires
-    empty-requires-2
-    occurring-requires
-    loop-holds
-    is-empty-requires
-    slice-aggregate-next-level
-    next-level-requires
-    minus-requires
-    steps-over-requires
-    slice-aggregate-with-level
-    slice-aggregate-with-level-2
-    minus-requires-2
-    both-requires
-    with-level-requires
-    rows-of-requires
-    union-requires
-    union-requires-2
-    loop-less
-    loop-again
+    (tie.spec Inv-loop μ-loop (λ c κs. search needs) (λ c. search needs) (λ c κs. search needs) (λ c. search needs)
+    (λ c. search needs) (λ c κs. search needs) (λ c κs. search needs) (λ c κs. search needs) (λ c κs. search needs)
+    loop-holds (λ c κs. search needs) (λ c. search needs) (λ c κs. search needs) (λ c κs. search needs)
+    (λ c κs. search needs) (λ c. search needs) (λ c. search needs) (λ c κs. search needs) (λ c κs. search needs)
+    with-level-requires (λ c κs. search needs) (λ c κs. search needs) (λ c κs. search needs) loop-less loop-again
     returns)

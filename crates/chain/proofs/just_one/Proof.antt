@@ -5,15 +5,6 @@ use Rattle.chain.proofs.Sets.{one-none, one-some}
 use Rattle.chain.proofs.just_one.Statement.{statement}
 use Rattle.chain.proofs.just_one.Tie as tie
 
-is-empty-requires : tie.Need-is-empty-requires
-is-empty-requires c κs = search needs
-
-rest-requires : tie.Need-rest-requires
-rest-requires c κs = search needs
-
-is-empty-requires-2 : tie.Need-is-empty-requires-2
-is-empty-requires-2 c κs = search needs
-
 returns : tie.Need-returns
 returns c = one-none _ _ (c .before .is-empty .ensures) (c .if1 .taken)
 
@@ -22,4 +13,4 @@ returns-2 c = one-some _ _ _ _ (search needs) (c .before .before .before .is-emp
 
 pub just-one-spec : {M : Type 1} → statement M
 just-one-spec =
-    tie.close (tie.spec is-empty-requires rest-requires is-empty-requires-2 returns returns-2)
+    tie.close (tie.spec (λ c κs. search needs) (λ c κs. search needs) (λ c κs. search needs) returns returns-2)

@@ -7,14 +7,8 @@ use Rattle.nameset.specs.Set.{member}
 use Rattle.chain.proofs.next_level.Statement.{statement}
 use Rattle.chain.proofs.next_level.Tie as tie
 
-rows-of-requires : tie.Need-rows-of-requires
-rows-of-requires c κs = search needs
-
-minus-requires : tie.Need-minus-requires
-minus-requires c κs = search needs
-
 returns : tie.Need-returns
 returns c = λ x. c .minus .ensures .members x ∙ ap (λ (b : Bool). member (c .before .before .before .args .higher) x && not b) (c .before .rows-of .ensures x)
 
 pub next-level-spec : {M : Type 1} → statement M
-next-level-spec = tie.close (tie.spec rows-of-requires minus-requires returns)
+next-level-spec = tie.close (tie.spec (λ c κs. search needs) (λ c κs. search needs) returns)

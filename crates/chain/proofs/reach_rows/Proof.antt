@@ -5,7 +5,6 @@ use mathlib.Core.Path.{refl}
 use native.Mathlib.Omega.{arith}
 use borrow.Author.Needs.{needs}
 use Rattle.nameset.specs.Places.{places}
-use Rattle.nameset.specs.Set.{size}
 use Rattle.chain.proofs.Sets.{Rounds, rounds-none, rounds-more, rounds-all}
 use Rattle.chain.proofs.reach_rows.Statement.{statement}
 use Rattle.chain.proofs.reach_rows.Tie as tie
@@ -19,17 +18,8 @@ abbrev μ-loop : tie.MeasureT-loop
 loop-holds : tie.Need-loop-holds Inv-loop μ-loop
 loop-holds c = (omega arith, omega arith, rounds-none _ (c .before .args .facts) (search needs) (search needs))
 
-slice-aggregate-round : tie.Need-slice-aggregate-round Inv-loop μ-loop
-slice-aggregate-round c = search needs
-
 round-requires : tie.Need-round-requires Inv-loop μ-loop
 round-requires c κs = let inv = c .before .before .loop .inv in (omega arith, inv .1, inv .2 .names)
-
-add-k : tie.Need-add-k Inv-loop μ-loop
-add-k c = search needs
-
-loop-less : tie.Need-loop-less Inv-loop μ-loop
-loop-less c = search needs
 
 loop-again : tie.Need-loop-again Inv-loop μ-loop
 loop-again c = let turn = c .before in let inv = turn .before .before .before .loop .inv in (omega arith, inv .1, rounds-more (inv .2) _ (turn .round .ensures))
@@ -40,4 +30,5 @@ returns c = rounds-all (c .before .loop .inv .2) _ refl (c .before .before .befo
 pub reach-rows-spec : {M : Type 1} → statement M
 reach-rows-spec =
     tie.close
-    (tie.spec Inv-loop μ-loop loop-holds slice-aggregate-round round-requires add-k loop-less loop-again returns)
+    (tie.spec Inv-loop μ-loop loop-holds (λ c. search needs) round-requires (λ c. search needs) (λ c. search needs)
+    loop-again returns)

@@ -8,24 +8,11 @@ use Rattle.chain.proofs.steps_over.Tie as tie
 returns : tie.Need-returns
 returns c = rw (c .if1 .taken)
 
-meets-requires : tie.Need-meets-requires
-meets-requires c κs = search needs
-
 returns-2 : tie.Need-returns-2
 returns-2 c = over-end _ _ _ _ (c .before .before .if1 .left) (c .before .meets .ensures) (c .if2 .taken)
-
-meets-requires-2 : tie.Need-meets-requires-2
-meets-requires-2 c κs = search needs
 
 returns-3 : tie.Need-returns-3
 returns-3 c = over-rest _ _ _ _ _ (c .before .before .before .if1 .left) (c .before .before .meets .ensures) (c .before .if2 .left) (c .meets2 .ensures)
 
 pub steps-over-spec : {M : Type 1} → statement M
-steps-over-spec =
-    tie.close
-    (tie.spec
-    returns
-    meets-requires
-    returns-2
-    meets-requires-2
-    returns-3)
+steps-over-spec = tie.close (tie.spec returns (λ c κs. search needs) returns-2 (λ c κs. search needs) returns-3)

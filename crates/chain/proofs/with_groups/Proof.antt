@@ -20,12 +20,6 @@ abbrev μ-loop : tie.MeasureT-loop
 loop-holds : tie.Need-loop-holds Inv-loop μ-loop
 loop-holds c = (append-none _ _ _ _, c .before .before .pre .0)
 
-is-empty-requires : tie.Need-is-empty-requires Inv-loop μ-loop
-is-empty-requires c κs = search needs
-
-first-requires : tie.Need-first-requires Inv-loop μ-loop
-first-requires c κs = search needs
-
 group-requires : tie.Need-group-requires Inv-loop μ-loop
 group-requires c κs =
     let turn = c .before in
@@ -38,9 +32,6 @@ with-factor-requires c κs =
     let inv = turn .before .before .loop .inv in
     let found = turn-first (turn .before .is-empty .ensures) (turn .if1 .taken) first in
     append-room (inv .0) _ (found .0) (found .1) (first .least) (inv .1)
-
-rest-requires : tie.Need-rest-requires Inv-loop μ-loop
-rest-requires c κs = search needs
 
 loop-less : tie.Need-loop-less Inv-loop μ-loop
 loop-less c = let turn = c .before .before .before .before in turn-fewer (turn .before .is-empty .ensures) (turn .if1 .taken) (c .rest .ensures)
@@ -63,15 +54,5 @@ returns c = append-all (c .before .before .loop .inv .0) (turns-done (c .before 
 pub with-groups-spec : {M : Type 1} → statement M
 with-groups-spec =
     tie.close
-    (tie.spec
-    Inv-loop
-    μ-loop
-    loop-holds
-    is-empty-requires
-    first-requires
-    group-requires
-    with-factor-requires
-    rest-requires
-    loop-less
-    loop-again
-    returns)
+    (tie.spec Inv-loop μ-loop loop-holds (λ c κs. search needs) (λ c κs. search needs) group-requires
+    with-factor-requires (λ c κs. search needs) loop-less loop-again returns)

@@ -6,20 +6,8 @@ use Rattle.chain.proofs.Factors.{level-any, level-groups, level-both}
 use Rattle.chain.proofs.with_level.Statement.{statement}
 use Rattle.chain.proofs.with_level.Tie as tie
 
-one-factor-requires : tie.Need-one-factor-requires
-one-factor-requires c κs = search needs
-
-is-fixed-requires : tie.Need-is-fixed-requires
-is-fixed-requires c κs = search needs
-
-mode-requires : tie.Need-mode-requires
-mode-requires c κs = search needs
-
 with-any-requires : tie.Need-with-any-requires
 with-any-requires c κs = level-any _ _ _ (c .before .before .before .before .before .pre .0)
-
-mode-requires-2 : tie.Need-mode-requires-2
-mode-requires-2 c κs = search needs
 
 with-groups-requires : tie.Need-with-groups-requires
 with-groups-requires c κs =
@@ -39,11 +27,5 @@ returns c =
 pub with-level-spec : {M : Type 1} → statement M
 with-level-spec =
     tie.close
-    (tie.spec
-    one-factor-requires
-    is-fixed-requires
-    mode-requires
-    with-any-requires
-    mode-requires-2
-    with-groups-requires
-    returns)
+    (tie.spec (λ c κs. search needs) (λ c κs. search needs) (λ c κs. search needs) with-any-requires
+    (λ c κs. search needs) with-groups-requires returns)

@@ -5,23 +5,14 @@ use Rattle.chain_rows.proofs.Laws.{away-none, away-some}
 use Rattle.chain_rows.proofs.away.Statement.{statement}
 use Rattle.chain_rows.proofs.away.Tie as tie
 
-row-at-requires : tie.Need-row-at-requires
-row-at-requires c κs = search needs
-
-is-empty-requires : tie.Need-is-empty-requires
-is-empty-requires c κs = search needs
-
 returns : tie.Need-returns
 returns c = away-none _ _ _ (c .before .before .row-at .ensures) (c .before .is-empty .ensures .none (c .if1 .taken))
-
-related-requires : tie.Need-related-requires
-related-requires c κs = search needs
-
-minus-requires : tie.Need-minus-requires
-minus-requires c κs = search needs
 
 returns-2 : tie.Need-returns-2
 returns-2 c = away-some _ _ _ _ _ (c .before .before .before .before .row-at .ensures) (c .before .related .ensures) (c .minus .ensures .members)
 
 pub away-spec : {M : Type 1} → statement M
-away-spec = tie.close (tie.spec row-at-requires is-empty-requires returns related-requires minus-requires returns-2)
+away-spec =
+    tie.close
+    (tie.spec (λ c κs. search needs) (λ c κs. search needs) returns (λ c κs. search needs) (λ c κs. search needs)
+    returns-2)

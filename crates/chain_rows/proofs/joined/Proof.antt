@@ -6,12 +6,6 @@ use Rattle.chain_rows.proofs.Laws.{join-yes, join-no}
 use Rattle.chain_rows.proofs.joined.Statement.{statement}
 use Rattle.chain_rows.proofs.joined.Tie as tie
 
-has-requires : tie.Need-has-requires
-has-requires c κs = search needs
-
-union-requires : tie.Need-union-requires
-union-requires c κs = search needs
-
 returns : tie.Need-returns
 returns c = join-yes _ _ _ _ (c .union .ensures .members) (sym (c .before .before .has .ensures) ∙ c .before .if1 .taken)
 
@@ -19,4 +13,4 @@ returns-2 : tie.Need-returns-2
 returns-2 c = join-no _ _ _ (sym (c .before .has .ensures) ∙ c .if1 .left)
 
 pub joined-spec : {M : Type 1} → statement M
-joined-spec = tie.close (tie.spec has-requires union-requires returns returns-2)
+joined-spec = tie.close (tie.spec (λ c κs. search needs) (λ c κs. search needs) returns returns-2)

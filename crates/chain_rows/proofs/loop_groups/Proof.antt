@@ -16,35 +16,8 @@ Inv-loop reach behind n names₀ leaders₀ a₀ names leaders a =
 abbrev μ-loop : tie.MeasureT-loop
 μ-loop reach behind n names₀ leaders₀ a₀ names leaders a = n - a
 
-empty-requires : tie.Need-empty-requires Inv-loop μ-loop
-empty-requires c κs = search needs
-
-empty-requires-2 : tie.Need-empty-requires-2 Inv-loop μ-loop
-empty-requires-2 c κs = search needs
-
 loop-holds : tie.Need-loop-holds Inv-loop μ-loop
 loop-holds c = (omega arith, search needs, search needs, pick-none _ _ (c .before .empty .ensures .members), pick-none _ _ (c .empty2 .ensures .members))
-
-group-requires : tie.Need-group-requires Inv-loop μ-loop
-group-requires c κs = search needs
-
-has-requires : tie.Need-has-requires Inv-loop μ-loop
-has-requires c κs = search needs
-
-with-if-requires : tie.Need-with-if-requires Inv-loop μ-loop
-with-if-requires c κs = search needs
-
-first-requires : tie.Need-first-requires Inv-loop μ-loop
-first-requires c κs = search needs
-
-with-if-requires-2 : tie.Need-with-if-requires-2 Inv-loop μ-loop
-with-if-requires-2 c κs = search needs
-
-add-a : tie.Need-add-a Inv-loop μ-loop
-add-a c = search needs
-
-loop-less : tie.Need-loop-less Inv-loop μ-loop
-loop-less c = search needs
 
 loop-again : tie.Need-loop-again Inv-loop μ-loop
 loop-again c =
@@ -66,18 +39,6 @@ returns c =
 pub loop-groups-spec : {M : Type 1} → statement M
 loop-groups-spec =
     tie.close
-    (tie.spec
-    Inv-loop
-    μ-loop
-    empty-requires
-    empty-requires-2
-    loop-holds
-    group-requires
-    has-requires
-    with-if-requires
-    first-requires
-    with-if-requires-2
-    add-a
-    loop-less
-    loop-again
-    returns)
+    (tie.spec Inv-loop μ-loop (λ c κs. search needs) (λ c κs. search needs) loop-holds (λ c κs. search needs)
+    (λ c κs. search needs) (λ c κs. search needs) (λ c κs. search needs) (λ c κs. search needs) (λ c. search needs)
+    (λ c. search needs) loop-again returns)

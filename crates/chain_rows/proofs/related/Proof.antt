@@ -15,26 +15,8 @@ Inv-loop rows n x s₀ a₀ s a = (a ≤ n) × (n ≤ places) × OnlyNames n row
 abbrev μ-loop : tie.MeasureT-loop
 μ-loop rows n x s₀ a₀ s a = n - a
 
-empty-requires : tie.Need-empty-requires Inv-loop μ-loop
-empty-requires c κs = search needs
-
 loop-holds : tie.Need-loop-holds Inv-loop μ-loop
 loop-holds c = (omega arith, search needs, search needs, pick-none _ _ (c .empty .ensures .members))
-
-row-at-requires : tie.Need-row-at-requires Inv-loop μ-loop
-row-at-requires c κs = search needs
-
-has-requires : tie.Need-has-requires Inv-loop μ-loop
-has-requires c κs = search needs
-
-with-if-requires : tie.Need-with-if-requires Inv-loop μ-loop
-with-if-requires c κs = search needs
-
-add-a : tie.Need-add-a Inv-loop μ-loop
-add-a c = search needs
-
-loop-less : tie.Need-loop-less Inv-loop μ-loop
-loop-less c = search needs
 
 loop-again : tie.Need-loop-again Inv-loop μ-loop
 loop-again c =
@@ -48,15 +30,5 @@ returns c = let inv = c .before .loop .inv in toward-all _ _ _ _ _ (inv .2) (inv
 pub related-spec : {M : Type 1} → statement M
 related-spec =
     tie.close
-    (tie.spec
-    Inv-loop
-    μ-loop
-    empty-requires
-    loop-holds
-    row-at-requires
-    has-requires
-    with-if-requires
-    add-a
-    loop-less
-    loop-again
-    returns)
+    (tie.spec Inv-loop μ-loop (λ c κs. search needs) loop-holds (λ c κs. search needs) (λ c κs. search needs)
+    (λ c κs. search needs) (λ c. search needs) (λ c. search needs) loop-again returns)

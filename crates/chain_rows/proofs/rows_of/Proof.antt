@@ -16,29 +16,14 @@ Inv-loop rows s₀ left₀ s left = IsRows places rows × Joined rows left₀ le
 abbrev μ-loop : tie.MeasureT-loop
 μ-loop rows s₀ left₀ s left = size left
 
-empty-requires : tie.Need-empty-requires Inv-loop μ-loop
-empty-requires c κs = search needs
-
 loop-holds : tie.Need-loop-holds Inv-loop μ-loop
 loop-holds c = (search needs, join-start _ _ _ (c .empty .ensures .members))
-
-is-empty-requires : tie.Need-is-empty-requires Inv-loop μ-loop
-is-empty-requires c κs = search needs
-
-first-requires : tie.Need-first-requires Inv-loop μ-loop
-first-requires c κs = search needs
 
 row-at-requires : tie.Need-row-at-requires Inv-loop μ-loop
 row-at-requires c κs =
     let turn = c .before in
     let found = turn-first (turn .before .is-empty .ensures) (turn .if1 .taken) (c .first .ensures) in
     omega (arith, found .0, turn .before .before .loop .inv .0)
-
-union-requires : tie.Need-union-requires Inv-loop μ-loop
-union-requires c κs = search needs
-
-rest-requires : tie.Need-rest-requires Inv-loop μ-loop
-rest-requires c κs = search needs
 
 loop-less : tie.Need-loop-less Inv-loop μ-loop
 loop-less c = let turn = c .before .before .before .before in turn-fewer (turn .before .is-empty .ensures) (turn .if1 .taken) (c .rest .ensures)
@@ -58,16 +43,5 @@ returns c = join-all (c .before .before .loop .inv .1) (turns-done (c .before .i
 pub rows-of-spec : {M : Type 1} → statement M
 rows-of-spec =
     tie.close
-    (tie.spec
-    Inv-loop
-    μ-loop
-    empty-requires
-    loop-holds
-    is-empty-requires
-    first-requires
-    row-at-requires
-    union-requires
-    rest-requires
-    loop-less
-    loop-again
-    returns)
+    (tie.spec Inv-loop μ-loop (λ c κs. search needs) loop-holds (λ c κs. search needs) (λ c κs. search needs)
+    row-at-requires (λ c κs. search needs) (λ c κs. search needs) loop-less loop-again returns)

@@ -20,18 +20,6 @@ abbrev μ-loop : tie.MeasureT-loop
 loop-holds : tie.Need-loop-holds Inv-loop μ-loop
 loop-holds c = (omega arith, λ b. among-none _ b _)
 
-row-at-requires : tie.Need-row-at-requires Inv-loop μ-loop
-row-at-requires c κs = search needs
-
-union-requires : tie.Need-union-requires Inv-loop μ-loop
-union-requires c κs = search needs
-
-add-i : tie.Need-add-i Inv-loop μ-loop
-add-i c = search needs
-
-loop-less : tie.Need-loop-less Inv-loop μ-loop
-loop-less c = search needs
-
 loop-again : tie.Need-loop-again Inv-loop μ-loop
 loop-again c =
     let row = c .before in
@@ -42,4 +30,7 @@ returns : tie.Need-returns Inv-loop μ-loop
 returns c = λ b. let loop = c .before .loop in let e : loop .i ≡ c .before .before .before .args .n = omega arith in rw (← e) (loop .inv .1 b)
 
 pub with-rows-spec : {M : Type 1} → statement M
-with-rows-spec = tie.close (tie.spec Inv-loop μ-loop loop-holds row-at-requires union-requires add-i loop-less loop-again returns)
+with-rows-spec =
+    tie.close
+    (tie.spec Inv-loop μ-loop loop-holds (λ c κs. search needs) (λ c κs. search needs) (λ c. search needs)
+    (λ c. search needs) loop-again returns)

@@ -5,11 +5,8 @@ use Rattle.curlewsong.proofs.Replies.{length-replied}
 use Rattle.curlewsong.proofs.length_of.Statement.{statement}
 use Rattle.curlewsong.proofs.length_of.Tie as tie
 
-outcome-number-requires : tie.Need-outcome-number-requires
-outcome-number-requires c κs = search needs
-
 returns : tie.Need-returns
 returns c = length-replied (c .before .args .answer) _ (c .outcome-number .ensures)
 
 pub length-of-spec : {M : Type 1} → statement M
-length-of-spec = tie.close (tie.spec outcome-number-requires returns)
+length-of-spec = tie.close (tie.spec (λ c κs. search needs) returns)

@@ -8,15 +8,6 @@ use Rattle.curlewsong.proofs.verdict_of.Tie as tie
 enum-told : tie.Need-enum-told
 enum-told c = search needs
 
-enum-told-2 : tie.Need-enum-told-2
-enum-told-2 c = search needs
-
-enum-known-answer : tie.Need-enum-known-answer
-enum-known-answer c = search needs
-
-number-requires : tie.Need-number-requires
-number-requires c κs = search needs
-
 returns : tie.Need-returns
 returns c = verdict-yes _ (c .enum-told .given .1)
 
@@ -29,4 +20,4 @@ returns-3 c = verdict-refused _ _ _ (c .before .before .answer .given .1) (c .nu
 pub verdict-of-spec : {M : Type 1} → statement M
 verdict-of-spec =
     tie.close
-    (tie.spec enum-told enum-told-2 enum-known-answer number-requires returns returns-2 returns-3)
+    (tie.spec enum-told (λ c. search needs) (λ c. search needs) (λ c κs. search needs) returns returns-2 returns-3)

@@ -21,8 +21,4 @@ returns-2 : tie.Need-returns-2
 returns-2 c = alone _ (c .if1 .left)
 
 pub closing-spec : {M : Type 1} → statement M
-closing-spec =
-    tie.close
-    (tie.spec
-    returns
-    returns-2)
+closing-spec = tie.close (tie.spec returns returns-2)

@@ -28,9 +28,4 @@ returns-3 : tie.Need-returns-3
 returns-3 c = alone _ _ (c .if1 .left)
 
 pub lead-spec : {M : Type 1} → statement M
-lead-spec =
-    tie.close
-    (tie.spec
-    returns
-    returns-2
-    returns-3)
+lead-spec = tie.close (tie.spec returns returns-2 returns-3)

@@ -39,10 +39,4 @@ returns-4 : tie.Need-returns-4
 returns-4 c = any _ (c .match .rest .0 .0 .1) (c .match .rest .0 .1) (c .match .rest .1)
 
 pub mark-spec : {M : Type 1} → statement M
-mark-spec =
-    tie.close
-    (tie.spec
-    returns
-    returns-2
-    returns-3
-    returns-4)
+mark-spec = tie.close (tie.spec returns returns-2 returns-3 returns-4)

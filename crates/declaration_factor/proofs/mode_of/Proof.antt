@@ -8,9 +8,6 @@ use borrow.Author.Needs.{needs}
 use Rattle.declaration_factor.proofs.mode_of.Statement.{statement}
 use Rattle.declaration_factor.proofs.mode_of.Tie as tie
 
-array-read-result : tie.Need-array-read-result
-array-read-result c = search needs
-
 returns : tie.Need-returns
 unfolding modeOf
 returns c = refl
@@ -20,9 +17,4 @@ unfolding modeOf
 returns-2 c = let l : length (c .before .before .args .m .mode) ≡ 64 = search needs in sym (List·getD-eq-default (c .before .before .args .m .mode) 0 (omega (arith, l)))
 
 pub mode-of-spec : {M : Type 1} → statement M
-mode-of-spec =
-    tie.close
-    (tie.spec
-    array-read-result
-    returns
-    returns-2)
+mode-of-spec = tie.close (tie.spec (λ c. search needs) returns returns-2)

@@ -17,19 +17,10 @@ many c =
     let sized : Sized (start .args .names) = search needs in
     many-is _ _ _ _ (start .pre .2) sized _ _ (c .before .rest .ensures .same) (c .is-empty .ensures .same)
 
-rest-requires : tie.Need-rest-requires
-rest-requires c κs = search needs
-
-is-empty-requires : tie.Need-is-empty-requires
-is-empty-requires c κs = search needs
-
 put-names-requires : tie.Need-put-names-requires
 put-names-requires c κs =
     let pre = c .before .before .before .before .before .pre in
     (pre .0, inner-room _ _ _ _ _ (pre .2) _ (many (c .before)) (c .before .before .before .before .before .args .buffer .now) _ (pre .1), names-within _ _ _ _ (pre .2))
-
-closing-requires : tie.Need-closing-requires
-closing-requires c κs = search needs
 
 put-some-requires : tie.Need-put-some-requires
 put-some-requires c κs =
@@ -37,12 +28,6 @@ put-some-requires c κs =
     let tested = named .before .before in
     let pre = tested .before .before .before .before .pre in
     close-room _ _ _ _ _ (pre .2) _ (many tested) _ _ (pre .1) _ _ (named .put-names .ensures) _ (c .closing .ensures)
-
-mode-of-requires : tie.Need-mode-of-requires
-mode-of-requires c κs = search needs
-
-mark-requires : tie.Need-mark-requires
-mark-requires c κs = search needs
 
 put-some-requires-2 : tie.Need-put-some-requires-2
 put-some-requires-2 c κs =
@@ -71,14 +56,5 @@ returns c =
 pub put-factor-spec : {M : Type 1} → statement M
 put-factor-spec =
     tie.close
-    (tie.spec
-    rest-requires
-    is-empty-requires
-    put-names-requires
-    closing-requires
-    put-some-requires
-    mode-of-requires
-    mark-requires
-    put-some-requires-2
-    same-length
-    returns)
+    (tie.spec (λ c κs. search needs) (λ c κs. search needs) put-names-requires (λ c κs. search needs)
+    put-some-requires (λ c κs. search needs) (λ c κs. search needs) put-some-requires-2 same-length returns)

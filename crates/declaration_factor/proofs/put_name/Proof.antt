@@ -15,17 +15,8 @@ name-bytes-requires c κs =
 put-all-requires : tie.Need-put-all-requires
 put-all-requires c κs = name-room _ _ _ (c .name-bytes .ensures) _ _ (c .before .before .before .before .pre .2)
 
-same-length : tie.Need-same-length
-same-length c = search needs
-
 returns : tie.Need-returns
 returns c = name-put _ _ _ (c .before .before .before .name-bytes .ensures) _ _ _ _ (c .before .before .put-all .ensures)
 
 pub put-name-spec : {M : Type 1} → statement M
-put-name-spec =
-    tie.close
-    (tie.spec
-    name-bytes-requires
-    put-all-requires
-    same-length
-    returns)
+put-name-spec = tie.close (tie.spec name-bytes-requires put-all-requires (λ c. search needs) returns)

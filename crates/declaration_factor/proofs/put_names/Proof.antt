@@ -24,12 +24,6 @@ abbrev μ-loop : tie.MeasureT-loop
 loop-holds : tie.Need-loop-holds Inv-loop μ-loop
 loop-holds c = (left-start _ _ _, c .before .before .pre .2)
 
-is-empty-requires : tie.Need-is-empty-requires Inv-loop μ-loop
-is-empty-requires c κs = search needs
-
-first-requires : tie.Need-first-requires Inv-loop μ-loop
-first-requires c κs = search needs
-
 -- a turn has a name left, and puts the smallest
 some-left : (c : tie.Then1 Inv-loop μ-loop) → isEmpty (c .before .before .loop .left) ≡ false
 some-left c = sym (c .before .is-empty .ensures .same) ∙ not-true (c .before .is-empty .result) (c .if1 .taken)
@@ -38,9 +32,6 @@ turn : (c : tie.After-first Inv-loop μ-loop) →
     rising (c .before .before .before .loop .left) 0 (c .before .before .before .before .before .before .args .layout .names)
     ≡ c .first .result ∷ rising (rest (c .before .before .before .loop .left)) 0 (c .before .before .before .before .before .before .args .layout .names)
 turn c = rising-next _ _ _ (c .first .ensures) (some-left (c .before)) (c .before .before .before .loop .inv .1)
-
-lead-requires : tie.Need-lead-requires Inv-loop μ-loop
-lead-requires c κs = search needs
 
 put-some-requires : tie.Need-put-some-requires Inv-loop μ-loop
 put-some-requires c κs =
@@ -58,9 +49,6 @@ put-name-requires c κs =
       head .loop .inv .1 _ (first .first .ensures .found (some-left (first .before)) .1),
       member-room _ _ _ _ _ _ _ (turn first) (put .before .lead .ensures) _ _ _ _ _ (head .loop .inv .0) _ _ (put .put-some .ensures) (pre .1),
     )
-
-rest-requires : tie.Need-rest-requires Inv-loop μ-loop
-rest-requires c κs = search needs
 
 loop-less : tie.Need-loop-less Inv-loop μ-loop
 loop-less c =
@@ -87,17 +75,5 @@ returns c = names-done _ _ _ _ _ (c .before .is-empty .ensures .none (not-false 
 pub put-names-spec : {M : Type 1} → statement M
 put-names-spec =
     tie.close
-    (tie.spec
-    Inv-loop
-    μ-loop
-    loop-holds
-    is-empty-requires
-    first-requires
-    lead-requires
-    put-some-requires
-    put-name-requires
-    rest-requires
-    loop-less
-    loop-again
-    same-length
-    returns)
+    (tie.spec Inv-loop μ-loop loop-holds (λ c κs. search needs) (λ c κs. search needs) (λ c κs. search needs)
+    put-some-requires put-name-requires (λ c κs. search needs) loop-less loop-again same-length returns)

@@ -6,9 +6,6 @@ use borrow.Author.Needs.{needs}
 use Rattle.declaration_form.proofs.fits.Statement.{statement}
 use Rattle.declaration_form.proofs.fits.Tie as tie
 
-apart-requires : tie.Need-apart-requires
-apart-requires c κs = search needs
-
 returns : tie.Need-returns
 returns c = fits-none _ _ _ (c .match .keys1)
 
@@ -25,4 +22,4 @@ returns-5 : tie.Need-returns-5
 returns-5 c = fits-rest _ _ _ (c .if3 .left)
 
 pub fits-spec : {M : Type 1} → statement M
-fits-spec = tie.close (tie.spec apart-requires returns returns-2 returns-3 returns-4 returns-5)
+fits-spec = tie.close (tie.spec (λ c κs. search needs) returns returns-2 returns-3 returns-4 returns-5)

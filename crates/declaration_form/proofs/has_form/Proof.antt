@@ -9,12 +9,6 @@ use borrow.Author.Needs.{needs}
 use Rattle.declaration_form.proofs.has_form.Statement.{statement}
 use Rattle.declaration_form.proofs.has_form.Tie as tie
 
-slice-aggregate-begins-at : tie.Need-slice-aggregate-begins-at
-slice-aggregate-begins-at c = search needs
-
-begins-at-requires : tie.Need-begins-at-requires
-begins-at-requires c κs = search needs
-
 walks-requires : tie.Need-walks-requires
 walks-requires c κs = let h = begins-fits _ _ (sym (c .before .begins-at .ensures) ∙ c .if1 .taken) in omega arith
 
@@ -27,6 +21,4 @@ unfolding opening
 returns-2 c = form-not _ (sym (c .before .begins-at .ensures) ∙ c .if1 .left)
 
 pub has-form-spec : {M : Type 1} → statement M
-has-form-spec =
-    tie.close
-    (tie.spec slice-aggregate-begins-at begins-at-requires walks-requires returns returns-2)
+has-form-spec = tie.close (tie.spec (λ c. search needs) (λ c κs. search needs) walks-requires returns returns-2)

@@ -7,18 +7,9 @@ use borrow.Author.Needs.{needs}
 use Rattle.declaration_form.proofs.next_state.Statement.{statement}
 use Rattle.declaration_form.proofs.next_state.Tie as tie
 
-mul-result : tie.Need-mul-result
-mul-result c = search needs
-
-add-result : tie.Need-add-result
-add-result c = search needs
-
-array-read-result : tie.Need-array-read-result
-array-read-result c = search needs
-
 returns : tie.Need-returns
 unfolding table
 returns c = (state-is _ _ (c .pre .0) (c .pre .1), state-entry (9 * c .args .state + c .args .signal))
 
 pub next-state-spec : {M : Type 1} → statement M
-next-state-spec = tie.close (tie.spec mul-result add-result array-read-result returns)
+next-state-spec = tie.close (tie.spec (λ c. search needs) (λ c. search needs) (λ c. search needs) returns)

@@ -7,12 +7,9 @@ use borrow.Author.Needs.{needs}
 use Rattle.declaration_form.proofs.sign_signal.Statement.{statement}
 use Rattle.declaration_form.proofs.sign_signal.Tie as tie
 
-array-read-result : tie.Need-array-read-result
-array-read-result c = search needs
-
 returns : tie.Need-returns
 unfolding signals
 returns c = (refl, signal-low (c .args .kind))
 
 pub sign-signal-spec : {M : Type 1} → statement M
-sign-signal-spec = tie.close (tie.spec array-read-result returns)
+sign-signal-spec = tie.close (tie.spec (λ c. search needs) returns)

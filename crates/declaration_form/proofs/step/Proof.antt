@@ -9,9 +9,6 @@ use borrow.Author.Needs.{needs}
 use Rattle.declaration_form.proofs.step.Statement.{statement}
 use Rattle.declaration_form.proofs.step.Tie as tie
 
-fits-requires : tie.Need-fits-requires
-fits-requires c κs = search needs
-
 returns : tie.Need-returns
 returns c =
     let start = c .before .before .before in
@@ -23,9 +20,6 @@ sign-signal-requires c κs =
     let start = c .before .before .before .before .before in
     let p = start .pre .0 in
     here-kind (start .args .text .now) _ _ _ (p .0) (p .1) (p .3)
-
-next-state-requires : tie.Need-next-state-requires
-next-state-requires c κs = search needs
 
 returns-2 : tie.Need-returns-2
 returns-2 c =
@@ -55,9 +49,6 @@ word-signal-requires c κs =
     let h = here-on (start .args .text .now) _ _ _ (p .0) (p .1) (p .3) in
     (omega arith, p .2)
 
-next-state-requires-2 : tie.Need-next-state-requires-2
-next-state-requires-2 c κs = search needs
-
 returns-4 : tie.Need-returns-4
 returns-4 c =
     let judged = c .before .before .before in
@@ -71,14 +62,5 @@ returns-4 c =
 pub step-spec : {M : Type 1} → statement M
 step-spec =
     tie.close
-    (tie.spec
-    fits-requires
-    returns
-    sign-signal-requires
-    next-state-requires
-    returns-2
-    good-word-requires
-    returns-3
-    word-signal-requires
-    next-state-requires-2
-    returns-4)
+    (tie.spec (λ c κs. search needs) returns sign-signal-requires (λ c κs. search needs) returns-2 good-word-requires
+    returns-3 word-signal-requires (λ c κs. search needs) returns-4)

@@ -24,9 +24,6 @@ class-table-requires c κs = tt
 loop-holds : tie.Need-loop-holds Inv-loop μ-loop
 loop-holds c = (omega arith, omega arith, refl, c .class-table .ensures)
 
-piece-at-requires : tie.Need-piece-at-requires Inv-loop μ-loop
-piece-at-requires c κs = omega arith
-
 returns : tie.Need-returns Inv-loop μ-loop
 returns c =
     let head = c .before .before .before .before in
@@ -68,15 +65,5 @@ returns-3 c = sym (c .before .loop .inv .2 ∙ walk-done _ _ _ _ (c .loop-test .
 pub walks-spec : {M : Type 1} → statement M
 walks-spec =
     tie.close
-    (tie.spec
-    Inv-loop
-    μ-loop
-    class-table-requires
-    loop-holds
-    piece-at-requires
-    returns
-    step-requires
-    returns-2
-    loop-less
-    loop-again
-    returns-3)
+    (tie.spec Inv-loop μ-loop class-table-requires loop-holds (λ c κs. omega arith) returns step-requires returns-2
+    loop-less loop-again returns-3)

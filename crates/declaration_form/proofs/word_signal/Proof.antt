@@ -9,17 +9,8 @@ use borrow.Author.Needs.{needs}
 use Rattle.declaration_form.proofs.word_signal.Statement.{statement}
 use Rattle.declaration_form.proofs.word_signal.Tie as tie
 
-sub-if1 : tie.Need-sub-if1
-sub-if1 c = search needs
-
 returns : tie.Need-returns
 returns c = (not-empty-word (c .before .before .args .text .now) _ _ (c .before .before .pre .0) (c .before .before .pre .1) (c .if1 .taken), omega arith)
-
-slice-aggregate-begins-at : tie.Need-slice-aggregate-begins-at
-slice-aggregate-begins-at c = search needs
-
-begins-at-requires : tie.Need-begins-at-requires
-begins-at-requires c κs = search needs
 
 returns-2 : tie.Need-returns-2
 unfolding emptyWord
@@ -31,5 +22,4 @@ returns-3 c = (empty-word (c .before .before .before .before .before .args .text
 
 pub word-signal-spec : {M : Type 1} → statement M
 word-signal-spec =
-    tie.close
-    (tie.spec sub-if1 returns slice-aggregate-begins-at begins-at-requires returns-2 returns-3)
+    tie.close (tie.spec (λ c. search needs) returns (λ c. search needs) (λ c κs. search needs) returns-2 returns-3)

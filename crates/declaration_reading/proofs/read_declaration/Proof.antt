@@ -8,26 +8,11 @@ use borrow.Author.Needs.{needs}
 use Rattle.declaration_reading.proofs.read_declaration.Statement.{statement}
 use Rattle.declaration_reading.proofs.read_declaration.Tie as tie
 
-take-book-requires : tie.Need-take-book-requires
-take-book-requires c κs = search needs
-
-enum-known-outcome : tie.Need-enum-known-outcome
-enum-known-outcome c = search needs
-
-refused-requires : tie.Need-refused-requires
-refused-requires c κs = search needs
-
 returns : tie.Need-returns
 returns c = stopped-book _ _ _ (c .before .before .before .before .take-book .ensures) _ _ (c .before .before .outcome .given .1) (c .refused .ensures)
 
 enum-told : tie.Need-enum-told
 enum-told c = search needs
-
-has-form-requires : tie.Need-has-form-requires
-has-form-requires c κs = search needs
-
-refused-requires-2 : tie.Need-refused-requires-2
-refused-requires-2 c κs = search needs
 
 returns-2 : tie.Need-returns-2
 returns-2 c =
@@ -50,14 +35,5 @@ returns-3 c =
 pub read-declaration-spec : {M : Type 1} → statement M
 read-declaration-spec =
     tie.close
-    (tie.spec
-    take-book-requires
-    enum-known-outcome
-    refused-requires
-    returns
-    enum-told
-    has-form-requires
-    refused-requires-2
-    returns-2
-    read-tokens-requires
-    returns-3)
+    (tie.spec (λ c κs. search needs) (λ c. search needs) (λ c κs. search needs) returns enum-told
+    (λ c κs. search needs) (λ c κs. search needs) returns-2 read-tokens-requires returns-3)

@@ -48,17 +48,11 @@ returns c =
     let unknown = unknown-kind _ _ laid _ _ _ (numbered .number-at .ensures .0) (c .before .if1 .taken) in
     factors-unknown _ _ _ _ _ _ _ _ (head .loop .inv .5) (head .loop .inv .4) _ (known-stop _ _ _ (numbered .before .piece-at .ensures .0) _ _ unknown refl) (c .refused .ensures)
 
-slice-aggregate-place-piece : tie.Need-slice-aggregate-place-piece Inv-loop μ-loop
-slice-aggregate-place-piece c = search needs
-
 place-piece-requires : tie.Need-place-piece-requires Inv-loop μ-loop
 place-piece-requires c κs =
     let numbered = c .before .before in
     let head = numbered .before .before .before in
     (inside _ (head .loop .factor) (numbered .number-at .ensures .1) (c .before .if1 .left) (head .loop .inv .2), head .loop .inv .1)
-
-slice-aggregate-put-mode : tie.Need-slice-aggregate-put-mode Inv-loop μ-loop
-slice-aggregate-put-mode c = search needs
 
 mode-of-requires : tie.Need-mode-of-requires Inv-loop μ-loop
 mode-of-requires c κs = tt
@@ -128,33 +122,12 @@ loop-again c =
       head .loop .inv .5 ∙ known-on _ _ _ piece _ _ (known-kind _ _ laid _ _ _ number there) refl,
     )
 
-add-t24 : tie.Need-add-t24 Inv-loop μ-loop
-add-t24 c = search needs
-
 returns-3 : tie.Need-returns-3 Inv-loop μ-loop
 returns-3 c = factors-done _ _ _ _ _ _ _ _ (c .before .loop .inv .5) (c .before .loop .inv .4) (c .loop-test .left)
 
 pub read-factors-spec : {M : Type 1} → statement M
 read-factors-spec =
     tie.close
-    (tie.spec
-    Inv-loop
-    μ-loop
-    loop-holds
-    piece-at-requires
-    number-at-requires
-    refused-requires
-    returns
-    slice-aggregate-place-piece
-    place-piece-requires
-    slice-aggregate-put-mode
-    mode-of-requires
-    put-mode-requires
-    next-index-requires
-    fine-requires
-    twice-requires
-    returns-2
-    loop-less
-    loop-again
-    add-t24
-    returns-3)
+    (tie.spec Inv-loop μ-loop loop-holds piece-at-requires number-at-requires refused-requires returns
+    (λ c. search needs) place-piece-requires (λ c. search needs) mode-of-requires put-mode-requires
+    next-index-requires fine-requires twice-requires returns-2 loop-less loop-again (λ c. search needs) returns-3)

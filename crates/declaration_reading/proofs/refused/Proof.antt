@@ -5,15 +5,8 @@ use borrow.Author.Needs.{needs}
 use Rattle.declaration_reading.proofs.refused.Statement.{statement}
 use Rattle.declaration_reading.proofs.refused.Tie as tie
 
-empty-requires : tie.Need-empty-requires
-empty-requires c κs = search needs
-
 returns : tie.Need-returns
 returns c = refused-is _ _ (c .empty .ensures)
 
 pub refused-spec : {M : Type 1} → statement M
-refused-spec =
-    tie.close
-    (tie.spec
-    empty-requires
-    returns)
+refused-spec = tie.close (tie.spec (λ c κs. search needs) returns)

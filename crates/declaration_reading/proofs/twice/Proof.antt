@@ -18,15 +18,6 @@ behind-unknown : (b k : Bool) (r : Declaration) → b ≡ k → b ≡ false → 
 unfolding twiceOrUnknown
 behind-unknown b k r e t q = rw (← e, t) q
 
-all-known-requires : tie.Need-all-known-requires
-all-known-requires c κs = search needs
-
-refused-requires : tie.Need-refused-requires
-refused-requires c κs = search needs
-
-refused-requires-2 : tie.Need-refused-requires-2
-refused-requires-2 c κs = search needs
-
 returns : tie.Need-returns
 returns c = behind-known _ _ _ (c .before .before .all-known .ensures) (c .before .if1 .taken) (c .refused .ensures)
 
@@ -34,5 +25,4 @@ returns-2 : tie.Need-returns-2
 returns-2 c = behind-unknown _ _ _ (c .before .before .all-known .ensures) (c .before .if1 .left) (c .refused2 .ensures)
 
 pub twice-spec : {M : Type 1} → statement M
-twice-spec =
-    tie.close (tie.spec all-known-requires refused-requires refused-requires-2 returns returns-2)
+twice-spec = tie.close (tie.spec (λ c κs. search needs) (λ c κs. search needs) (λ c κs. search needs) returns returns-2)

@@ -10,7 +10,4 @@ unfolding isSpace
 returns c = refl
 
 pub is-space-spec : {M : Type 1} → statement M
-is-space-spec =
-    tie.close
-    (tie.spec
-    returns)
+is-space-spec = tie.close (tie.spec returns)

@@ -5,12 +5,6 @@ use borrow.Author.Needs.{needs}
 use Rattle.declaration_scan.proofs.is_word_byte.Statement.{statement}
 use Rattle.declaration_scan.proofs.is_word_byte.Tie as tie
 
-cast-in-word : tie.Need-cast-in-word
-cast-in-word c = search needs
-
-in-word-requires : tie.Need-in-word-requires
-in-word-requires c κs = search needs
-
 returns : tie.Need-returns
 returns c = c .in-word .ensures
 
@@ -18,4 +12,4 @@ returns-2 : tie.Need-returns-2
 returns-2 c = past-bytes _ (c .before .pre .1) (c .if1 .left)
 
 pub is-word-byte-spec : {M : Type 1} → statement M
-is-word-byte-spec = tie.close (tie.spec cast-in-word in-word-requires returns returns-2)
+is-word-byte-spec = tie.close (tie.spec (λ c. search needs) (λ c κs. search needs) returns returns-2)

@@ -6,9 +6,6 @@ use borrow.Author.Needs.{needs}
 use Rattle.declaration_scan.proofs.next_unread.Statement.{statement}
 use Rattle.declaration_scan.proofs.next_unread.Tie as tie
 
-shared-slice-read-result : tie.Need-shared-slice-read-result
-shared-slice-read-result c = search needs
-
 cast-result : tie.Need-cast-result
 cast-result c = omega (arith, c .shared-slice-known .given (c .before .before .args .at))
 
@@ -19,10 +16,4 @@ returns-2 : tie.Need-returns-2
 returns-2 c = (next-end _ _ (c .if1 .left), omega arith)
 
 pub next-unread-spec : {M : Type 1} → statement M
-next-unread-spec =
-    tie.close
-    (tie.spec
-    shared-slice-read-result
-    cast-result
-    returns
-    returns-2)
+next-unread-spec = tie.close (tie.spec (λ c. search needs) cast-result returns returns-2)

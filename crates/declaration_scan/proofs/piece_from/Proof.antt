@@ -9,9 +9,6 @@ use borrow.Author.Needs.{needs}
 use Rattle.declaration_scan.proofs.piece_from.Statement.{statement}
 use Rattle.declaration_scan.proofs.piece_from.Tie as tie
 
-sign-kind-requires : tie.Need-sign-kind-requires
-sign-kind-requires c κs = search needs
-
 run-end-requires : tie.Need-run-end-requires
 run-end-requires c κs = (c .before .before .pre .0, c .sign-kind .ensures ∙ ap signKind (c .before .before .pre .1))
 
@@ -35,5 +32,4 @@ returns-2 c =
     (piece-is (start .args .text .now) _ _ _ _ _ (start .pre .1) (kind-sign _ _ w (c .before .before .before .sign-kind .ensures)) (c .sign-end .ensures .0), c .sign-end .ensures .1)
 
 pub piece-from-spec : {M : Type 1} → statement M
-piece-from-spec =
-    tie.close (tie.spec sign-kind-requires run-end-requires returns sign-end-requires returns-2)
+piece-from-spec = tie.close (tie.spec (λ c κs. search needs) run-end-requires returns sign-end-requires returns-2)

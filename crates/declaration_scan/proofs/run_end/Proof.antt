@@ -8,11 +8,8 @@ use Rattle.declaration_scan.proofs.run_end.Tie as tie
 returns : tie.Need-returns
 returns c = (sign-run _ _ _ (c .before .before .pre .1) (c .if1 .taken), c .before .before .pre .0)
 
-skip-word-requires : tie.Need-skip-word-requires
-skip-word-requires c κs = search needs
-
 returns-2 : tie.Need-returns-2
 returns-2 c = search needs
 
 pub run-end-spec : {M : Type 1} → statement M
-run-end-spec = tie.close (tie.spec returns skip-word-requires returns-2)
+run-end-spec = tie.close (tie.spec returns (λ c κs. search needs) returns-2)

@@ -37,14 +37,4 @@ returns-10 c = kind-other _ (c .match .rest .0 .0 .0 .0 .0 .0 .0 .0 .1) (c .matc
 pub sign-kind-spec : {M : Type 1} → statement M
 sign-kind-spec =
     tie.close
-    (tie.spec
-    returns
-    returns-2
-    returns-3
-    returns-4
-    returns-5
-    returns-6
-    returns-7
-    returns-8
-    returns-9
-    returns-10)
+    (tie.spec returns returns-2 returns-3 returns-4 returns-5 returns-6 returns-7 returns-8 returns-9 returns-10)

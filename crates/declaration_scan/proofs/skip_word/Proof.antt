@@ -23,9 +23,6 @@ class-table-requires c κs = tt
 loop-holds : tie.Need-loop-holds Inv-loop μ-loop
 loop-holds c = (c .class-table .ensures, omega arith, refl)
 
-next-unread-requires : tie.Need-next-unread-requires Inv-loop μ-loop
-next-unread-requires c κs = search needs
-
 is-word-byte-requires : tie.Need-is-word-byte-requires Inv-loop μ-loop
 is-word-byte-requires c κs = (c .before .before .loop .inv .0, c .next-unread .ensures .1)
 
@@ -60,14 +57,5 @@ returns c =
 pub skip-word-spec : {M : Type 1} → statement M
 skip-word-spec =
     tie.close
-    (tie.spec
-    Inv-loop
-    μ-loop
-    class-table-requires
-    loop-holds
-    next-unread-requires
-    is-word-byte-requires
-    add-i
-    loop-less
-    loop-again
-    returns)
+    (tie.spec Inv-loop μ-loop class-table-requires loop-holds (λ c κs. search needs) is-word-byte-requires add-i
+    loop-less loop-again returns)

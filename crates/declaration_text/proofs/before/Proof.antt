@@ -22,8 +22,4 @@ returns-2 : tie.Need-returns-2
 returns-2 c = later _ (c .if1 .left)
 
 pub before-spec : {M : Type 1} → statement M
-before-spec =
-    tie.close
-    (tie.spec
-    returns
-    returns-2)
+before-spec = tie.close (tie.spec returns returns-2)

@@ -8,9 +8,6 @@ use borrow.Author.Needs.{needs}
 use Rattle.declaration_text.proofs.put_declaration.Statement.{statement}
 use Rattle.declaration_text.proofs.put_declaration.Tie as tie
 
-slice-aggregate-put-all : tie.Need-slice-aggregate-put-all
-slice-aggregate-put-all c = search needs
-
 put-all-requires : tie.Need-put-all-requires
 put-all-requires c κs =
     let start = c .before .before .before .before in
@@ -76,12 +73,5 @@ returns c =
 pub put-declaration-spec : {M : Type 1} → statement M
 put-declaration-spec =
     tie.close
-    (tie.spec
-    slice-aggregate-put-all
-    put-all-requires
-    put-name-requires
-    put-some-requires
-    put-model-requires
-    put-some-requires-2
-    same-length
-    returns)
+    (tie.spec (λ c. search needs) put-all-requires put-name-requires put-some-requires put-model-requires
+    put-some-requires-2 same-length returns)

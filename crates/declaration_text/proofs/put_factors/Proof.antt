@@ -24,19 +24,10 @@ factor-rows-requires c κs = few-names _ _ (c .before .before .pre .0)
 loop-holds : tie.Need-loop-holds Inv-loop μ-loop
 loop-holds c = (omega arith, factors-start _ _ _ _ _)
 
-before-requires : tie.Need-before-requires Inv-loop μ-loop
-before-requires c κs = search needs
-
 put-some-requires : tie.Need-put-some-requires Inv-loop μ-loop
 put-some-requires c κs =
     let at = c .before .before .before .before in
     before-room _ _ _ _ _ (c .before .before .if1 .taken) (c .before2 .ensures) _ _ _ _ _ (at .loop .inv .1) (at .before .before .before .before .pre .1)
-
-slice-aggregate-row-at : tie.Need-slice-aggregate-row-at Inv-loop μ-loop
-slice-aggregate-row-at c = search needs
-
-row-at-requires : tie.Need-row-at-requires Inv-loop μ-loop
-row-at-requires c κs = search needs
 
 put-factor-requires : tie.Need-put-factor-requires Inv-loop μ-loop
 put-factor-requires c κs =
@@ -48,12 +39,6 @@ put-factor-requires c κs =
       factor-room _ _ _ _ _ (turn .if1 .taken) (put .before .before2 .ensures) _ _ _ _ _ (turn .before .before .loop .inv .1) _ _ (put .put-some .ensures) (pre .1),
       rw (c .row-at .ensures) (made .factor-rows .ensures .row _ (omega arith)),
     )
-
-add-i : tie.Need-add-i Inv-loop μ-loop
-add-i c = omega arith
-
-loop-less : tie.Need-loop-less Inv-loop μ-loop
-loop-less c = omega arith
 
 loop-again : tie.Need-loop-again Inv-loop μ-loop
 loop-again c =
@@ -73,18 +58,6 @@ returns c = factors-done _ _ _ _ (c .if1 .left) _ _ _ _ _ (c .before .before .lo
 pub put-factors-spec : {M : Type 1} → statement M
 put-factors-spec =
     tie.close
-    (tie.spec
-    Inv-loop
-    μ-loop
-    factor-rows-requires
-    loop-holds
-    before-requires
-    put-some-requires
-    slice-aggregate-row-at
-    row-at-requires
-    put-factor-requires
-    add-i
-    loop-less
-    loop-again
-    same-length
-    returns)
+    (tie.spec Inv-loop μ-loop factor-rows-requires loop-holds (λ c κs. search needs) put-some-requires
+    (λ c. search needs) (λ c κs. search needs) put-factor-requires (λ c. omega arith) (λ c. omega arith) loop-again
+    same-length returns)

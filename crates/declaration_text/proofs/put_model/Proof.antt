@@ -6,9 +6,6 @@ use borrow.Author.Needs.{needs}
 use Rattle.declaration_text.proofs.put_model.Statement.{statement}
 use Rattle.declaration_text.proofs.put_model.Tie as tie
 
-slice-aggregate-put-all : tie.Need-slice-aggregate-put-all
-slice-aggregate-put-all c = search needs
-
 put-all-requires : tie.Need-put-all-requires
 put-all-requires c κs = empty-room _ _ _ (c .before .before .if1 .taken) _ _ (c .before .before .before .before .before .before .pre .1)
 
@@ -33,12 +30,5 @@ returns-2 c = model-put _ _ _ (c .before .before .before .before .before .before
 pub put-model-spec : {M : Type 1} → statement M
 put-model-spec =
     tie.close
-    (tie.spec
-    slice-aggregate-put-all
-    put-all-requires
-    same-length
-    returns
-    put-factors-requires
-    put-some-requires
-    same-length-2
-    returns-2)
+    (tie.spec (λ c. search needs) put-all-requires same-length returns put-factors-requires put-some-requires
+    same-length-2 returns-2)

@@ -10,7 +10,4 @@ unfolding written
 returns c = refl
 
 pub refused-spec : {M : Type 1} → statement M
-refused-spec =
-    tie.close
-    (tie.spec
-    returns)
+refused-spec = tie.close (tie.spec returns)

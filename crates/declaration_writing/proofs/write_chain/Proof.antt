@@ -6,24 +6,15 @@ use borrow.Author.Needs.{needs}
 use Rattle.declaration_writing.proofs.write_chain.Statement.{statement}
 use Rattle.declaration_writing.proofs.write_chain.Tie as tie
 
-slice-aggregate-put-declaration : tie.Need-slice-aggregate-put-declaration
-slice-aggregate-put-declaration c = search needs
-
 put-declaration-requires : tie.Need-put-declaration-requires
 put-declaration-requires c κs =
     let p = c .before .before .before .pre in
     (p .0, p .1, p .2, fits-aside _ _ _ _ p)
 
-refused-requires : tie.Need-refused-requires
-refused-requires c κs = search needs
-
 returns : tie.Need-returns
 returns c =
     let put = c .before .before .before in
     too-short _ _ _ _ (put .put-declaration .ensures) (fits-aside _ _ _ _ (put .before .before .before .before .pre)) _ _ (c .before .if1 .taken) (c .refused .ensures)
-
-slice-aggregate-part : tie.Need-slice-aggregate-part
-slice-aggregate-part c = search needs
 
 part-requires : tie.Need-part-requires
 part-requires c κs =
@@ -49,13 +40,5 @@ returns-2 c =
 pub write-chain-spec : {M : Type 1} → statement M
 write-chain-spec =
     tie.close
-    (tie.spec
-    slice-aggregate-put-declaration
-    put-declaration-requires
-    refused-requires
-    returns
-    slice-aggregate-part
-    part-requires
-    put-all-requires
-    same-length
-    returns-2)
+    (tie.spec (λ c. search needs) put-declaration-requires (λ c κs. search needs) returns (λ c. search needs)
+    part-requires put-all-requires same-length returns-2)

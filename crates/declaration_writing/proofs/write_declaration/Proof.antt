@@ -7,34 +7,16 @@ use borrow.Author.Needs.{needs}
 use Rattle.declaration_writing.proofs.write_declaration.Statement.{statement}
 use Rattle.declaration_writing.proofs.write_declaration.Tie as tie
 
-take-book-requires : tie.Need-take-book-requires
-take-book-requires c κs = search needs
-
-enum-known-outcome : tie.Need-enum-known-outcome
-enum-known-outcome c = search needs
-
-refused-requires : tie.Need-refused-requires
-refused-requires c κs = search needs
-
 returns : tie.Need-returns
 returns c = stopped-book _ _ _ _ _ (c .before .before .before .before .take-book .ensures) _ _ (c .before .before .outcome .given .1) (c .refused .ensures)
 
 enum-told : tie.Need-enum-told
 enum-told c = search needs
 
-refused-requires-2 : tie.Need-refused-requires-2
-refused-requires-2 c κs = search needs
-
 returns-2 : tie.Need-returns-2
 returns-2 c =
     let book = c .before .before .before .before in
     stopped-parent _ _ _ _ _ (book .before .before .take-book .ensures) (book .enum-told .given .1) _ (c .before .if1 .taken) (c .refused2 .ensures)
-
-is-chain-requires : tie.Need-is-chain-requires
-is-chain-requires c κs = search needs
-
-refused-requires-3 : tie.Need-refused-requires-3
-refused-requires-3 c κs = search needs
 
 returns-3 : tie.Need-returns-3
 returns-3 c =
@@ -51,9 +33,6 @@ write-chain-requires c κs =
     writable _ (a .parent) _ (a .buffer .now) _ (book .before .before .take-book .ensures) (book .enum-told .given .1) (parent .if1 .left)
     (sym (c .before .before .is-chain .ensures) ∙ not-false _ (c .before .if2 .left))
 
-same-length : tie.Need-same-length
-same-length c = search needs
-
 returns-4 : tie.Need-returns-4
 returns-4 c =
     let chain = c .before .before .before .before in
@@ -65,17 +44,6 @@ returns-4 c =
 pub write-declaration-spec : {M : Type 1} → statement M
 write-declaration-spec =
     tie.close
-    (tie.spec
-    take-book-requires
-    enum-known-outcome
-    refused-requires
-    returns
-    enum-told
-    refused-requires-2
-    returns-2
-    is-chain-requires
-    refused-requires-3
-    returns-3
-    write-chain-requires
-    same-length
-    returns-4)
+    (tie.spec (λ c κs. search needs) (λ c. search needs) (λ c κs. search needs) returns enum-told
+    (λ c κs. search needs) returns-2 (λ c κs. search needs) (λ c κs. search needs) returns-3 write-chain-requires
+    (λ c. search needs) returns-4)

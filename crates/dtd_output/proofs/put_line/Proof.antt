@@ -69,9 +69,6 @@ put-some-requires c κs =
     let p = found .before .before .before .before .pre in
     feed-room _ _ (p .0) _ (p .2) _ (counted found) (m .before .if1 .left) _ (made m) _ _ (p .3) _ _ (c .before .before .before .put-declaration .ensures)
 
-same-length : tie.Need-same-length
-same-length c = search needs
-
 returns-2 : tie.Need-returns-2
 returns-2 c =
     let m = c .before .before .before .before .before .before .before .before in
@@ -83,11 +80,5 @@ returns-2 c =
 pub put-line-spec : {M : Type 1} → statement M
 put-line-spec =
     tie.close
-    (tie.spec
-    facts-in-requires
-    returns
-    chain-requires
-    put-declaration-requires
-    put-some-requires
-    same-length
+    (tie.spec facts-in-requires returns chain-requires put-declaration-requires put-some-requires (λ c. search needs)
     returns-2)

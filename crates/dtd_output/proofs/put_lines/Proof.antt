@@ -23,9 +23,6 @@ gather-facts-requires c κs = let laid = c .before .before .pre .0 in (laid, few
 loop-holds : tie.Need-loop-holds Inv-loop μ-loop
 loop-holds c = (omega arith, lines-start _ _ (c .before .before .before .pre .0) _)
 
-slice-aggregate-put-line : tie.Need-slice-aggregate-put-line Inv-loop μ-loop
-slice-aggregate-put-line c = search needs
-
 put-line-requires : tie.Need-put-line-requires Inv-loop μ-loop
 put-line-requires c κs =
     let l = c .before .before .before .before in
@@ -36,12 +33,6 @@ put-line-requires c κs =
       below,
       line-room _ _ (f .pre .0) _ below _ _ _ _ (l .loop .inv .1) (lines-room _ _ (f .pre .0) (f .args .out .now) (f .pre .1)),
     )
-
-add-parent : tie.Need-add-parent Inv-loop μ-loop
-add-parent c = omega arith
-
-loop-less : tie.Need-loop-less Inv-loop μ-loop
-loop-less c = omega arith
 
 loop-again : tie.Need-loop-again Inv-loop μ-loop
 loop-again c =
@@ -57,15 +48,5 @@ returns c = lines-done _ _ (c .before .before .before .before .before .before .p
 pub put-lines-spec : {M : Type 1} → statement M
 put-lines-spec =
     tie.close
-    (tie.spec
-    Inv-loop
-    μ-loop
-    gather-facts-requires
-    loop-holds
-    slice-aggregate-put-line
-    put-line-requires
-    add-parent
-    loop-less
-    loop-again
-    same-length
-    returns)
+    (tie.spec Inv-loop μ-loop gather-facts-requires loop-holds (λ c. search needs) put-line-requires
+    (λ c. omega arith) (λ c. omega arith) loop-again same-length returns)

@@ -6,18 +6,6 @@ use Rattle.dtd_output.proofs.Output.{refused-out, lines-out}
 use Rattle.dtd_output.proofs.put_output.Statement.{statement}
 use Rattle.dtd_output.proofs.put_output.Tie as tie
 
-take-book-requires : tie.Need-take-book-requires
-take-book-requires c κs = search needs
-
-enum-known-outcome : tie.Need-enum-known-outcome
-enum-known-outcome c = search needs
-
-put-refused-requires : tie.Need-put-refused-requires
-put-refused-requires c κs = search needs
-
-same-length : tie.Need-same-length
-same-length c = search needs
-
 returns : tie.Need-returns
 returns c =
     let book = c .before .before .before .before .before in
@@ -31,9 +19,6 @@ put-lines-requires c κs =
     let book = c .before .before in
     (laid _ _ (book .before .before .take-book .ensures) (book .enum-told .given .1), book .before .before .before .before .before .pre)
 
-same-length-2 : tie.Need-same-length-2
-same-length-2 c = search needs
-
 returns-2 : tie.Need-returns-2
 returns-2 c =
     let book = c .before .before .before .before .before in
@@ -42,13 +27,5 @@ returns-2 c =
 pub put-output-spec : {M : Type 1} → statement M
 put-output-spec =
     tie.close
-    (tie.spec
-    take-book-requires
-    enum-known-outcome
-    put-refused-requires
-    same-length
-    returns
-    enum-told
-    put-lines-requires
-    same-length-2
-    returns-2)
+    (tie.spec (λ c κs. search needs) (λ c. search needs) (λ c κs. search needs) (λ c. search needs) returns enum-told
+    put-lines-requires (λ c. search needs) returns-2)

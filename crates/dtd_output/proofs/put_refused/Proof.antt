@@ -5,26 +5,11 @@ use Rattle.dtd_output.proofs.Refused.{tens-room, ones-room, feed-room, 
 use Rattle.dtd_output.proofs.put_refused.Statement.{statement}
 use Rattle.dtd_output.proofs.put_refused.Tie as tie
 
-number-requires : tie.Need-number-requires
-number-requires c κs = search needs
-
-slice-aggregate-put-all : tie.Need-slice-aggregate-put-all
-slice-aggregate-put-all c = search needs
-
-put-all-requires : tie.Need-put-all-requires
-put-all-requires c κs = search needs
-
-tens-requires : tie.Need-tens-requires
-tens-requires c κs = search needs
-
 put-some-requires : tie.Need-put-some-requires
 put-some-requires c κs =
     let word = c .before .before .before .before in
     let number = word .before .before .before in
     tens-room (number .before .before .args .refusal) _ _ (number .number .ensures) (c .tens .ensures) _ (number .before .before .pre) _ _ (word .put-all .ensures)
-
-add-put-some : tie.Need-add-put-some
-add-put-some c = search needs
 
 put-some-requires-2 : tie.Need-put-some-requires-2
 put-some-requires-2 c κs =
@@ -43,9 +28,6 @@ put-some-requires-3 c κs =
     feed-room (number .before .before .args .refusal) _ _ (number .number .ensures) (first .before .tens .ensures) _ (number .before .before .pre) _ _ (word .put-all .ensures) _ _
     (first .put-some .ensures) _ _ (last .put-some2 .ensures)
 
-same-length : tie.Need-same-length
-same-length c = search needs
-
 returns : tie.Need-returns
 returns c =
     let last = c .before .before .before .before .before .before in
@@ -58,14 +40,5 @@ returns c =
 pub put-refused-spec : {M : Type 1} → statement M
 put-refused-spec =
     tie.close
-    (tie.spec
-    number-requires
-    slice-aggregate-put-all
-    put-all-requires
-    tens-requires
-    put-some-requires
-    add-put-some
-    put-some-requires-2
-    put-some-requires-3
-    same-length
-    returns)
+    (tie.spec (λ c κs. search needs) (λ c. search needs) (λ c κs. search needs) (λ c κs. search needs)
+    put-some-requires (λ c. search needs) put-some-requires-2 put-some-requires-3 (λ c. search needs) returns)

@@ -5,9 +5,6 @@ use Rattle.dtd_output.proofs.Refused.{no-tens, some-tens}
 use Rattle.dtd_output.proofs.tens.Statement.{statement}
 use Rattle.dtd_output.proofs.tens.Tie as tie
 
-add-result : tie.Need-add-result
-add-result c = search needs
-
 returns : tie.Need-returns
 returns c = no-tens _ (c .if1 .taken)
 
@@ -15,4 +12,4 @@ returns-2 : tie.Need-returns-2
 returns-2 c = some-tens _ (c .if1 .left)
 
 pub tens-spec : {M : Type 1} → statement M
-tens-spec = tie.close (tie.spec add-result returns returns-2)
+tens-spec = tie.close (tie.spec (λ c. search needs) returns returns-2)

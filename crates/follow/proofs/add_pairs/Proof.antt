@@ -28,21 +28,6 @@ loop-holds c =
 name-at-requires : tie.Need-name-at-requires Inv-loop μ-loop
 name-at-requires c κs = (c .before .before .before .before .before .pre .1, c .loop-test .taken)
 
-row-at-requires : tie.Need-row-at-requires Inv-loop μ-loop
-row-at-requires c κs = omega arith
-
-with-requires : tie.Need-with-requires Inv-loop μ-loop
-with-requires c κs = search needs
-
-put-row-requires : tie.Need-put-row-requires Inv-loop μ-loop
-put-row-requires c κs = omega arith
-
-add-i : tie.Need-add-i Inv-loop μ-loop
-add-i c = omega arith
-
-loop-less : tie.Need-loop-less Inv-loop μ-loop
-loop-less c = omega arith
-
 loop-again : tie.Need-loop-again Inv-loop μ-loop
 loop-again c =
     let put = c .before .before in
@@ -55,26 +40,12 @@ loop-again c =
       inv .2 ∙ pairs-next _ _ _ _ _ _ _ _ (name .before .loop-test .taken) (name .name-at .ensures .0) (row .row-at .ensures) (set .with .ensures .same) (put .put-row .ensures .0),
     )
 
-same-length : tie.Need-same-length Inv-loop μ-loop
-same-length c = search needs
-
 returns : tie.Need-returns Inv-loop μ-loop
 returns c = let inv = c .before .loop .inv in (sym (inv .2 ∙ pairs-done _ _ _ _ (c .loop-test .left)), inv .1)
 
 pub add-pairs-spec : {M : Type 1} → statement M
 add-pairs-spec =
     tie.close
-    (tie.spec
-    Inv-loop
-    μ-loop
-    first-name-requires
-    loop-holds
-    name-at-requires
-    row-at-requires
-    with-requires
-    put-row-requires
-    add-i
-    loop-less
-    loop-again
-    same-length
+    (tie.spec Inv-loop μ-loop first-name-requires loop-holds name-at-requires (λ c κs. omega arith)
+    (λ c κs. search needs) (λ c κs. omega arith) (λ c. omega arith) (λ c. omega arith) loop-again (λ c. search needs)
     returns)

@@ -5,21 +5,6 @@ use Rattle.follow.proofs.Walk.{word-added}
 use Rattle.follow.proofs.add_word.Statement.{statement}
 use Rattle.follow.proofs.add_word.Tie as tie
 
-slice-aggregate-add-pairs : tie.Need-slice-aggregate-add-pairs
-slice-aggregate-add-pairs c = search needs
-
-add-pairs-requires : tie.Need-add-pairs-requires
-add-pairs-requires c κs = search needs
-
-with-first-requires : tie.Need-with-first-requires
-with-first-requires c κs = search needs
-
-with-last-requires : tie.Need-with-last-requires
-with-last-requires c κs = search needs
-
-or-empty-requires : tie.Need-or-empty-requires
-or-empty-requires c κs = search needs
-
 returns : tie.Need-returns
 returns c =
     let last = c .before in
@@ -29,10 +14,5 @@ returns c =
 pub add-word-spec : {M : Type 1} → statement M
 add-word-spec =
     tie.close
-    (tie.spec
-    slice-aggregate-add-pairs
-    add-pairs-requires
-    with-first-requires
-    with-last-requires
-    or-empty-requires
-    returns)
+    (tie.spec (λ c. search needs) (λ c κs. search needs) (λ c κs. search needs) (λ c κs. search needs)
+    (λ c κs. search needs) returns)

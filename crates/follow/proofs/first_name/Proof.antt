@@ -16,11 +16,8 @@ none w e = rw (no-name w e)
 returns : tie.Need-returns
 returns c = (none (c .before .before .args .word .now) (c .if1 .taken), omega arith)
 
-name-at-requires : tie.Need-name-at-requires
-name-at-requires c κs = search needs
-
 returns-2 : tie.Need-returns-2
 returns-2 c = search needs
 
 pub first-name-spec : {M : Type 1} → statement M
-first-name-spec = tie.close (tie.spec returns name-at-requires returns-2)
+first-name-spec = tie.close (tie.spec returns (λ c κs. search needs) returns-2)

@@ -7,9 +7,6 @@ use Rattle.book.proofs.Laws.{child-below}
 use Rattle.follow.proofs.name_at.Statement.{statement}
 use Rattle.follow.proofs.name_at.Tie as tie
 
-shared-slice-read-result : tie.Need-shared-slice-read-result
-shared-slice-read-result c = search needs
-
 cast-result : tie.Need-cast-result
 cast-result c = omega (arith, c .shared-slice-known .given (c .before .args .i))
 
@@ -17,4 +14,4 @@ returns : tie.Need-returns
 returns c = (refl, child-below _ _ (c .before .pre .0) _ (c .before .pre .1))
 
 pub name-at-spec : {M : Type 1} → statement M
-name-at-spec = tie.close (tie.spec shared-slice-read-result cast-result returns)
+name-at-spec = tie.close (tie.spec (λ c. search needs) cast-result returns)

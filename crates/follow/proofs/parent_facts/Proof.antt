@@ -29,12 +29,6 @@ below c =
     let b = c .before .before .before in
     word-below _ _ _ _ _ _ (b .before .before .loop .inv .0) (b .before .loop-test .taken) _ (b .block-at-place .ensures) _ (c .part .ensures)
 
-empty-requires : tie.Need-empty-requires Inv-loop μ-loop
-empty-requires c κs = search needs
-
-empty-requires-2 : tie.Need-empty-requires-2 Inv-loop μ-loop
-empty-requires-2 c κs = search needs
-
 loop-holds : tie.Need-loop-holds Inv-loop μ-loop
 unfolding noRows
 loop-holds c =
@@ -54,27 +48,15 @@ with-first-requires c κs = below c
 with-last-requires : tie.Need-with-last-requires Inv-loop μ-loop
 with-last-requires c κs = below (c .before)
 
-slice-aggregate-add-pairs : tie.Need-slice-aggregate-add-pairs Inv-loop μ-loop
-slice-aggregate-add-pairs c = search needs
-
 add-pairs-requires : tie.Need-add-pairs-requires Inv-loop μ-loop
 add-pairs-requires c κs =
     let p = c .before .before .before in
     (p .before .before .before .before .before .loop .inv .1, below p)
 
-or-empty-requires : tie.Need-or-empty-requires Inv-loop μ-loop
-or-empty-requires c κs = search needs
-
 add-blocks : tie.Need-add-blocks Inv-loop μ-loop
 add-blocks c =
     let t = c .before .before .before .before .before .before .before .before .before .before in
     omega (arith, turn _ _ _ _ _ _ (t .before .loop .inv .0) (t .loop-test .taken) .fits .head, t .before .loop .inv .2, t .before .before .before .before .before .good)
-
-sub-left : tie.Need-sub-left Inv-loop μ-loop
-sub-left c = omega arith
-
-loop-less : tie.Need-loop-less Inv-loop μ-loop
-loop-less c = omega arith
 
 loop-again : tie.Need-loop-again Inv-loop μ-loop
 loop-again c =
@@ -103,21 +85,6 @@ returns c = walk-done _ _ _ _ _ _ (c .before .loop .inv .0) (c .loop-test .left)
 pub parent-facts-spec : {M : Type 1} → statement M
 parent-facts-spec =
     tie.close
-    (tie.spec
-    Inv-loop
-    μ-loop
-    empty-requires
-    empty-requires-2
-    loop-holds
-    block-at-place-requires
-    part-requires
-    with-first-requires
-    with-last-requires
-    slice-aggregate-add-pairs
-    add-pairs-requires
-    or-empty-requires
-    add-blocks
-    sub-left
-    loop-less
-    loop-again
-    returns)
+    (tie.spec Inv-loop μ-loop (λ c κs. search needs) (λ c κs. search needs) loop-holds block-at-place-requires
+    part-requires with-first-requires with-last-requires (λ c. search needs) add-pairs-requires (λ c κs. search needs)
+    add-blocks (λ c. omega arith) (λ c. omega arith) loop-again returns)

@@ -8,14 +8,8 @@ use Rattle.follow.proofs.with_first.Tie as tie
 returns : tie.Need-returns
 returns c = first-none _ _ (c .if1 .taken)
 
-name-at-requires : tie.Need-name-at-requires
-name-at-requires c κs = search needs
-
-with-requires : tie.Need-with-requires
-with-requires c κs = search needs
-
 returns-2 : tie.Need-returns-2
 returns-2 c = first-some _ _ _ _ (c .before .before .if1 .left) (c .before .name-at .ensures .0) (c .with .ensures .same)
 
 pub with-first-spec : {M : Type 1} → statement M
-with-first-spec = tie.close (tie.spec returns name-at-requires with-requires returns-2)
+with-first-spec = tie.close (tie.spec returns (λ c κs. search needs) (λ c κs. search needs) returns-2)

@@ -8,17 +8,9 @@ use Rattle.follow.proofs.with_last.Tie as tie
 returns : tie.Need-returns
 returns c = last-none _ _ (c .if1 .taken)
 
-sub-name-at : tie.Need-sub-name-at
-sub-name-at c = search needs
-
-name-at-requires : tie.Need-name-at-requires
-name-at-requires c κs = search needs
-
-with-requires : tie.Need-with-requires
-with-requires c κs = search needs
-
 returns-2 : tie.Need-returns-2
 returns-2 c = last-some _ _ _ _ (c .before .before .if1 .left) (c .before .name-at .ensures .0) (c .with .ensures .same)
 
 pub with-last-spec : {M : Type 1} → statement M
-with-last-spec = tie.close (tie.spec returns sub-name-at name-at-requires with-requires returns-2)
+with-last-spec =
+    tie.close (tie.spec returns (λ c. search needs) (λ c κs. search needs) (λ c κs. search needs) returns-2)

@@ -6,27 +6,6 @@ use Rattle.follow_table.proofs.Rows.{ends-put}
 use Rattle.follow_table.proofs.add_ends.Statement.{statement}
 use Rattle.follow_table.proofs.add_ends.Tie as tie
 
-row-at-requires : tie.Need-row-at-requires
-row-at-requires c κs = search needs
-
-with-first-requires : tie.Need-with-first-requires
-with-first-requires c κs = search needs
-
-put-row-requires : tie.Need-put-row-requires
-put-row-requires c κs = search needs
-
-row-at-requires-2 : tie.Need-row-at-requires-2
-row-at-requires-2 c κs = search needs
-
-with-last-requires : tie.Need-with-last-requires
-with-last-requires c κs = search needs
-
-put-row-requires-2 : tie.Need-put-row-requires-2
-put-row-requires-2 c κs = search needs
-
-same-length : tie.Need-same-length
-same-length c = search needs
-
 returns : tie.Need-returns
 returns c =
     let last = c .before .before in
@@ -41,12 +20,5 @@ returns c =
 pub add-ends-spec : {M : Type 1} → statement M
 add-ends-spec =
     tie.close
-    (tie.spec
-    row-at-requires
-    with-first-requires
-    put-row-requires
-    row-at-requires-2
-    with-last-requires
-    put-row-requires-2
-    same-length
-    returns)
+    (tie.spec (λ c κs. search needs) (λ c κs. search needs) (λ c κs. search needs) (λ c κs. search needs)
+    (λ c κs. search needs) (λ c κs. search needs) (λ c. search needs) returns)

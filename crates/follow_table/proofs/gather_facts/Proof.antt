@@ -34,9 +34,6 @@ block-at-place-requires c κs = turn _ _ _ _ _ _ (walk c) (more c) .fits
 part-requires : tie.Need-part-requires Inv-loop μ-loop
 part-requires c κs = part-fits _ _ _ _ _ _ (walk (c .before)) (more (c .before)) _ (c .block-at-place .ensures)
 
-slice-aggregate-add-to-table : tie.Need-slice-aggregate-add-to-table Inv-loop μ-loop
-slice-aggregate-add-to-table c = search needs
-
 add-to-table-requires : tie.Need-add-to-table-requires Inv-loop μ-loop
 add-to-table-requires c κs =
     let b = c .before .before in
@@ -50,12 +47,6 @@ add-to-table-requires c κs =
       count-room _ _ _ _ _ (inv .1) (omega (arith, named)) (omega (arith, turn _ _ _ _ _ _ (walk i) (more i) .fits .head, i .before .before .before .good)),
     )
 
-sub-left : tie.Need-sub-left Inv-loop μ-loop
-sub-left c = omega arith
-
-loop-less : tie.Need-loop-less Inv-loop μ-loop
-loop-less c = omega arith
-
 loop-again : tie.Need-loop-again Inv-loop μ-loop
 loop-again c =
     let b = c .before .before .before .before in
@@ -68,15 +59,5 @@ returns c = walks-done _ _ _ _ (c .before .loop .inv .0) (c .before .loop .inv .
 pub gather-facts-spec : {M : Type 1} → statement M
 gather-facts-spec =
     tie.close
-    (tie.spec
-    Inv-loop
-    μ-loop
-    loop-holds
-    block-at-place-requires
-    part-requires
-    slice-aggregate-add-to-table
-    add-to-table-requires
-    sub-left
-    loop-less
-    loop-again
-    returns)
+    (tie.spec Inv-loop μ-loop loop-holds block-at-place-requires part-requires (λ c. search needs)
+    add-to-table-requires (λ c. omega arith) (λ c. omega arith) loop-again returns)

@@ -7,24 +7,6 @@ use Rattle.follow_table.proofs.Parts.{part-is, length-row}
 use Rattle.follow_table.proofs.row_of.Statement.{statement}
 use Rattle.follow_table.proofs.row_of.Tie as tie
 
-mul-from : tie.Need-mul-from
-mul-from c = search needs
-
-add-to : tie.Need-add-to
-add-to c = search needs
-
-mul-result : tie.Need-mul-result
-mul-result c = search needs
-
-sub-result : tie.Need-sub-result
-sub-result c = search needs
-
-part-result-start : tie.Need-part-result-start
-part-result-start c = search needs
-
-part-result-end : tie.Need-part-result-end
-part-result-end c = search needs
-
 returns : tie.Need-returns
 returns c =
     let a = c .before .args in
@@ -32,4 +14,7 @@ returns c =
     (row, ap length row ∙ length-row (a .table .now) (a .parent) (c .before .pre .0) (c .before .pre .1))
 
 pub row-of-spec : {M : Type 1} → statement M
-row-of-spec = tie.close (tie.spec mul-from add-to mul-result sub-result part-result-start part-result-end returns)
+row-of-spec =
+    tie.close
+    (tie.spec (λ c. search needs) (λ c. search needs) (λ c. search needs) (λ c. search needs) (λ c. search needs)
+    (λ c. search needs) returns)

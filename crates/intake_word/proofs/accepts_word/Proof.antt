@@ -9,16 +9,10 @@ use Rattle.intake_word.proofs.Answers.{stops-count, stops-model, stops-
 use Rattle.intake_word.proofs.accepts_word.Statement.{statement}
 use Rattle.intake_word.proofs.accepts_word.Tie as tie
 
-good-count-requires : tie.Need-good-count-requires
-good-count-requires c κs = search needs
-
 returns : tie.Need-returns
 returns c =
     let a = c .before .before .before .args in
     stops-count (a .names) (a .model) (a .word .now) (c .before .good-count .ensures) (c .if1 .taken)
-
-is-chain-requires : tie.Need-is-chain-requires
-is-chain-requires c κs = search needs
 
 returns-2 : tie.Need-returns-2
 returns-2 c =
@@ -38,9 +32,6 @@ returns-3 c =
     let a = n .before .before .before .args in
     stops-word (a .names) (a .model) (a .word .now) (n .before .good-count .ensures) (n .if1 .left) (m .before .is-chain .ensures) (m .if2 .left)
     (c .before .bad-word .ensures) (c .if3 .taken)
-
-accepted-requires : tie.Need-accepted-requires
-accepted-requires c κs = search needs
 
 returns-4 : tie.Need-returns-4
 unfolding acceptance
@@ -65,13 +56,5 @@ returns-5 c =
 pub accepts-word-spec : {M : Type 1} → statement M
 accepts-word-spec =
     tie.close
-    (tie.spec
-    good-count-requires
-    returns
-    is-chain-requires
-    returns-2
-    bad-word-requires
-    returns-3
-    accepted-requires
-    returns-4
-    returns-5)
+    (tie.spec (λ c κs. search needs) returns (λ c κs. search needs) returns-2 bad-word-requires returns-3
+    (λ c κs. search needs) returns-4 returns-5)

@@ -16,9 +16,6 @@ same-default [] i a b h = absurd (omega arith)
 same-default (x ∷ l) zero a b h = refl
 same-default (x ∷ l) (suc i) a b h = same-default l i a b (le-of-suc-le-suc h)
 
-shared-slice-read-result : tie.Need-shared-slice-read-result
-shared-slice-read-result c = search needs
-
 returns : tie.Need-returns
 returns c =
     let a = c .before .before .args in
@@ -30,4 +27,4 @@ returns-2 c =
     sym (List·getD-eq-default (a .row .now) (a .other) (search needs))
 
 pub entry-spec : {M : Type 1} → statement M
-entry-spec = tie.close (tie.spec shared-slice-read-result returns returns-2)
+entry-spec = tie.close (tie.spec (λ c. search needs) returns returns-2)

@@ -19,12 +19,6 @@ abbrev μ-loop : tie.MeasureT-loop
 loop-holds : tie.Need-loop-holds Inv-loop μ-loop
 loop-holds c = refl
 
-entry-requires : tie.Need-entry-requires Inv-loop μ-loop
-entry-requires c κs = search needs
-
-next-turn-requires : tie.Need-next-turn-requires Inv-loop μ-loop
-next-turn-requires c κs = search needs
-
 -- What follows from the turn u of the factor that the loop has come to.
 turned : (c : tie.After-next-turn Inv-loop μ-loop) → {u : Turn} → c .next-turn .result ≡ u →
     let l = c .before .before .before in
@@ -43,21 +37,9 @@ returns : tie.Need-returns Inv-loop μ-loop
 unfolding after
 returns c = turned (c .before .before) (c .enum-told .given .1)
 
-enum-told-2 : tie.Need-enum-told-2 Inv-loop μ-loop
-enum-told-2 c = search needs
-
 returns-2 : tie.Need-returns-2 Inv-loop μ-loop
 unfolding after
 returns-2 c = turned (c .before .before) (c .enum-told2 .given .1)
-
-enum-told-3 : tie.Need-enum-told-3 Inv-loop μ-loop
-enum-told-3 c = search needs
-
-add-factor : tie.Need-add-factor Inv-loop μ-loop
-add-factor c = search needs
-
-loop-less : tie.Need-loop-less Inv-loop μ-loop
-loop-less c = search needs
 
 loop-again : tie.Need-loop-again Inv-loop μ-loop
 unfolding after
@@ -72,18 +54,5 @@ returns-3 c =
 pub goes-to-spec : {M : Type 1} → statement M
 goes-to-spec =
     tie.close
-    (tie.spec
-    Inv-loop
-    μ-loop
-    loop-holds
-    entry-requires
-    next-turn-requires
-    enum-told
-    returns
-    enum-told-2
-    returns-2
-    enum-told-3
-    add-factor
-    loop-less
-    loop-again
-    returns-3)
+    (tie.spec Inv-loop μ-loop loop-holds (λ c κs. search needs) (λ c κs. search needs) enum-told returns
+    (λ c. search needs) returns-2 (λ c. search needs) (λ c. search needs) (λ c. search needs) loop-again returns-3)

@@ -5,12 +5,9 @@ use Rattle.model.specs.Run.{mayEnd}
 use Rattle.model_accept.proofs.may_end.Statement.{statement}
 use Rattle.model_accept.proofs.may_end.Tie as tie
 
-goes-to-requires : tie.Need-goes-to-requires
-goes-to-requires c κs = search needs
-
 returns : tie.Need-returns
 unfolding mayEnd
 returns c = λ factors. c .goes-to .ensures
 
 pub may-end-spec : {M : Type 1} → statement M
-may-end-spec = tie.close (tie.spec goes-to-requires returns)
+may-end-spec = tie.close (tie.spec (λ c κs. search needs) returns)

@@ -67,16 +67,5 @@ returns-12 c = sym (no-mode _ _ _ (c .match .rest .0 .0 .0 .1) (c .match .rest .
 pub next-turn-spec : {M : Type 1} → statement M
 next-turn-spec =
     tie.close
-    (tie.spec
-    returns
-    returns-2
-    returns-3
-    returns-4
-    returns-5
-    returns-6
-    returns-7
-    returns-8
-    returns-9
-    returns-10
-    returns-11
-    returns-12)
+    (tie.spec returns returns-2 returns-3 returns-4 returns-5 returns-6 returns-7 returns-8 returns-9 returns-10
+    returns-11 returns-12)

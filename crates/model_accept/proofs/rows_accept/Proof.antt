@@ -24,12 +24,6 @@ abbrev μ-loop : tie.MeasureT-loop
 loop-holds : tie.Need-loop-holds Inv-loop μ-loop
 loop-holds c = (omega arith, refl)
 
-shared-slice-read-step : tie.Need-shared-slice-read-step Inv-loop μ-loop
-shared-slice-read-step c = search needs
-
-step-requires : tie.Need-step-requires Inv-loop μ-loop
-step-requires c κs = search needs
-
 -- Where the rest of the word leads after a step to v.
 stepped : (c : tie.After-step Inv-loop μ-loop) → {v : Moved} → c .step .result ≡ v →
     let l = c .before .before .before in
@@ -42,9 +36,6 @@ stepped c e =
     let a = t .before .before .before .before .before .args in
     sym (run-more (ofRows (a .count) (a .factor .now) (a .mode .now)) (l .state) (a .word .now) (l .i) (t .loop-test .taken) (c .step .ensures) e) ∙ l .inv .1
 
-enum-known-next : tie.Need-enum-known-next Inv-loop μ-loop
-enum-known-next c = search needs
-
 enum-told : tie.Need-enum-told Inv-loop μ-loop
 enum-told c = search needs
 
@@ -52,17 +43,8 @@ returns : tie.Need-returns Inv-loop μ-loop
 unfolding accepts mayEnd
 returns c = ap (mayEnd _) (sym (run-nowhere _ _) ∙ stepped (c .before .before) (c .enum-told .given .1))
 
-add-i : tie.Need-add-i Inv-loop μ-loop
-add-i c = search needs
-
-loop-less : tie.Need-loop-less Inv-loop μ-loop
-loop-less c = search needs
-
 loop-again : tie.Need-loop-again Inv-loop μ-loop
 loop-again c = (omega arith, stepped (c .before .before .before) (c .before .next .given .1))
-
-may-end-requires : tie.Need-may-end-requires Inv-loop μ-loop
-may-end-requires c κs = search needs
 
 returns-2 : tie.Need-returns-2 Inv-loop μ-loop
 unfolding accepts
@@ -76,17 +58,5 @@ returns-2 c =
 pub rows-accept-spec : {M : Type 1} → statement M
 rows-accept-spec =
     tie.close
-    (tie.spec
-    Inv-loop
-    μ-loop
-    loop-holds
-    shared-slice-read-step
-    step-requires
-    enum-known-next
-    enum-told
-    returns
-    add-i
-    loop-less
-    loop-again
-    may-end-requires
-    returns-2)
+    (tie.spec Inv-loop μ-loop loop-holds (λ c. search needs) (λ c κs. search needs) (λ c. search needs) enum-told
+    returns (λ c. search needs) (λ c. search needs) loop-again (λ c κs. search needs) returns-2)

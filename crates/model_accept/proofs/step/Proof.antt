@@ -24,15 +24,6 @@ module _ (count : ℕ) (factors modes : List ℕ) (x : ℕ) (s : State) {own : �
   unfolding move factorOf
   not-there h = rw (← e, ← g, h)
 
-entry-requires : tie.Need-entry-requires
-entry-requires c κs = search needs
-
-cast-own : tie.Need-cast-own
-cast-own c = search needs
-
-goes-to-requires : tie.Need-goes-to-requires
-goes-to-requires c κs = search needs
-
 returns : tie.Need-returns
 returns c =
     let e = c .before .before in
@@ -46,4 +37,4 @@ returns-2 c =
     not-there (a .count) (a .factor .now) (a .mode .now) (a .x) (a .from) (e .entry .ensures) (c .before .goes-to .ensures) (c .if1 .left)
 
 pub step-spec : {M : Type 1} → statement M
-step-spec = tie.close (tie.spec entry-requires cast-own goes-to-requires returns returns-2)
+step-spec = tie.close (tie.spec (λ c κs. search needs) (λ c. search needs) (λ c κs. search needs) returns returns-2)

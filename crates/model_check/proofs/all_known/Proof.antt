@@ -5,15 +5,6 @@ use Rattle.model_check.proofs.Modes.{modes-known, mode-unknown}
 use Rattle.model_check.proofs.all_known.Statement.{statement}
 use Rattle.model_check.proofs.all_known.Tie as tie
 
-largest-from-requires : tie.Need-largest-from-requires
-largest-from-requires c κs = search needs
-
-is-mode-requires : tie.Need-is-mode-requires
-is-mode-requires c κs = search needs
-
-largest-from-requires-2 : tie.Need-largest-from-requires-2
-largest-from-requires-2 c κs = search needs
-
 returns : tie.Need-returns
 returns c =
     let m = c .before .before in
@@ -26,5 +17,4 @@ returns-2 c =
 
 pub all-known-spec : {M : Type 1} → statement M
 all-known-spec =
-    tie.close
-    (tie.spec largest-from-requires is-mode-requires largest-from-requires-2 returns returns-2)
+    tie.close (tie.spec (λ c κs. search needs) (λ c κs. search needs) (λ c κs. search needs) returns returns-2)

@@ -5,12 +5,6 @@ use Rattle.model_check.proofs.Factors.{all-placed, one-misplaced}
 use Rattle.model_check.proofs.all_placed.Statement.{statement}
 use Rattle.model_check.proofs.all_placed.Tie as tie
 
-all-among-requires : tie.Need-all-among-requires
-all-among-requires c κs = search needs
-
-all-among-requires-2 : tie.Need-all-among-requires-2
-all-among-requires-2 c κs = search needs
-
 returns : tie.Need-returns
 returns c =
     let a = c .before .before .before .before .args in
@@ -22,4 +16,4 @@ returns-2 c =
     one-misplaced (a .n) (a .count) (a .factor .now) (c .before .all-among .ensures) (c .if1 .left)
 
 pub all-placed-spec : {M : Type 1} → statement M
-all-placed-spec = tie.close (tie.spec all-among-requires all-among-requires-2 returns returns-2)
+all-placed-spec = tie.close (tie.spec (λ c κs. search needs) (λ c κs. search needs) returns returns-2)

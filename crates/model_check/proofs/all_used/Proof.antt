@@ -5,15 +5,6 @@ use Rattle.model_check.proofs.Used.{used-law}
 use Rattle.model_check.proofs.all_used.Statement.{statement}
 use Rattle.model_check.proofs.all_used.Tie as tie
 
-full-requires : tie.Need-full-requires
-full-requires c κs = search needs
-
-minus-requires : tie.Need-minus-requires
-minus-requires c κs = search needs
-
-first-requires : tie.Need-first-requires
-first-requires c κs = search needs
-
 returns : tie.Need-returns
 returns c =
     let m = c .before in
@@ -21,4 +12,4 @@ returns c =
     used-law (f .before .args .count) (f .before .args .used) (f .full .result) (m .minus .result) (c .first .result) (f .before .pre) (f .full .ensures .members) (m .minus .ensures .members) (c .first .ensures)
 
 pub all-used-spec : {M : Type 1} → statement M
-all-used-spec = tie.close (tie.spec full-requires minus-requires first-requires returns)
+all-used-spec = tie.close (tie.spec (λ c κs. search needs) (λ c κs. search needs) (λ c κs. search needs) returns)

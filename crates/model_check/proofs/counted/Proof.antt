@@ -5,9 +5,6 @@ use Rattle.model_check.proofs.Factors.{none-counted, factor-counted}
 use Rattle.model_check.proofs.counted.Statement.{statement}
 use Rattle.model_check.proofs.counted.Tie as tie
 
-add-result : tie.Need-add-result
-add-result c = search needs
-
 returns : tie.Need-returns
 returns c = none-counted _ (c .if1 .taken)
 
@@ -15,4 +12,4 @@ returns-2 : tie.Need-returns-2
 returns-2 c = factor-counted _ (c .if1 .left)
 
 pub counted-spec : {M : Type 1} → statement M
-counted-spec = tie.close (tie.spec add-result returns returns-2)
+counted-spec = tie.close (tie.spec (λ c. search needs) returns returns-2)

@@ -25,9 +25,6 @@ returns-3 c =
     let a = f .before .before .before .args in
     sym (too-many places (a .n) (a .count) (a .factor .now) (a .mode .now) (f .if1 .left) (g .if2 .left) (c .if3 .taken))
 
-all-placed-requires : tie.Need-all-placed-requires
-all-placed-requires c κs = search needs
-
 returns-4 : tie.Need-returns-4
 returns-4 c =
     let o = c .before .before in
@@ -35,12 +32,6 @@ returns-4 c =
     let f = g .before in
     let a = f .before .before .before .args in
     sym (misplaced places (a .n) (a .count) (a .factor .now) (a .mode .now) (f .if1 .left) (g .if2 .left) (o .if3 .left) (c .before .all-placed .ensures) (c .if4 .taken))
-
-used-factors-requires : tie.Need-used-factors-requires
-used-factors-requires c κs = search needs
-
-all-used-requires : tie.Need-all-used-requires
-all-used-requires c κs = search needs
 
 returns-5 : tie.Need-returns-5
 returns-5 c =
@@ -51,9 +42,6 @@ returns-5 c =
     let f = g .before in
     let a = f .before .before .before .args in
     sym (unnamed places (a .n) (a .count) (a .factor .now) (a .mode .now) (f .if1 .left) (g .if2 .left) (o .if3 .left) (p .before .all-placed .ensures) (p .if4 .left) (u .before .used-factors .ensures) (u .all-used .ensures) (c .if5 .taken))
-
-all-known-requires : tie.Need-all-known-requires
-all-known-requires c κs = search needs
 
 returns-6 : tie.Need-returns-6
 returns-6 c =
@@ -68,14 +56,5 @@ returns-6 c =
 pub rows-are-chain-spec : {M : Type 1} → statement M
 rows-are-chain-spec =
     tie.close
-    (tie.spec
-    returns
-    returns-2
-    returns-3
-    all-placed-requires
-    returns-4
-    used-factors-requires
-    all-used-requires
-    returns-5
-    all-known-requires
-    returns-6)
+    (tie.spec returns returns-2 returns-3 (λ c κs. search needs) returns-4 (λ c κs. search needs)
+    (λ c κs. search needs) returns-5 (λ c κs. search needs) returns-6)

@@ -26,26 +26,8 @@ Inv-loop n count factor end used₀ x₀ used x = (x ≤ end) × ((i : ℕ) → 
 abbrev μ-loop : tie.MeasureT-loop
 μ-loop n count factor end used₀ x₀ used x = end - x
 
-smaller-requires : tie.Need-smaller-requires Inv-loop μ-loop
-smaller-requires c κs = search needs
-
-empty-requires : tie.Need-empty-requires Inv-loop μ-loop
-empty-requires c κs = search needs
-
 loop-holds : tie.Need-loop-holds Inv-loop μ-loop
 loop-holds c = (omega arith, λ i h. c .empty .ensures .members i ∙ sym (any-start _))
-
-entry-requires : tie.Need-entry-requires Inv-loop μ-loop
-entry-requires c κs = search needs
-
-with-factor-requires : tie.Need-with-factor-requires Inv-loop μ-loop
-with-factor-requires c κs = search needs
-
-add-x : tie.Need-add-x Inv-loop μ-loop
-add-x c = search needs
-
-loop-less : tie.Need-loop-less Inv-loop μ-loop
-loop-less c = search needs
 
 loop-again : tie.Need-loop-again Inv-loop μ-loop
 loop-again c =
@@ -68,15 +50,5 @@ returns c =
 pub used-factors-spec : {M : Type 1} → statement M
 used-factors-spec =
     tie.close
-    (tie.spec
-    Inv-loop
-    μ-loop
-    smaller-requires
-    empty-requires
-    loop-holds
-    entry-requires
-    with-factor-requires
-    add-x
-    loop-less
-    loop-again
-    returns)
+    (tie.spec Inv-loop μ-loop (λ c κs. search needs) (λ c κs. search needs) loop-holds (λ c κs. search needs)
+    (λ c κs. search needs) (λ c. search needs) (λ c. search needs) loop-again returns)

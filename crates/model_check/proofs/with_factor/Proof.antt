@@ -9,9 +9,6 @@ use Rattle.nameset.specs.Set.{member}
 use Rattle.model_check.proofs.with_factor.Statement.{statement}
 use Rattle.model_check.proofs.with_factor.Tie as tie
 
-with-requires : tie.Need-with-requires
-with-requires c κs = search needs
-
 returns : tie.Need-returns
 returns c = λ i l. c .with .ensures .members i
 
@@ -21,4 +18,4 @@ returns-2 c =
     λ i l. sym (ap (λ (b : Bool). member (a .used) i || b) (ne-eqb (a .v) i (λ e. omega arith)) ∙ or-false _)
 
 pub with-factor-spec : {M : Type 1} → statement M
-with-factor-spec = tie.close (tie.spec with-requires returns returns-2)
+with-factor-spec = tie.close (tie.spec (λ c κs. search needs) returns returns-2)

@@ -13,11 +13,8 @@ use Rattle.name.proofs.class_in.Tie as tie
 at-byte : (table : List ℕ) (byte : ℕ) → table ≡ classTable → byte < 256 → getD table byte 0 ≡ classOf byte
 at-byte table byte e h = rw (e) (table-entry byte h)
 
-element-copy-out-result : tie.Need-element-copy-out-result
-element-copy-out-result c = search needs
-
 returns : tie.Need-returns
 returns c = at-byte _ _ (c .before .pre) (search needs)
 
 pub class-in-spec : {M : Type 1} → statement M
-class-in-spec = tie.close (tie.spec element-copy-out-result returns)
+class-in-spec = tie.close (tie.spec (λ c. search needs) returns)

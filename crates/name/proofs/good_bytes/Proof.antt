@@ -4,9 +4,6 @@ use borrow.Author.Needs.{needs}
 use Rattle.name.proofs.good_bytes.Statement.{statement}
 use Rattle.name.proofs.good_bytes.Tie as tie
 
-class-table-requires : tie.Need-class-table-requires
-class-table-requires c κs = search needs
-
 good-bytes-in-requires : tie.Need-good-bytes-in-requires
 good-bytes-in-requires c κs = c .before .class-table .ensures
 
@@ -14,4 +11,4 @@ returns : tie.Need-returns
 returns c = search needs
 
 pub good-bytes-spec : {M : Type 1} → statement M
-good-bytes-spec = tie.close (tie.spec class-table-requires good-bytes-in-requires returns)
+good-bytes-spec = tie.close (tie.spec (λ c κs. search needs) good-bytes-in-requires returns)

@@ -54,32 +54,14 @@ abbrev μ-loop : tie.MeasureT-loop
 returns : tie.Need-returns Inv-loop μ-loop
 returns c = sym (none _ (c .if1 .taken))
 
-shared-slice-read-class-in : tie.Need-shared-slice-read-class-in Inv-loop μ-loop
-shared-slice-read-class-in c = omega arith
-
-class-in-requires : tie.Need-class-in-requires Inv-loop μ-loop
-class-in-requires c κs = search needs
-
 returns-2 : tie.Need-returns-2 Inv-loop μ-loop
 returns-2 c = sym (bad-first _ _ (c .before .class-in .ensures) (c .if2 .taken))
 
 loop-holds : tie.Need-loop-holds Inv-loop μ-loop
 loop-holds c = (omega arith, first _ _ (omega arith) (c .before .class-in .ensures) (c .if2 .left))
 
-shared-slice-read-class-in-2 : tie.Need-shared-slice-read-class-in-2 Inv-loop μ-loop
-shared-slice-read-class-in-2 c = omega arith
-
-class-in-requires-2 : tie.Need-class-in-requires-2 Inv-loop μ-loop
-class-in-requires-2 c κs = search needs
-
 returns-3 : tie.Need-returns-3 Inv-loop μ-loop
 returns-3 c = let loop = c .before .before .before .before .loop in sym (loop .inv .1 ∙ stopped _ _ _ (omega arith) (c .before .class-in2 .ensures) (c .if3 .taken))
-
-add-i : tie.Need-add-i Inv-loop μ-loop
-add-i c = omega arith
-
-loop-less : tie.Need-loop-less Inv-loop μ-loop
-loop-less c = omega arith
 
 loop-again : tie.Need-loop-again Inv-loop μ-loop
 loop-again c = let loop = c .before .before .before .before .loop in (omega arith, loop .inv .1 ∙ passed _ _ _ (omega arith) (c .before .class-in2 .ensures) (c .if3 .left))
@@ -90,18 +72,5 @@ returns-4 c = sym (c .before .loop .inv .1 ∙ done _ _ (c .loop-test .left))
 pub good-bytes-in-spec : {M : Type 1} → statement M
 good-bytes-in-spec =
     tie.close
-    (tie.spec
-    Inv-loop
-    μ-loop
-    returns
-    shared-slice-read-class-in
-    class-in-requires
-    returns-2
-    loop-holds
-    shared-slice-read-class-in-2
-    class-in-requires-2
-    returns-3
-    add-i
-    loop-less
-    loop-again
-    returns-4)
+    (tie.spec Inv-loop μ-loop returns (λ c. omega arith) (λ c κs. search needs) returns-2 loop-holds
+    (λ c. omega arith) (λ c κs. search needs) returns-3 (λ c. omega arith) (λ c. omega arith) loop-again returns-4)

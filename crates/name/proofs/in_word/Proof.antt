@@ -5,11 +5,8 @@ use Rattle.name.proofs.Words.{class-word}
 use Rattle.name.proofs.in_word.Statement.{statement}
 use Rattle.name.proofs.in_word.Tie as tie
 
-class-in-requires : tie.Need-class-in-requires
-class-in-requires c κs = search needs
-
 returns : tie.Need-returns
 returns c = class-word _ _ (c .class-in .ensures)
 
 pub in-word-spec : {M : Type 1} → statement M
-in-word-spec = tie.close (tie.spec class-in-requires returns)
+in-word-spec = tie.close (tie.spec (λ c κs. search needs) returns)

@@ -13,12 +13,6 @@ second l g r e q = rw e q
 first : (l g : Bool) → l ≡ false → false ≡ (l && g)
 first l g e = rw e
 
-good-length-requires : tie.Need-good-length-requires
-good-length-requires c κs = search needs
-
-good-bytes-in-requires : tie.Need-good-bytes-in-requires
-good-bytes-in-requires c κs = search needs
-
 returns : tie.Need-returns
 unfolding isName
 returns c = second _ _ _ (sym (c .before .before .good-length .ensures) ∙ c .before .if1 .taken) (c .good-bytes-in .ensures)
@@ -28,4 +22,4 @@ unfolding isName
 returns-2 c = first _ _ (sym (c .before .good-length .ensures) ∙ c .if1 .left)
 
 pub is-name-spec : {M : Type 1} → statement M
-is-name-spec = tie.close (tie.spec good-length-requires good-bytes-in-requires returns returns-2)
+is-name-spec = tie.close (tie.spec (λ c κs. search needs) (λ c κs. search needs) returns returns-2)

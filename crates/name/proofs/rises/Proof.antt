@@ -13,17 +13,8 @@ use Rattle.name.proofs.rises.Lts as lts
 use Rattle.name.proofs.compare.Reads as compare-reads
 
 -- src/lib.rt:100:11
-compare-requires : tie.Need-compare-requires
-compare-requires c κs = search needs
-
 enum-told : tie.Need-enum-told
 enum-told c = search needs
-
-enum-told-2 : tie.Need-enum-told-2
-enum-told-2 c = search needs
-
-enum-told-3 : tie.Need-enum-told-3
-enum-told-3 c = search needs
 
 judged : (a b : List ℕ) (o p : Order) → o ≡ orderOf a b → o ≡ p → isBelow p ≡ rises a b
 unfolding rises
@@ -41,4 +32,4 @@ returns-3 c = judged _ _ _ _ (c .before .before .compare .ensures) (c .enum-told
 pub rises-spec : {M : Type 1} → statement M
 rises-spec =
     tie.close
-    (tie.spec compare-requires enum-told enum-told-2 enum-told-3 returns returns-2 returns-3)
+    (tie.spec (λ c κs. search needs) enum-told (λ c. search needs) (λ c. search needs) returns returns-2 returns-3)

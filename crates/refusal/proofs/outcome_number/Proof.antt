@@ -6,15 +6,6 @@ use Rattle.refusal.specs.Answer.{outcomeNumber}
 use Rattle.refusal.proofs.outcome_number.Statement.{statement}
 use Rattle.refusal.proofs.outcome_number.Tie as tie
 
-enum-told : tie.Need-enum-told
-enum-told c = search needs
-
-enum-known-outcome : tie.Need-enum-known-outcome
-enum-known-outcome c = search needs
-
-number-requires : tie.Need-number-requires
-number-requires c κs = search needs
-
 returns : tie.Need-returns
 returns c = search needs
 
@@ -23,10 +14,4 @@ returns-2 c = c .number .ensures ∙ sym (ap outcomeNumber (c .before .before .o
 
 pub outcome-number-spec : {M : Type 1} → statement M
 outcome-number-spec =
-    tie.close
-    (tie.spec
-    enum-told
-    enum-known-outcome
-    number-requires
-    returns
-    returns-2)
+    tie.close (tie.spec (λ c. search needs) (λ c. search needs) (λ c κs. search needs) returns returns-2)

@@ -22,15 +22,6 @@ loop-holds c = all-ahead _ _ (c .before .pre)
 block-at-place-requires : tie.Need-block-at-place-requires Inv-loop μ-loop
 block-at-place-requires c κs = next-block _ _ _ (c .before .loop .inv) (c .loop-test .taken) .fits
 
-print-block-requires : tie.Need-print-block-requires Inv-loop μ-loop
-print-block-requires c κs = search needs
-
-sub-left : tie.Need-sub-left Inv-loop μ-loop
-sub-left c = omega arith
-
-loop-less : tie.Need-loop-less Inv-loop μ-loop
-loop-less c = omega arith
-
 loop-again : tie.Need-loop-again Inv-loop μ-loop
 loop-again c =
     let b = c .before .before in
@@ -42,13 +33,5 @@ returns c = search needs
 pub print-blocks-spec : {M : Type 1} → statement M
 print-blocks-spec =
     tie.close
-    (tie.spec
-    Inv-loop
-    μ-loop
-    loop-holds
-    block-at-place-requires
-    print-block-requires
-    sub-left
-    loop-less
-    loop-again
-    returns)
+    (tie.spec Inv-loop μ-loop loop-holds block-at-place-requires (λ c κs. search needs) (λ c. omega arith)
+    (λ c. omega arith) loop-again returns)

@@ -18,38 +18,8 @@ Inv-loop stream at₀ at = at ≤ length stream
 abbrev μ-loop : tie.MeasureT-loop
 μ-loop stream at₀ at = length stream - at
 
-loop-holds : tie.Need-loop-holds Inv-loop μ-loop
-loop-holds c = omega arith
-
-field-end-requires : tie.Need-field-end-requires Inv-loop μ-loop
-field-end-requires c κs = search needs
-
-field-end-requires-2 : tie.Need-field-end-requires-2 Inv-loop μ-loop
-field-end-requires-2 c κs = search needs
-
-field-end-requires-3 : tie.Need-field-end-requires-3 Inv-loop μ-loop
-field-end-requires-3 c κs = search needs
-
-field-requires : tie.Need-field-requires Inv-loop μ-loop
-field-requires c κs = omega arith
-
-field-requires-2 : tie.Need-field-requires-2 Inv-loop μ-loop
-field-requires-2 c κs = omega arith
-
-field-requires-3 : tie.Need-field-requires-3 Inv-loop μ-loop
-field-requires-3 c κs = omega arith
-
-print-case-requires : tie.Need-print-case-requires Inv-loop μ-loop
-print-case-requires c κs = search needs
-
 returns : tie.Need-returns Inv-loop μ-loop
 returns c = search needs
-
-loop-less : tie.Need-loop-less Inv-loop μ-loop
-loop-less c = omega arith
-
-loop-again : tie.Need-loop-again Inv-loop μ-loop
-loop-again c = omega arith
 
 returns-2 : tie.Need-returns-2 Inv-loop μ-loop
 returns-2 c = search needs
@@ -57,18 +27,6 @@ returns-2 c = search needs
 pub run-spec : {M : Type 1} → statement M
 run-spec =
     tie.close
-    (tie.spec
-    Inv-loop
-    μ-loop
-    loop-holds
-    field-end-requires
-    field-end-requires-2
-    field-end-requires-3
-    field-requires
-    field-requires-2
-    field-requires-3
-    print-case-requires
-    returns
-    loop-less
-    loop-again
-    returns-2)
+    (tie.spec Inv-loop μ-loop (λ c. omega arith) (λ c κs. search needs) (λ c κs. search needs) (λ c κs. search needs)
+    (λ c κs. omega arith) (λ c κs. omega arith) (λ c κs. omega arith) (λ c κs. search needs) returns
+    (λ c. omega arith) (λ c. omega arith) returns-2)

@@ -5,17 +5,11 @@ use Rattle.book.proofs.Laws.{laid-out}
 use Rattle.test_follow.proofs.print_book.Statement.{statement}
 use Rattle.test_follow.proofs.print_book.Tie as tie
 
-read-book-requires : tie.Need-read-book-requires
-read-book-requires c κs = search needs
-
 enum-told : tie.Need-enum-told
 enum-told c = search needs
 
 print-parents-requires : tie.Need-print-parents-requires
 print-parents-requires c κs = laid-out _ _ (c .before .before .before .read-book .ensures) (c .enum-told .given .1)
-
-enum-told-2 : tie.Need-enum-told-2
-enum-told-2 c = search needs
 
 returns : tie.Need-returns
 returns c = search needs
@@ -25,4 +19,4 @@ returns-2 c = search needs
 
 pub print-book-spec : {M : Type 1} → statement M
 print-book-spec =
-    tie.close (tie.spec read-book-requires enum-told print-parents-requires enum-told-2 returns returns-2)
+    tie.close (tie.spec (λ c κs. search needs) enum-told print-parents-requires (λ c. search needs) returns returns-2)

@@ -6,9 +6,6 @@ use Rattle.book.specs.Book.{allBelow}
 use Rattle.test_follow.proofs.with_pair.Statement.{statement}
 use Rattle.test_follow.proofs.with_pair.Tie as tie
 
-slice-aggregate-after-word : tie.Need-slice-aggregate-after-word
-slice-aggregate-after-word c = search needs
-
 after-word-requires : tie.Need-after-word-requires
 unfolding allBelow
 after-word-requires c κs = refl
@@ -17,4 +14,4 @@ returns : tie.Need-returns
 returns c = search needs
 
 pub with-pair-spec : {M : Type 1} → statement M
-with-pair-spec = tie.close (tie.spec slice-aggregate-after-word after-word-requires returns)
+with-pair-spec = tie.close (tie.spec (λ c. search needs) after-word-requires returns)

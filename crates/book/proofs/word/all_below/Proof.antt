@@ -33,14 +33,8 @@ below n (x ∷ s) h = both-below n x (largest s) ∙ ap (λ (b : Bool). ltb x n 
 judged : (n : ℕ) (s : List ℕ) (top : ℕ) → 0 < n → top ≡ largest s → ltb top n ≡ allBelow n s
 judged n s top h e = ap (λ (x : ℕ). ltb x n) e ∙ below n s h
 
-largest-from-requires : tie.Need-largest-from-requires
-largest-from-requires c κs = search needs
-
-wide-requires : tie.Need-wide-requires
-wide-requires c κs = search needs
-
 returns : tie.Need-returns
 returns c = judged _ _ _ (c .before .before .before .pre) (c .wide .ensures .0 ∙ c .before .largest-from .ensures)
 
 pub all-below-spec : {M : Type 1} → statement M
-all-below-spec = tie.close (tie.spec largest-from-requires wide-requires returns)
+all-below-spec = tie.close (tie.spec (λ c κs. search needs) (λ c κs. search needs) returns)

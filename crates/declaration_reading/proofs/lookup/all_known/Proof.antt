@@ -20,9 +20,6 @@ abbrev μ-loop : tie.MeasureT-loop
 loop-holds : tie.Need-loop-holds Inv-loop μ-loop
 loop-holds c = (omega arith, refl)
 
-piece-at-requires : tie.Need-piece-at-requires Inv-loop μ-loop
-piece-at-requires c κs = omega arith
-
 number-at-requires : tie.Need-number-at-requires Inv-loop μ-loop
 number-at-requires c κs = (c .before .before .before .before .before .pre .0, in-order _ _ _ (c .piece-at .ensures .0), c .piece-at .ensures .1)
 
@@ -49,13 +46,5 @@ returns-2 c = known-over _ _ _ (c .loop-test .left) ∙ sym (c .before .loop .in
 pub all-known-spec : {M : Type 1} → statement M
 all-known-spec =
     tie.close
-    (tie.spec
-    Inv-loop
-    μ-loop
-    loop-holds
-    piece-at-requires
-    number-at-requires
-    returns
-    loop-less
-    loop-again
+    (tie.spec Inv-loop μ-loop loop-holds (λ c κs. omega arith) number-at-requires returns loop-less loop-again
     returns-2)

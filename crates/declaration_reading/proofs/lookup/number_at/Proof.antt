@@ -9,15 +9,6 @@ use Rattle.declaration_reading.proofs.lookup.number_at.Tie as tie
 returns : tie.Need-returns
 returns c = (number-sign _ _ _ (c .if1 .taken), omega arith)
 
-part-requires : tie.Need-part-requires
-part-requires c κs = search needs
-
-find-name-requires : tie.Need-find-name-requires
-find-name-requires c κs = search needs
-
-enum-known-x : tie.Need-enum-known-x
-enum-known-x c = search needs
-
 enum-told : tie.Need-enum-told
 enum-told c = search needs
 
@@ -30,4 +21,4 @@ returns-3 c = number-none _ _ (c .before .before .before .before .before .before
 pub number-at-spec : {M : Type 1} → statement M
 number-at-spec =
     tie.close
-    (tie.spec returns part-requires find-name-requires enum-known-x enum-told returns-2 returns-3)
+    (tie.spec returns (λ c κs. search needs) (λ c κs. search needs) (λ c. search needs) enum-told returns-2 returns-3)

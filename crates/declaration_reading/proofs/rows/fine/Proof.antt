@@ -12,8 +12,4 @@ returns-2 : tie.Need-returns-2
 returns-2 c = search needs
 
 pub fine-spec : {M : Type 1} → statement M
-fine-spec =
-    tie.close
-    (tie.spec
-    returns
-    returns-2)
+fine-spec = tie.close (tie.spec returns returns-2)

@@ -31,10 +31,4 @@ returns-4 : tie.Need-returns-4
 returns-4 c = mode-none _ (c .match .rest .0 .0 .1) (c .match .rest .0 .1) (c .match .rest .1)
 
 pub mode-of-spec : {M : Type 1} → statement M
-mode-of-spec =
-    tie.close
-    (tie.spec
-    returns
-    returns-2
-    returns-3
-    returns-4)
+mode-of-spec = tie.close (tie.spec returns returns-2 returns-3 returns-4)

@@ -5,9 +5,6 @@ use borrow.Author.Needs.{needs}
 use Rattle.declaration_reading.proofs.rows.next_index.Statement.{statement}
 use Rattle.declaration_reading.proofs.rows.next_index.Tie as tie
 
-add-result : tie.Need-add-result
-add-result c = search needs
-
 returns : tie.Need-returns
 returns c = index-comma _ _ (c .if1 .taken)
 
@@ -15,9 +12,4 @@ returns-2 : tie.Need-returns-2
 returns-2 c = index-kept _ _ (c .if1 .left)
 
 pub next-index-spec : {M : Type 1} → statement M
-next-index-spec =
-    tie.close
-    (tie.spec
-    add-result
-    returns
-    returns-2)
+next-index-spec = tie.close (tie.spec (λ c. search needs) returns returns-2)

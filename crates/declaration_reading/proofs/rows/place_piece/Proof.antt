@@ -8,14 +8,8 @@ use Rattle.declaration_reading.proofs.rows.place_piece.Tie as tie
 returns : tie.Need-returns
 returns c = free-sign _ _ _ _ (c .if1 .taken)
 
-place-name-requires : tie.Need-place-name-requires
-place-name-requires c κs = search needs
-
-same-length : tie.Need-same-length
-same-length c = search needs
-
 returns-2 : tie.Need-returns-2
 returns-2 c = free-word _ _ _ _ _ _ (c .before .before .before .before .if1 .left) (c .before .before .place-name .ensures)
 
 pub place-piece-spec : {M : Type 1} → statement M
-place-piece-spec = tie.close (tie.spec returns place-name-requires same-length returns-2)
+place-piece-spec = tie.close (tie.spec returns (λ c κs. search needs) (λ c. search needs) returns-2)

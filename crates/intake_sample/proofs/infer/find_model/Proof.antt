@@ -6,23 +6,11 @@ use Rattle.intake_sample.proofs.Inferring.{stopped-book, stopped-parent
 use Rattle.intake_sample.proofs.infer.find_model.Statement.{statement}
 use Rattle.intake_sample.proofs.infer.find_model.Tie as tie
 
-take-book-requires : tie.Need-take-book-requires
-take-book-requires c κs = search needs
-
-enum-known-outcome : tie.Need-enum-known-outcome
-enum-known-outcome c = search needs
-
-stopped-requires : tie.Need-stopped-requires
-stopped-requires c κs = search needs
-
 returns : tie.Need-returns
 returns c = stopped-book _ _ _ (c .before .before .before .before .take-book .ensures) _ _ (c .before .before .outcome .given .1) (c .stopped .ensures)
 
 enum-told : tie.Need-enum-told
 enum-told c = search needs
-
-stopped-requires-2 : tie.Need-stopped-requires-2
-stopped-requires-2 c κs = search needs
 
 returns-2 : tie.Need-returns-2
 returns-2 c =
@@ -33,9 +21,6 @@ sample-chain-requires : tie.Need-sample-chain-requires
 sample-chain-requires c κs =
     let book = c .before .before .before in
     laid _ _ (book .before .before .take-book .ensures) (book .enum-told .given .1)
-
-stopped-requires-3 : tie.Need-stopped-requires-3
-stopped-requires-3 c κs = search needs
 
 returns-3 : tie.Need-returns-3
 returns-3 c =
@@ -54,15 +39,5 @@ returns-4 c =
 pub find-model-spec : {M : Type 1} → statement M
 find-model-spec =
     tie.close
-    (tie.spec
-    take-book-requires
-    enum-known-outcome
-    stopped-requires
-    returns
-    enum-told
-    stopped-requires-2
-    returns-2
-    sample-chain-requires
-    stopped-requires-3
-    returns-3
-    returns-4)
+    (tie.spec (λ c κs. search needs) (λ c. search needs) (λ c κs. search needs) returns enum-told
+    (λ c κs. search needs) returns-2 sample-chain-requires (λ c κs. search needs) returns-3 returns-4)

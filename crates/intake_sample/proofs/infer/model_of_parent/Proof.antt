@@ -5,11 +5,8 @@ use Rattle.intake_sample.proofs.Inferring.{without-layout}
 use Rattle.intake_sample.proofs.infer.model_of_parent.Statement.{statement}
 use Rattle.intake_sample.proofs.infer.model_of_parent.Tie as tie
 
-find-model-requires : tie.Need-find-model-requires
-find-model-requires c κs = search needs
-
 returns : tie.Need-returns
 returns c = without-layout _ _ _ (c .before .find-model .ensures)
 
 pub model-of-parent-spec : {M : Type 1} → statement M
-model-of-parent-spec = tie.close (tie.spec find-model-requires returns)
+model-of-parent-spec = tie.close (tie.spec (λ c κs. search needs) returns)

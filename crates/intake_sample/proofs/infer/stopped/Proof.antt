@@ -8,12 +8,9 @@ use Rattle.intake_sample.specs.Inference.{inferredIn}
 use Rattle.intake_sample.proofs.infer.stopped.Statement.{statement}
 use Rattle.intake_sample.proofs.infer.stopped.Tie as tie
 
-empty-requires : tie.Need-empty-requires
-empty-requires c κs = search needs
-
 returns : tie.Need-returns
 unfolding inferredIn
 returns c = ap (λ (m : Model). record { outcome = Refused (c .before .before .args .refusal); layout = c .before .before .args .reading .layout; model = m }) (c .empty .ensures)
 
 pub stopped-spec : {M : Type 1} → statement M
-stopped-spec = tie.close (tie.spec empty-requires returns)
+stopped-spec = tie.close (tie.spec (λ c κs. search needs) returns)

@@ -5,15 +5,6 @@ use Rattle.intake_sample.proofs.Writing.{stopped-model, chain-writable,
 use Rattle.intake_sample.proofs.write.write_from_sample.Statement.{statement}
 use Rattle.intake_sample.proofs.write.write_from_sample.Tie as tie
 
-find-model-requires : tie.Need-find-model-requires
-find-model-requires c κs = search needs
-
-enum-known-outcome : tie.Need-enum-known-outcome
-enum-known-outcome c = search needs
-
-refused-requires : tie.Need-refused-requires
-refused-requires c κs = search needs
-
 returns : tie.Need-returns
 returns c = stopped-model _ _ _ (c .before .before .before .before .find-model .ensures) _ _ _ (c .before .before .outcome .given .1) (c .refused .ensures)
 
@@ -25,9 +16,6 @@ write-chain-requires c κs =
     let found = c .before .before .before in
     chain-writable _ _ _ (found .before .before .find-model .ensures) (found .enum-told .given .1)
 
-same-length : tie.Need-same-length
-same-length c = search needs
-
 returns-2 : tie.Need-returns-2
 returns-2 c =
     let found = c .before .before .before .before .before .before in
@@ -36,12 +24,5 @@ returns-2 c =
 pub write-from-sample-spec : {M : Type 1} → statement M
 write-from-sample-spec =
     tie.close
-    (tie.spec
-    find-model-requires
-    enum-known-outcome
-    refused-requires
-    returns
-    enum-told
-    write-chain-requires
-    same-length
-    returns-2)
+    (tie.spec (λ c κs. search needs) (λ c. search needs) (λ c κs. search needs) returns enum-told write-chain-requires
+    (λ c. search needs) returns-2)

@@ -15,17 +15,8 @@ Inv-loop self mode count own factor₀ left₀ factor left = Entered left₀ lef
 abbrev μ-loop : tie.MeasureT-loop
 μ-loop self mode count own factor₀ left₀ factor left = size left
 
-cast-own : tie.Need-cast-own Inv-loop μ-loop
-cast-own c = search needs
-
 loop-holds : tie.Need-loop-holds Inv-loop μ-loop
 loop-holds c = enter-none _ _ _ (search needs)
-
-is-empty-requires : tie.Need-is-empty-requires Inv-loop μ-loop
-is-empty-requires c κs = search needs
-
-first-requires : tie.Need-first-requires Inv-loop μ-loop
-first-requires c κs = search needs
 
 -- a turn has a name left, the smallest of which is a place
 some-left : (c : tie.Then1 Inv-loop μ-loop) → isEmpty (c .before .before .loop .left) ≡ false
@@ -33,9 +24,6 @@ some-left c = sym (c .before .is-empty .ensures .same) ∙ not-true (c .before .
 
 array-write-factor : tie.Need-array-write-factor Inv-loop μ-loop
 array-write-factor c = c .first .ensures .found (some-left (c .before)) .0
-
-rest-requires : tie.Need-rest-requires Inv-loop μ-loop
-rest-requires c κs = search needs
 
 loop-less : tie.Need-loop-less Inv-loop μ-loop
 loop-less c = c .rest .ensures .smaller (some-left (c .before .before))
@@ -45,12 +33,6 @@ loop-again c =
     let found = c .before .first .ensures .found (some-left (c .before .before)) in
     enter-more (c .before .before .before .before .loop .inv) _ _ (c .before .first .ensures .same) (found .0) (found .1) (c .rest .ensures .members)
 
-array-write-modes : tie.Need-array-write-modes Inv-loop μ-loop
-array-write-modes c = search needs
-
-add-t16 : tie.Need-add-t16 Inv-loop μ-loop
-add-t16 c = search needs
-
 returns : tie.Need-returns Inv-loop μ-loop
 returns c =
     built _ _ _ _ _ refl
@@ -59,17 +41,5 @@ returns c =
 pub with-factor-spec : {M : Type 1} → statement M
 with-factor-spec =
     tie.close
-    (tie.spec
-    Inv-loop
-    μ-loop
-    cast-own
-    loop-holds
-    is-empty-requires
-    first-requires
-    array-write-factor
-    rest-requires
-    loop-less
-    loop-again
-    array-write-modes
-    add-t16
-    returns)
+    (tie.spec Inv-loop μ-loop (λ c. search needs) loop-holds (λ c κs. search needs) (λ c κs. search needs)
+    array-write-factor (λ c κs. search needs) loop-less loop-again (λ c. search needs) (λ c. search needs) returns)

@@ -6,12 +6,9 @@ use Rattle.nameset.specs.Set.{member}
 use Rattle.nameset.proofs.NameSet.has.Statement.{statement}
 use Rattle.nameset.proofs.NameSet.has.Tie as tie
 
-shr-result : tie.Need-shr-result
-shr-result c = search needs
-
 returns : tie.Need-returns
 unfolding member
 returns c = refl
 
 pub has-spec : {M : Type 1} → statement M
-has-spec = tie.close (tie.spec shr-result returns)
+has-spec = tie.close (tie.spec (λ c. search needs) returns)

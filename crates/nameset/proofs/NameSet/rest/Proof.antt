@@ -19,9 +19,6 @@ less-one (suc n) w h e = ap (bitAnd (suc n)) (omega arith)
 lowered : (s : NameSet) (w : ℕ) → Sized s → w < 2 ^ 64 → (w + 1) % 2 ^ 64 ≡ s .bits → record { bits = bitAnd (s .bits) w } ≡ rest s
 lowered s w hs hw e = ap (λ (n : ℕ). record { bits = n }) (less-one (s .bits) w hw e ∙ sym (rest-bits s hs))
 
-wrapping-sub-u64-requires : tie.Need-wrapping-sub-u64-requires
-wrapping-sub-u64-requires c κs = search needs
-
 returns : tie.Need-returns
 returns c =
     let call = c .before .wrapping-sub-u64 in
@@ -30,4 +27,4 @@ returns c =
     record { same = e; members = λ j. rw e (member-rest _ j); smaller = λ n. rw e (rest-smaller _ sized n) }
 
 pub rest-spec : {M : Type 1} → statement M
-rest-spec = tie.close (tie.spec wrapping-sub-u64-requires returns)
+rest-spec = tie.close (tie.spec (λ c κs. search needs) returns)

@@ -19,11 +19,8 @@ shifted : (s : NameSet) (i : ℕ) → i < capacity → record { bits = bitOr (s 
 unfolding with
 shifted s i h = ap (λ (n : ℕ). record { bits = bitOr (s .bits) n }) (shl-exact 1 i 64 (lit< tt) (omega arith) ∙ one-mul (2 ^ i))
 
-shl-t4 : tie.Need-shl-t4
-shl-t4 c = search needs
-
 returns : tie.Need-returns
 returns c = let e = shifted (c .before .args .self) (c .before .args .i) (search needs) in record { same = e; members = λ j. rw e (member-with _ _ j) }
 
 pub with-spec : {M : Type 1} → statement M
-with-spec = tie.close (tie.spec shl-t4 returns)
+with-spec = tie.close (tie.spec (λ c. search needs) returns)

@@ -7,18 +7,9 @@ use Rattle.nameset.specs.Rows.{putRow}
 use Rattle.nameset.proofs.row.put_row.Statement.{statement}
 use Rattle.nameset.proofs.row.put_row.Tie as tie
 
-mul-rows : tie.Need-mul-rows
-mul-rows c = search needs
-
-slice-write-rows : tie.Need-slice-write-rows
-slice-write-rows c = search needs
-
-same-length : tie.Need-same-length
-same-length c = search needs
-
 returns : tie.Need-returns
 unfolding putRow
 returns c = (refl, simp length-set)
 
 pub put-row-spec : {M : Type 1} → statement M
-put-row-spec = tie.close (tie.spec mul-rows slice-write-rows same-length returns)
+put-row-spec = tie.close (tie.spec (λ c. search needs) (λ c. search needs) (λ c. search needs) returns)

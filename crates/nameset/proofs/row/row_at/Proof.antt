@@ -6,15 +6,9 @@ use Rattle.nameset.specs.Rows.{rowAt}
 use Rattle.nameset.proofs.row.row_at.Statement.{statement}
 use Rattle.nameset.proofs.row.row_at.Tie as tie
 
-mul-word : tie.Need-mul-word
-mul-word c = search needs
-
-shared-slice-read-word : tie.Need-shared-slice-read-word
-shared-slice-read-word c = search needs
-
 returns : tie.Need-returns
 unfolding rowAt
 returns c = refl
 
 pub row-at-spec : {M : Type 1} → statement M
-row-at-spec = tie.close (tie.spec mul-word shared-slice-read-word returns)
+row-at-spec = tie.close (tie.spec (λ c. search needs) (λ c. search needs) returns)
