@@ -9,7 +9,6 @@ use nameset::PLACES;
 use refusal::Outcome;
 use refusal::Refusal;
 ghost use mathlib.Core.Path.{_≡_};
-ghost use Rattle.book.specs.Book.{bookOf};
 ghost use Rattle.book.specs.Layout.{readingOf, noReading};
 ghost use Rattle.book.specs.Taken.{takenBook};
 
@@ -30,9 +29,10 @@ fn refused(refusal: Refusal) -> Reading
     }
 }
 
-// Reads a book of any bytes whatever, from its first byte to its last.
-pub fn read_book(bytes: &[u8]) -> Reading
-    ensures { λ r. ⌜ r ≡ readingOf (bookOf (now (bytes .entry))) ⌝ }
+// The book as every call takes it, of any bytes whatever: read from its first byte to its last, then checked as a whole.
+// All that there is to check is checked while it is read.
+pub fn take_book(bytes: &[u8]) -> Reading
+    ensures { λ r. ⌜ r ≡ readingOf (takenBook (now (bytes .entry))) ⌝ }
 {
     if LONGEST < bytes.len() {
         return refused(Refusal::BookTooLong);
@@ -56,11 +56,4 @@ pub fn read_book(bytes: &[u8]) -> Reading
         },
         BlockCount::Stopped(refusal) => refused(refusal),
     }
-}
-
-// The book as every call takes it: read, then checked as a whole. There is nothing to check but what reading does.
-pub fn take_book(bytes: &[u8]) -> Reading
-    ensures { λ r. ⌜ r ≡ readingOf (takenBook (now (bytes .entry))) ⌝ }
-{
-    read_book(bytes)
 }

@@ -16,9 +16,9 @@ use Rattle.model.specs.declared.Turn.the-variants.{Take, Leave, Refuse}
 use Rattle.model.specs.declared.Moved.the-variants.{To}
 use Rattle.model.specs.Record.{factorOf, modeOf}
 use Rattle.model.specs.Accept.{Many, Part, Joined, none, part, Accepts}
-use Rattle.model.specs.Run.{either, turnOf, state, after, goesTo, move, run, mayEnd, accepts}
+use Rattle.model.specs.Run.{either, turnOf, state, after, goesTo, wentTo, move, run, mayEnd, accepts}
 use Rattle.model.proofs.Tests.{never}
-use Rattle.model.proofs.Turns.{leave≢take, refuse≢take, take≢leave, refuse≢leave, goes-turn, goes-past}
+use Rattle.model.proofs.Turns.{leave≢take, refuse≢take, take≢leave, refuse≢leave, turn-take, goes-turn, goes-past}
 use Rattle.model.proofs.Words.{run-nowhere}
 
 -- From factor i, of which a name was taken or not, the word w leads to the end.
@@ -41,18 +41,6 @@ turn-leave (suc (suc zero)) t true e = absurd (take≢leave e)
 turn-leave (suc (suc (suc zero))) t true e = refl
 turn-leave (suc (suc (suc (suc f)))) t true e = e
 
--- A factor takes names of its own only.
-turn-take : (f : ℕ) (t : Bool) → turnOf f t false ≡ Take → ⊥
-unfolding turnOf either
-turn-take zero true e = leave≢take e
-turn-take zero false e = refuse≢take e
-turn-take (suc zero) true e = leave≢take e
-turn-take (suc zero) false e = leave≢take e
-turn-take (suc (suc zero)) true e = leave≢take e
-turn-take (suc (suc zero)) false e = refuse≢take e
-turn-take (suc (suc (suc zero))) t e = leave≢take e
-turn-take (suc (suc (suc (suc f)))) t e = refuse≢take e
-
 -- ---- the test and the turns
 
 -- Whether w leads to the end from factor i, by the test.
@@ -74,7 +62,7 @@ module _ (m : Model) (i : ℕ) (t : Bool) where
   -- factor, or the word is not accepted.
   pub goes-name : (x : ℕ) (w : List ℕ) (u : Turn) → i < m .count → turnOf (modeOf m i) t (eqb (factorOf m x) i) ≡ u
       → Goes m i t (x ∷ w) ≡ after u (Goes m i true w) (Goes m (suc i) false (x ∷ w))
-  unfolding run move after mayEnd
+  unfolding run move wentTo after mayEnd
   goes-name x w Take l e = go (eqb (factorOf m x) i) refl
     where
       go : (h : Bool) → eqb (factorOf m x) i ≡ h → Goes m i t (x ∷ w) ≡ Goes m i true w
@@ -92,7 +80,7 @@ module _ (m : Model) (i : ℕ) (t : Bool) where
 
   -- Behind the last factor no name is accepted.
   pub past-name : (x : ℕ) (w : List ℕ) → i ≡ m .count → Goes m i t (x ∷ w) ≡ false
-  unfolding run move mayEnd
+  unfolding run move wentTo mayEnd
   past-name x w e = rw (goes-past (m .mode) (m .count) i t (factorOf m x) false (omega arith), run-nowhere m w)
 
 found : (m : Model) (w : List ℕ) (left i : ℕ) (t : Bool) → i + left ≡ m .count → Goes m i t w ≡ true → Run m i t w

@@ -49,9 +49,13 @@ goesFrom modes own through (suc left) s =
 unfoldable pub goesTo : ℕ → List ℕ → ℕ → Bool → State → Bool
 goesTo count modes own through s = goesFrom modes own through (count - s .factor) s
 
+-- Where a run is if it went to factor `own`, which has taken a name then.
+unfoldable pub wentTo : Bool → ℕ → Moved
+wentTo there own = cond there (To (state own true)) Nowhere
+
 -- One more name x: some factor has to take it, the one that holds it.
 unfoldable pub move : Model → Moved → ℕ → Moved
-move m (To s) x = cond (goesTo (m .count) (m .mode) (factorOf m x) false s) (To (state (factorOf m x) true)) Nowhere
+move m (To s) x = wentTo (goesTo (m .count) (m .mode) (factorOf m x) false s) (factorOf m x)
 move m Nowhere x = Nowhere
 
 -- All names of w.

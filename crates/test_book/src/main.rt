@@ -48,7 +48,7 @@ fn print_head(label: &[u8], refusal: u8, names: usize, blocks: usize) {
 }
 
 fn print_case(label: &[u8], bytes: &[u8], text: &[u8]) {
-    let reading = book_reading::read_book(bytes);
+    let reading = book_reading::take_book(bytes);
     let outcome = reading.outcome;
     let layout = reading.layout;
     print_head(

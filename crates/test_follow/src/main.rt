@@ -66,7 +66,7 @@ fn print_parents(bytes: &[u8], layout: Layout)
 }
 
 fn print_book(bytes: &[u8]) {
-    let reading = book_reading::read_book(bytes);
+    let reading = book_reading::take_book(bytes);
     let outcome = reading.outcome;
     let layout = reading.layout;
     if let Outcome::Done = outcome {

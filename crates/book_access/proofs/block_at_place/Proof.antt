@@ -4,9 +4,6 @@ use Rattle.book.specs.Access.{blockPlace}
 use borrow.Author.Needs.{needs}
 use Rattle.book_access.proofs.block_at_place.Statement.{statement}
 use Rattle.book_access.proofs.block_at_place.Tie as tie
-use Rattle.book_access.proofs.block_at_place.Reads as reads
-use Rattle.book_access.proofs.block_at_place.Lts as lts
-use Rattle.book.proofs.wide.Reads as wide-reads
 
 returns : tie.Need-returns
 unfolding blockPlace

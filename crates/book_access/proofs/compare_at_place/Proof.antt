@@ -4,10 +4,6 @@ use mathlib.Core.Path.{_∙_}
 use borrow.Author.Needs.{needs}
 use Rattle.book_access.proofs.compare_at_place.Statement.{statement}
 use Rattle.book_access.proofs.compare_at_place.Tie as tie
-use Rattle.book_access.proofs.compare_at_place.Reads as reads
-use Rattle.book_access.proofs.compare_at_place.Lts as lts
-use Rattle.book_access.proofs.name_at_place.Reads as name-at-place-reads
-use Rattle.name.proofs.compare.Reads as compare-reads
 
 returns : tie.Need-returns
 returns c = c .compare .ensures ∙ rw (c .before .name-at-place .ensures)

@@ -17,9 +17,6 @@ use Rattle.book.specs.declared.Found.the-variants.{At, Nothing}
 use Rattle.book.specs.Access.{LaidOut, numberIn}
 use Rattle.book_access.proofs.find_name.Statement.{statement}
 use Rattle.book_access.proofs.find_name.Tie as tie
-use Rattle.book_access.proofs.find_name.Reads as reads
-use Rattle.book_access.proofs.find_name.Lts as lts
-use Rattle.book_access.proofs.compare_at_place.Reads as compare-at-place-reads
 
 module _ (s : List ℕ) (l : Layout) (laid : LaidOut s l) (text : List ℕ) where
   among : (i : ℕ) → i < l .names → i < length (namesIn s)

@@ -8,10 +8,6 @@ use lib.ListN.{take, drop}
 use borrow.Author.Needs.{needs}
 use Rattle.book_access.proofs.name_at_place.Statement.{statement}
 use Rattle.book_access.proofs.name_at_place.Tie as tie
-use Rattle.book_access.proofs.name_at_place.Reads as reads
-use Rattle.book_access.proofs.name_at_place.Lts as lts
-use Rattle.book.proofs.part.Reads as part-reads
-use Rattle.book.proofs.wide.Reads as wide-reads
 
 sized : (s : List ℕ) (at size n : ℕ) → size ≡ n → take (at + 1 + size - (at + 1)) (drop (at + 1) s) ≡ take n (drop (at + 1) s)
 sized s at size n e = let d : at + 1 + size - (at + 1) ≡ n = omega arith in rw d

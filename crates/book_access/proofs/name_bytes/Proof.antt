@@ -6,9 +6,6 @@ use Rattle.book.proofs.Laws.{few-names, name-laid}
 use borrow.Author.Needs.{needs}
 use Rattle.book_access.proofs.name_bytes.Statement.{statement}
 use Rattle.book_access.proofs.name_bytes.Tie as tie
-use Rattle.book_access.proofs.name_bytes.Reads as reads
-use Rattle.book_access.proofs.name_bytes.Lts as lts
-use Rattle.book_access.proofs.name_at_place.Reads as name-at-place-reads
 
 mul-at : tie.Need-mul-at
 mul-at c = let p = c .before .before .pre in omega (arith, few-names _ _ (p .0), p .1)

@@ -20,11 +20,6 @@ use Rattle.book_blocks.specs.Tables.{blockStep}
 use borrow.Author.Needs.{needs}
 use Rattle.book_blocks.proofs.block_at.Statement.{statement}
 use Rattle.book_blocks.proofs.block_at.Tie as tie
-use Rattle.book_blocks.proofs.block_at.Reads as reads
-use Rattle.book_blocks.proofs.block_at.Lts as lts
-use Rattle.book.proofs.all_below.Reads as all-below-reads
-use Rattle.book.proofs.part.Reads as part-reads
-use Rattle.book.proofs.wide.Reads as wide-reads
 
 module _ (s : List ℕ) (n at : ℕ) where
   no-parent : length s ≤ at → Stopped BytesMissing ≡ blockStep (blockOf n (drop at s))

@@ -22,10 +22,6 @@ use Rattle.book_blocks.proofs.Steps.{behind-blocks}
 use borrow.Author.Needs.{needs}
 use Rattle.book_blocks.proofs.block_section.Statement.{statement}
 use Rattle.book_blocks.proofs.block_section.Tie as tie
-use Rattle.book_blocks.proofs.block_section.Reads as reads
-use Rattle.book_blocks.proofs.block_section.Lts as lts
-use Rattle.book_blocks.proofs.read_blocks.Reads as read-blocks-reads
-use Rattle.book.proofs.count_at.Reads as count-at-reads
 
 module _ (s : List ℕ) (n at : ℕ) where
   missing : at ≤ length s → length s - at < countSize → Stopped BytesMissing ≡ blockCount (blockSection n (drop at s))

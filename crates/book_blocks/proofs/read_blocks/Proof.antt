@@ -16,9 +16,6 @@ use Rattle.book_blocks.specs.Tables.{blocksEnd, behindBlocks}
 use Rattle.book_blocks.proofs.Steps.{BlockRead, block-read, block-stopped}
 use Rattle.book_blocks.proofs.read_blocks.Statement.{statement}
 use Rattle.book_blocks.proofs.read_blocks.Tie as tie
-use Rattle.book_blocks.proofs.read_blocks.Reads as reads
-use Rattle.book_blocks.proofs.read_blocks.Lts as lts
-use Rattle.book_blocks.proofs.block_at.Reads as block-at-reads
 
 one-more : (at : ℕ) (b : Block) (a : Answer (Field (List Block))) →
     blocksEnd at (onward a (λ others. given (field (b ∷ others .value) (others .rest)))) ≡ blocksEnd (at + headSize + length (b .word)) a

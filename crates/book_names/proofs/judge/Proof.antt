@@ -13,10 +13,6 @@ use Rattle.book_names.specs.Tables.{nameStep, judgedName}
 use borrow.Author.Needs.{needs}
 use Rattle.book_names.proofs.judge.Statement.{statement}
 use Rattle.book_names.proofs.judge.Tie as tie
-use Rattle.book_names.proofs.judge.Reads as reads
-use Rattle.book_names.proofs.judge.Lts as lts
-use Rattle.name.proofs.good_bytes.Reads as good-bytes-reads
-use Rattle.name.proofs.rises.Reads as rises-reads
 
 module _ (before name : List ℕ) (good : Bool) (e : good ≡ goodBytes name) where
   bad : good ≡ false → Stopped BadName ≡ judgedName before name

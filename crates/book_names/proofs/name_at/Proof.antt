@@ -20,12 +20,6 @@ use Rattle.book_names.specs.Tables.{nameStep, judgedName}
 use borrow.Author.Needs.{needs}
 use Rattle.book_names.proofs.name_at.Statement.{statement}
 use Rattle.book_names.proofs.name_at.Tie as tie
-use Rattle.book_names.proofs.name_at.Reads as reads
-use Rattle.book_names.proofs.name_at.Lts as lts
-use Rattle.book.proofs.part.Reads as part-reads
-use Rattle.book.proofs.wide.Reads as wide-reads
-use Rattle.book_names.proofs.judge.Reads as judge-reads
-use Rattle.name.proofs.good_length.Reads as good-length-reads
 
 -- what follows a name does not matter to its step
 any-rest : (bad below : Bool) (name r q : List ℕ) →

@@ -16,12 +16,6 @@ use Rattle.book.proofs.Counts.{count-missing, count-given}
 use borrow.Author.Needs.{needs}
 use Rattle.book_names.proofs.name_section.Statement.{statement}
 use Rattle.book_names.proofs.name_section.Tie as tie
-use Rattle.book_names.proofs.name_section.Reads as reads
-use Rattle.book_names.proofs.name_section.Lts as lts
-use Rattle.book.proofs.count_at.Reads as count-at-reads
-use Rattle.book_names.proofs.no_names.Reads as no-names-reads
-use Rattle.book_names.proofs.read_names.Reads as read-names-reads
-use Rattle.nameset.proofs.good_count.Reads as good-count-reads
 
 missing : (s : List ℕ) → length s < countSize → noNames BytesMissing ≡ nameTable (nameSection s)
 unfolding nameTable nameSection

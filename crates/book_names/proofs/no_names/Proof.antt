@@ -5,8 +5,6 @@ use Rattle.book.specs.Layout.{noOffsets}
 use Rattle.book_names.specs.Tables.{noNames}
 use Rattle.book_names.proofs.no_names.Statement.{statement}
 use Rattle.book_names.proofs.no_names.Tie as tie
-use Rattle.book_names.proofs.no_names.Reads as reads
-use Rattle.book_names.proofs.no_names.Lts as lts
 
 returns : tie.Need-returns
 unfolding noOffsets noNames

@@ -20,11 +20,6 @@ use Rattle.book_names.specs.Tables.{nameTable, noNames}
 use Rattle.book_names.proofs.Steps.{NameRead, name-read, name-stopped}
 use Rattle.book_names.proofs.read_names.Statement.{statement}
 use Rattle.book_names.proofs.read_names.Tie as tie
-use Rattle.book_names.proofs.read_names.Reads as reads
-use Rattle.book_names.proofs.read_names.Lts as lts
-use Rattle.book.proofs.part.Reads as part-reads
-use Rattle.book_names.proofs.name_at.Reads as name-at-reads
-use Rattle.book_names.proofs.no_names.Reads as no-names-reads
 
 -- the answer, where i names stand in the table and the next is due at `at`
 onwards : List ℕ → ℕ → ℕ → Answer (Field (List (List ℕ))) → NameTable

@@ -4,8 +4,6 @@ use mathlib.Core.Path.{refl}
 use Rattle.book.specs.Layout.{noOffsets, noLayout, noReading}
 use Rattle.book_reading.proofs.refused.Statement.{statement}
 use Rattle.book_reading.proofs.refused.Tie as tie
-use Rattle.book_reading.proofs.refused.Reads as reads
-use Rattle.book_reading.proofs.refused.Lts as lts
 
 returns : tie.Need-returns
 unfolding noOffsets noLayout noReading

@@ -1,12 +1,13 @@
 -- `model_accept::goes_to` meets its contract. The loop keeps whether the run goes there.
 -- Assumes nothing.
-use Prim.Native.Nat.{_+_, _-_}
-use mathlib.Core.Path.{_≡_, refl, sym, _∙_}
-use mathlib.Core.Bool.{true, false}
+use Prim.Native.Nat.{ℕ, _+_, _-_}
+use mathlib.Core.Path.{_≡_, refl, sym, _∙_, ap}
+use mathlib.Core.Bool.{Bool, true, false}
 use borrow.Author.Needs.{needs}
 use Rattle.model.specs.declared.Turn.{Turn}
-use Rattle.model.specs.Run.{state, after, goesTo}
-use Rattle.model.proofs.Turns.{goes-turn, goes-past}
+use Rattle.model.specs.declared.Moved.{Moved}
+use Rattle.model.specs.Run.{state, after, goesTo, wentTo}
+use Rattle.model.proofs.Turns.{takes-own, goes-turn, goes-past}
 use Rattle.model_accept.proofs.goes_to.Statement.{statement}
 use Rattle.model_accept.proofs.goes_to.Tie as tie
 
@@ -33,13 +34,23 @@ turned c e =
 enum-told : tie.Need-enum-told Inv-loop μ-loop
 enum-told c = search needs
 
+-- A run that goes to the factor i, which holds the name, is in the name's own.
+took : {r : Moved} {there : Bool} {own i : ℕ} → r ≡ wentTo true i → true ≡ there → own ≡ i → r ≡ wentTo there own
+took {r} {there} {own} {i} e g o = e ∙ ap (wentTo true) (sym o) ∙ ap (λ (b : Bool). wentTo b own) g
+
 returns : tie.Need-returns Inv-loop μ-loop
 unfolding after
-returns c = turned (c .before .before) (c .enum-told .given .1)
+returns c =
+    let n = c .before .before .before in
+    let e = c .before .enum-told .given .1 in
+    took (c .went-to .ensures) (turned n e) (takes-own _ _ _ _ (sym (n .next-turn .ensures) ∙ e))
 
 returns-2 : tie.Need-returns-2 Inv-loop μ-loop
-unfolding after
-returns-2 c = turned (c .before .before) (c .enum-told2 .given .1)
+unfolding after wentTo
+returns-2 c =
+    let n = c .before .before in
+    let a = n .before .before .before .before .before .args in
+    ap (λ (b : Bool). wentTo b (a .own)) (turned n (c .enum-told2 .given .1))
 
 loop-again : tie.Need-loop-again Inv-loop μ-loop
 unfolding after
@@ -47,12 +58,14 @@ loop-again c = turned (c .before .before) (c .enum-told3 .given .1)
 
 returns-3 : tie.Need-returns-3 Inv-loop μ-loop
 returns-3 c =
-    let a = c .before .before .before .args in
-    let l = c .before .loop in
-    sym (sym (l .inv) ∙ goes-past (a .mode .now) (a .count) (l .factor) (l .taken) (a .own) (a .through) (c .loop-test .left))
+    let a = c .before .before .before .before .args in
+    let l = c .before .before .loop in
+    c .went-to2 .ensures ∙ ap (λ (b : Bool). wentTo b (a .own))
+    (sym (goes-past (a .mode .now) (a .count) (l .factor) (l .taken) (a .own) (a .through) (c .before .loop-test .left)) ∙ l .inv)
 
 pub goes-to-spec : {M : Type 1} → statement M
 goes-to-spec =
     tie.close
-    (tie.spec Inv-loop μ-loop loop-holds (λ c κs. search needs) (λ c κs. search needs) enum-told returns
-    (λ c. search needs) returns-2 (λ c. search needs) (λ c. search needs) (λ c. search needs) loop-again returns-3)
+    (tie.spec Inv-loop μ-loop loop-holds (λ c κs. search needs) (λ c κs. search needs) enum-told (λ c κs. search needs)
+    returns (λ c. search needs) returns-2 (λ c. search needs) (λ c. search needs) (λ c. search needs) loop-again
+    (λ c κs. search needs) returns-3)

@@ -8,9 +8,6 @@ use Rattle.name.specs.Order.{orderOf, isBelow, rises}
 use borrow.Author.Needs.{needs}
 use Rattle.name.proofs.rises.Statement.{statement}
 use Rattle.name.proofs.rises.Tie as tie
-use Rattle.name.proofs.rises.Reads as reads
-use Rattle.name.proofs.rises.Lts as lts
-use Rattle.name.proofs.compare.Reads as compare-reads
 
 -- src/lib.rt:100:11
 enum-told : tie.Need-enum-told

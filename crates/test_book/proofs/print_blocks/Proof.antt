@@ -5,10 +5,6 @@ use borrow.Author.Needs.{needs}
 use Rattle.book.proofs.Blocks.{BlocksAhead, all-ahead, next-block, others-ahead}
 use Rattle.test_book.proofs.print_blocks.Statement.{statement}
 use Rattle.test_book.proofs.print_blocks.Tie as tie
-use Rattle.test_book.proofs.print_blocks.Reads as reads
-use Rattle.test_book.proofs.print_blocks.Lts as lts
-use Rattle.book_access.proofs.block_at_place.Reads as block-at-place-reads
-use Rattle.test_book.proofs.print_block.Reads as print-block-reads
 
 abbrev Inv-loop : tie.InvT-loop
 Inv-loop bytes at₀ left₀ at left = BlocksAhead bytes at left

@@ -1,21 +1,15 @@
 -- `print_case` meets what its callees ask: a book that was read is laid out as the answer says.
 -- Assumes nothing.
-use Rattle.book.proofs.Laws.{laid-out}
+use Rattle.book.proofs.Taken.{laid}
 use borrow.Author.Needs.{needs}
 use Rattle.test_book.proofs.print_case.Statement.{statement}
 use Rattle.test_book.proofs.print_case.Tie as tie
-use Rattle.test_book.proofs.print_case.Reads as reads
-use Rattle.test_book.proofs.print_case.Lts as lts
-use Rattle.book_reading.proofs.read_book.Reads as read-book-reads
-use Rattle.test_book.proofs.print_head.Reads as print-head-reads
-use Rattle.test_book.proofs.print_rest.Reads as print-rest-reads
-use Rattle.refusal.proofs.outcome_number.Reads as outcome-number-reads
 
 enum-told : tie.Need-enum-told
 enum-told c = search needs
 
 print-rest-requires : tie.Need-print-rest-requires
-print-rest-requires c κs = laid-out _ _ (c .before .before .before .before .before .read-book .ensures) (c .enum-told .given .1)
+print-rest-requires c κs = laid _ _ (c .before .before .before .before .before .take-book .ensures) (c .enum-told .given .1)
 
 returns : tie.Need-returns
 returns c = search needs

@@ -6,11 +6,6 @@ use lib.ListN.{length}
 use borrow.Author.Needs.{needs}
 use Rattle.test_book.proofs.run.Statement.{statement}
 use Rattle.test_book.proofs.run.Tie as tie
-use Rattle.test_book.proofs.run.Reads as reads
-use Rattle.test_book.proofs.run.Lts as lts
-use Rattle.test_book.proofs.field.Reads as field-reads
-use Rattle.test_book.proofs.field_end.Reads as field-end-reads
-use Rattle.test_book.proofs.print_case.Reads as print-case-reads
 
 abbrev Inv-loop : tie.InvT-loop
 Inv-loop stream at₀ at = at ≤ length stream

@@ -1,7 +1,7 @@
 -- `print_book` meets its contract: a book that was read is laid out as the reading says.
 -- Assumes nothing.
 use borrow.Author.Needs.{needs}
-use Rattle.book.proofs.Laws.{laid-out}
+use Rattle.book.proofs.Taken.{laid}
 use Rattle.test_follow.proofs.print_book.Statement.{statement}
 use Rattle.test_follow.proofs.print_book.Tie as tie
 
@@ -9,7 +9,7 @@ enum-told : tie.Need-enum-told
 enum-told c = search needs
 
 print-parents-requires : tie.Need-print-parents-requires
-print-parents-requires c κs = laid-out _ _ (c .before .before .before .read-book .ensures) (c .enum-told .given .1)
+print-parents-requires c κs = laid _ _ (c .before .before .before .take-book .ensures) (c .enum-told .given .1)
 
 returns : tie.Need-returns
 returns c = search needs

@@ -13,9 +13,6 @@ use Rattle.book.specs.Book.{allBelow}
 use borrow.Author.Needs.{needs}
 use Rattle.book.proofs.word.all_below.Statement.{statement}
 use Rattle.book.proofs.word.all_below.Tie as tie
-use Rattle.book.proofs.word.all_below.Reads as reads
-use Rattle.book.proofs.word.all_below.Lts as lts
-use Rattle.book.proofs.field.wide.Reads as wide-reads
 
 both-below : (n x y : ℕ) → ltb (max x y) n ≡ (ltb x n && ltb y n)
 both-below n x y = go (decLt x n) (decLt y n)
