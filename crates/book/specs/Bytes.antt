@@ -14,7 +14,8 @@ namesBytes [] rest = rest
 namesBytes (x ∷ xs) rest = nameBytes x (namesBytes xs rest)
 
 -- The head of a block is what comes before its children: a parent number, then a child count. It has so many bytes,
--- and the child count is at this place of it; the parent is at place 0.
+-- and the child count is at this place of it; the parent is at place 0. For the code and its laws: `block-placed` in
+-- proofs/Placed.antt joins both to `blockBytes`.
 abbrev pub headSize : ℕ
 headSize = 2
 

@@ -1,4 +1,5 @@
 -- To be believed: the book as the calls take it. Every call that takes a book, and the program, takes it from here.
+-- `badParent` is a means: `bad-parent` in proofs/Taken.antt.
 -- Assumes nothing.
 use Prim.Native.Nat.{ℕ}
 use mathlib.Core.Path.{_≡_}

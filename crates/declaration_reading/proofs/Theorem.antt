@@ -73,9 +73,9 @@ module _ (s text : List ℕ) where
   by-book f l C law = in-book s next (λ b. C (b .names)) f l (λ b. law (b .names))
 
   -- 1 to 7: the bytes are not taken, for this reason.
-  pub book-refused : (f : Refusal) → ofBook f ≡ true → (readAnswer s text ≡ refused f) ↔ (takenBook s ≡ refused f)
+  pub text-book-refused : (f : Refusal) → ofBook f ≡ true → (readAnswer s text ≡ refused f) ↔ (takenBook s ≡ refused f)
   unfolding readAnswer next
-  book-refused f l = book-first s next f l (λ b e. text-late f (text-only (b .names) text f e))
+  text-book-refused f l = book-first s next f l (λ b e. text-late f (text-only (b .names) text f e))
 
   -- 13: the bytes are taken as a book, and the text does not have the form of a declaration.
   pub refused-13 : (readAnswer s text ≡ refused NotADeclaration) ↔ ((b : Book) × TakenAs s b × ((d : Form) → HasForm text d → ⊥))

@@ -303,7 +303,7 @@ module _ (bytes text : List ℕ) where
   read-conditions =
       let a = readAnswer bytes text in
       record {
-        book = book-rows bytes a (Reading.book-refused bytes text);
+        book = book-rows bytes a (Reading.text-book-refused bytes text);
         thirteen = row a NotADeclaration (Reading.refused-13 bytes text);
         fourteen = row a UnknownName (Reading.refused-14 bytes text);
         fifteen = row a NameTwice (Reading.refused-15 bytes text);

@@ -18,7 +18,7 @@ use Rattle.nameset.proofs.Rows.{row-kept}
 use Rattle.follow.specs.Follow.{isEmpty}
 use Rattle.follow.specs.Adding.{withFirst, withLast, withPairs}
 use Rattle.follow.proofs.Walk.{word-added}
-use Rattle.follow_table.specs.Table.{headSize, rowSize, factsIn, countIn, withEnds, HasRoom, HeadAdded, RowAdded}
+use Rattle.follow_table.specs.Table.{rowHead, rowSize, factsIn, countIn, withEnds, HasRoom, HeadAdded, RowAdded}
 
 -- ---- the copy of the following names
 
@@ -54,7 +54,7 @@ pub count-read : (v u : List ℕ) → v ≡ u → getD v 3 0 ≡ countIn u
 unfolding countIn
 count-read v u e = rw e
 
-pub facts-read : (v u : List ℕ) → v ≡ u → (s e : NameSet) (f : List ℕ) → s ≡ rowAt v 0 → e ≡ rowAt v 1 → f ≡ drop headSize v →
+pub facts-read : (v u : List ℕ) → v ≡ u → (s e : NameSet) (f : List ℕ) → s ≡ rowAt v 0 → e ≡ rowAt v 1 → f ≡ drop rowHead v →
     record { starts = s; ends = e; follows = f; empty = eqb (getD v 2 0) 1 } ≡ factsIn u
 unfolding factsIn
 facts-read v u same s e f es ee ef = rw (es, ee, ef, same)

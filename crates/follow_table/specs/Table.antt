@@ -20,12 +20,12 @@ abbrev pub tabled : ℕ
 tabled = 64
 
 -- The words of a row before those of the following names: two sets, a mark and a count.
-abbrev pub headSize : ℕ
-headSize = rowsLength 2 + 2
+abbrev pub rowHead : ℕ
+rowHead = rowsLength 2 + 2
 
 -- The words of a row.
 abbrev pub rowSize : ℕ
-rowSize = headSize + rowsLength tabled
+rowSize = rowHead + rowsLength tabled
 
 -- The words of a table.
 abbrev pub tableSize : ℕ
@@ -39,7 +39,7 @@ rowOf table p = take rowSize (drop (p * rowSize) table)
 -- the names that follow each name.
 unfoldable pub factsIn : List ℕ → Facts
 factsIn row =
-    record { starts = rowAt row 0; ends = rowAt row 1; follows = drop headSize row; empty = eqb (getD row (rowsLength 2) 0) 1 }
+    record { starts = rowAt row 0; ends = rowAt row 1; follows = drop rowHead row; empty = eqb (getD row (rowsLength 2) 0) 1 }
 
 -- The number of blocks that a row keeps.
 unfoldable pub countIn : List ℕ → ℕ
@@ -60,7 +60,7 @@ pub record HeadAdded (u w v : List ℕ) : Type 0 where
   pub ends : rowAt v 1 ≡ withLast (rowAt u 1) w
   pub empty : eqb (getD v (rowsLength 2) 0) 1 ≡ (eqb (getD u (rowsLength 2) 0) 1 || isEmpty w)
   pub count : countIn v ≡ countIn u + 1
-  pub follows : drop headSize v ≡ drop headSize u
+  pub follows : drop rowHead v ≡ drop rowHead u
 
 -- The row v is the row u with a block of word w added.
 pub record RowAdded (u w v : List ℕ) : Type 0 where

@@ -20,7 +20,7 @@ ghost use Rattle.nameset.specs.Places.{places};
 ghost use Rattle.book.specs.Book.{allBelow};
 ghost use Rattle.book.specs.Access.{LaidOut};
 ghost use Rattle.follow.specs.Follow.{isEmpty};
-ghost use Rattle.follow_table.specs.Table.{tabled, headSize, rowSize, tableSize, rowOf, factsIn, countIn, withEnds, HasRoom, HeadAdded, RowAdded, Added, Gathered};
+ghost use Rattle.follow_table.specs.Table.{tabled, rowHead, rowSize, tableSize, rowOf, factsIn, countIn, withEnds, HasRoom, HeadAdded, RowAdded, Added, Gathered};
 
 // A table serves books of up to so many names.
 pub const TABLED: usize = 64;
@@ -123,7 +123,7 @@ fn row_of(table: &[u64], parent: usize) -> &[u64]
 // The names that follow each name, of a row.
 fn follows_in(row: &[u64]) -> [u64; ROWS]
     requires { ⌜ length (now row) ≡ rowSize ⌝ }
-    ensures { λ r. ⌜ r ≡ drop headSize (now (row .entry)) ⌝ }
+    ensures { λ r. ⌜ r ≡ drop rowHead (now (row .entry)) ⌝ }
 {
     let mut rows = [0u64; ROWS];
     let mut i = 0;

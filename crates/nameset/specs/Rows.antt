@@ -1,8 +1,8 @@
 -- A means: sets kept as rows of machine words, so that many can be borrowed at once. `row-put` and `row-kept` in
 -- proofs/Rows.antt say what a row holds after another was put.
 -- Assumes nothing.
--- Row a is the set of the name a. A row takes one word, since a word has room for a whole set. With a larger capacity a
--- row takes several: then the definitions of this file change, and no other.
+-- Row a is a set, in most places that of the name a. A row takes one word, since a word has room for a whole set. With a
+-- larger capacity a row takes several: then the definitions of this file change, with Set.antt.
 use Prim.Native.Nat.{ℕ, _<_}
 use mathlib.Core.Path.{_≡_}
 use mathlib.Core.List.{List}

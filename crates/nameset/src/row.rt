@@ -1,4 +1,4 @@
-// Sets kept as rows of machine words. Rows that are lent to a call are words, since a lent row of structs takes a proof
+// Sets kept as rows of machine words. Rows that a call borrows are words, since a borrowed row of structs takes a proof
 // by hand.
 use super::NameSet;
 ghost use mathlib.Core.Path.{_≡_};

@@ -1,4 +1,4 @@
--- To be believed: the lines of a text, for the test programs alone.
+-- A means: the lines of a text, for the test programs alone; their output is compared with stored files.
 -- Assumes nothing.
 use Prim.Native.Nat.{ℕ, _+_}
 use mathlib.Core.Bool.{cond}
