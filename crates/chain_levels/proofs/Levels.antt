@@ -3,7 +3,7 @@
 -- Assumes nothing.
 use Prim.Native.Nat.{ℕ, zero, suc, _≤_, _<_}
 use mathlib.Core.Path.{_≡_, refl, sym, _∙_, ap, subst, fun-ext}
-use mathlib.Core.Bool.{Bool, true, false, not}
+use mathlib.Core.Bool.{Bool, true, false, not, false≢true}
 use mathlib.Core.Logic.{_⊎_, inl, inr, ⊎-elim, _↔_}
 use native.Mathlib.Omega.{arith}
 use Rattle.model.proofs.Tests.{same-test}
@@ -164,8 +164,8 @@ module _ (f : Follow) where
       go start g = g
       go (name x) g = g
       go end g = g
-  not-back (by {v = name c} g r) = absurd (let z : _≡_ {A = ℕ} 0 1 = cc (not-back r) in omega arith)
-  not-back (by {v = end} g r) = absurd (let z : _≡_ {A = ℕ} 0 1 = cc (not-back r) in omega arith)
+  not-back (by {v = name c} g r) = absurd (false≢true (cc (not-back r)))
+  not-back (by {v = end} g r) = absurd (false≢true (cc (not-back r)))
 
   way-reaches : {b c : ℕ} → Way f (name b) (name c) → (b ≡ c) ⊎ (reaches f b c ≡ true)
   way-reaches here = inl refl
@@ -238,7 +238,7 @@ module _ (f : Follow) where
   -- level l + 2: it comes from a name between one of level l + 1 and the point
   source-more : (x b l : ℕ) → x < f .names → isBefore f b x ≡ true → levelOf f x ≡ suc (suc l) → levelOf f b ≡ suc l → In (name b) x ⊎ Entry (name b) x → Source x (suc l)
   source-more x b l h e p q (inl i) = absurd (outside b x e i)
-  source-more x b l h e p q (inr (y, start, a, g, o, r)) = absurd (let z : _≡_ {A = ℕ} 0 1 = cc (not-back r) in omega arith)
+  source-more x b l h e p q (inr (y, start, a, g, o, r)) = absurd (false≢true (cc (not-back r)))
   source-more x b l h e p q (inr (y, name c, a, g, o, r)) = (y, name c, a, g, go (way-reaches r))
     where
       go : (b ≡ c) ⊎ (reaches f b c ≡ true) → levelOf f c ≡ suc l

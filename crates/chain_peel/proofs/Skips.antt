@@ -2,7 +2,7 @@
 -- Assumes nothing.
 use Prim.Native.Nat.{ℕ, _≤_, _<_}
 use mathlib.Core.Path.{_≡_, refl, _∙_}
-use mathlib.Core.Bool.{Bool, true, false, _&&_, _||_}
+use mathlib.Core.Bool.{Bool, true, false, _&&_, _||_, false≢true}
 use mathlib.Core.Logic.{_⊎_, inl, inr, ⊎-elim, _↔_}
 use native.Mathlib.Omega.{arith}
 use lib.Dec.{ltb}
@@ -30,8 +30,8 @@ four false true c d = (λ e. inr (inl refl), λ p. refl)
 four false false c d = (λ e. inr (inr (or-is c d .0 e)), to)
   where
     to : (false ≡ true) ⊎ ((false ≡ true) ⊎ ((c ≡ true) ⊎ (d ≡ true))) → (c || d) ≡ true
-    to (inl e) = absurd (let z : _≡_ {A = ℕ} 0 1 = cc in omega arith)
-    to (inr (inl e)) = absurd (let z : _≡_ {A = ℕ} 0 1 = cc in omega arith)
+    to (inl e) = absurd (false≢true cc)
+    to (inr (inl e)) = absurd (false≢true cc)
     to (inr (inr p)) = or-is c d .1 p
 
 pub meets-is : (size : ℕ) (a b : ℕ → Bool) → (meets size a b ≡ true) ↔ ((x : ℕ) × (x < size) × (a x ≡ true) × (b x ≡ true))

@@ -3,7 +3,7 @@
 -- Assumes nothing.
 use Prim.Native.Nat.{ℕ, zero, suc, _+_, _≤_, _<_}
 use mathlib.Core.Path.{_≡_, refl, sym, _∙_, ap}
-use mathlib.Core.Bool.{Bool, true, false, cond, _&&_, _||_, not, and-true, and-false}
+use mathlib.Core.Bool.{Bool, true, false, cond, _&&_, _||_, not, and-true, and-false, false≢true}
 use mathlib.Core.List.{List, [], _∷_, _++_, append-assoc}
 use native.Mathlib.Omega.{arith}
 use native.Mathlib.Decide.{ℕ-discrete, decLt}
@@ -104,7 +104,7 @@ module _ (m : Model) (n i : ℕ) (s : NameSet) (holds : NamesOf m n i s) where
       go (yes l) = l
       go (no l) =
           let b : _≡_ {A = Bool} true false = sym e ∙ holds .law x ∙ rw (le-ltb x n (omega arith)) in
-          absurd (let z : _≡_ {A = ℕ} 0 1 = cc in omega arith)
+          absurd (false≢true cc)
 
   rising-members : (k r : ℕ) → k + r ≤ n → rising s k r ≡ members m i k r
   unfolding rising members

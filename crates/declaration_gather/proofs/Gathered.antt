@@ -2,7 +2,7 @@
 -- Assumes nothing.
 use Prim.Native.Nat.{ℕ, zero, suc, _+_, _≤_, _<_}
 use mathlib.Core.Path.{_≡_, refl, sym, _∙_, ap}
-use mathlib.Core.Bool.{Bool, true, false, not, _&&_, true≢false}
+use mathlib.Core.Bool.{Bool, true, false, not, _&&_, true≢false, false≢true}
 use mathlib.Core.List.{List, [], _∷_, _++_}
 use mathlib.Core.Option.{Option, none, some}
 use native.Mathlib.Omega.{arith}
@@ -86,7 +86,7 @@ module _ (size n : ℕ) (fits : size ≤ 255) (some-place : 0 < size) (few : n �
       go none e false t = refl
       go none e true t =
           let w = place (total-le size n fits few (f ∷ fs) full low small t) (omega (arith, few-factors size n fits few (f ∷ fs) full low small t)) in
-          absurd (let z : none ≡ some (w .0) = sym e ∙ w .1 in let y : _≡_ {A = ℕ} 0 1 = cc in omega arith)
+          absurd (let z : none ≡ some (w .0) = sym e ∙ w .1 in false≢true cc)
 
 -- ---- by tokens
 

@@ -2,7 +2,7 @@
 -- Assumes nothing.
 use Prim.Native.Nat.{ℕ, zero, suc, _+_, _-_, _≤_, _<_}
 use mathlib.Core.Path.{_≡_, refl, sym, _∙_, ap}
-use mathlib.Core.Bool.{Bool, true, false, cond, not, _&&_}
+use mathlib.Core.Bool.{Bool, true, false, cond, not, _&&_, false≢true}
 use mathlib.Core.List.{List, [], _∷_}
 use mathlib.Core.Option.{Option, none, some}
 use native.Mathlib.Omega.{arith}
@@ -207,7 +207,7 @@ module _ (names : List (List ℕ)) (s : List ℕ) (i : ℕ) (p : Piece) (is : p 
     where
       go : (a b : Bool) → (a && b) ≡ true → b ≡ true
       go true b q = q
-      go false b q = absurd (let z : _≡_ {A = ℕ} 0 1 = cc in omega arith)
+      go false b q = absurd (false≢true cc)
 
 pub left-over : (names : List (List ℕ)) (s : List ℕ) (i index : ℕ) (factor mode : List ℕ) → length s ≤ i → left names s i index factor mode ≡ some record { index = index; factor = factor; mode = mode }
 unfolding left gatherFrom

@@ -2,7 +2,7 @@
 -- Assumes nothing.
 use Prim.Native.Nat.{ℕ, zero, suc, _+_, _≤_, _<_}
 use mathlib.Core.Path.{_≡_, refl, sym, _∙_, ap, ap₂}
-use mathlib.Core.Bool.{Bool, true, false, cond}
+use mathlib.Core.Bool.{Bool, true, false, cond, false≢true}
 use mathlib.Core.List.{List, [], _∷_}
 use native.Mathlib.Omega.{arith}
 use lib.Dec.{ltb}
@@ -81,7 +81,7 @@ behind-spaces s at =
 
 no-space : (t : List ℕ) (b : ℕ) (bs : List ℕ) → drop (runOf isSpace t) t ≡ b ∷ bs → isSpace b ≡ false
 unfolding runOf
-no-space [] b bs e = absurd (let z : _≡_ {A = ℕ} 0 1 = cc in omega arith)
+no-space [] b bs e = absurd (false≢true cc)
 no-space (c ∷ t) b bs e = go (isSpace c) refl e (no-space t b bs)
   where
     go : (k : Bool) → isSpace c ≡ k → drop (cond k (suc (runOf isSpace t)) 0) (c ∷ t) ≡ b ∷ bs → (drop (runOf isSpace t) t ≡ b ∷ bs → isSpace b ≡ false) → isSpace b ≡ false

@@ -37,7 +37,7 @@ is-same Above e = absurd (false≢true e)
 -- a number that is found is that of the name
 found-from : (names : List (List ℕ)) (i : ℕ) (w : List ℕ) (k : ℕ) → numberFrom i w names ≡ At k → (j : ℕ) × (k ≡ i + j) × (j < length names) × (nameAt names j ≡ w)
 unfolding numberFrom nameAt
-found-from [] i w k e = absurd (let z : _≡_ {A = ℕ} 0 1 = cc in omega arith)
+found-from [] i w k e = absurd (false≢true cc)
 found-from (v ∷ vs) i w k e = go (isSame (orderOf v w)) refl e (found-from vs (suc i) w k)
   where
     shift : ((j : ℕ) × (k ≡ suc i + j) × (j < length vs) × (nameAt vs j ≡ w)) → (j : ℕ) × (k ≡ i + j) × (j < suc (length vs)) × (nameAt (v ∷ vs) j ≡ w)

@@ -2,7 +2,7 @@
 -- Assumes nothing.
 use Prim.Native.Nat.{ℕ, zero, suc, _<_}
 use mathlib.Core.Path.{_≡_, refl, sym, _∙_, subst}
-use mathlib.Core.Bool.{Bool, true, false, not, _&&_, true≢false}
+use mathlib.Core.Bool.{Bool, true, false, not, _&&_, true≢false, false≢true}
 use mathlib.Core.List.{List, List·Memᴰ, List·Memᴰ·tail}
 use mathlib.Core.Option.{Option, none, some}
 use mathlib.Core.Logic.{_↔_}
@@ -22,19 +22,19 @@ use Rattle.declaration_spelling.proofs.Theorem.{form-sound, form-comple
 
 -- the three ends of a text that has the form
 unknown-is : (a b : Bool) (x : Declared) → (refuseIf (not a) UnknownName (refuseIf (not b) NameTwice (given x)) ≡ refused UnknownName) → a ≡ false
-unknown-is true true x e = absurd (let z : _≡_ {A = ℕ} 0 1 = cc in omega arith)
-unknown-is true false x e = absurd (let z : _≡_ {A = ℕ} 0 1 = cc in omega arith)
+unknown-is true true x e = absurd (false≢true cc)
+unknown-is true false x e = absurd (false≢true cc)
 unknown-is false b x e = refl
 
 twice-is : (a b : Bool) (x : Declared) → (refuseIf (not a) UnknownName (refuseIf (not b) NameTwice (given x)) ≡ refused NameTwice) → (a ≡ true) × (b ≡ false)
-twice-is true true x e = absurd (let z : _≡_ {A = ℕ} 0 1 = cc in omega arith)
+twice-is true true x e = absurd (false≢true cc)
 twice-is true false x e = (refl, refl)
-twice-is false b x e = absurd (let z : _≡_ {A = ℕ} 0 1 = cc in omega arith)
+twice-is false b x e = absurd (false≢true cc)
 
 not-13 : (a b : Bool) (x : Declared) → refuseIf (not a) UnknownName (refuseIf (not b) NameTwice (given x)) ≡ refused NotADeclaration → ⊥
-not-13 true true x e = let z : _≡_ {A = ℕ} 0 1 = cc in omega arith
-not-13 true false x e = let z : _≡_ {A = ℕ} 0 1 = cc in omega arith
-not-13 false b x e = let z : _≡_ {A = ℕ} 0 1 = cc in omega arith
+not-13 true true x e = false≢true cc
+not-13 true false x e = false≢true cc
+not-13 false b x e = false≢true cc
 
 -- a number stands in the model twice
 twice-law : (n : ℕ) (fs : List (Factor ℕ)) → (noneTwice n fs ≡ false) ↔ ((x : ℕ) × (x < n) × (1 < total x fs))
@@ -108,7 +108,7 @@ module _ (size : ℕ) (names : List (List ℕ)) where
   pub refused-14 : (text : List ℕ) →
       (readText size names text ≡ refused UnknownName) ↔ ((d : Form) × HasForm text d × ((x : List ℕ) × List·Memᴰ x (formNames d) × (¬ List·Memᴰ x names)))
   unfolding judged
-  refused-14 text = (λ e. to e (has-form text (λ q. let z : _≡_ {A = ℕ} 0 1 = cc in omega arith)), λ (d, F, u). formed text d F ∙ rw (unknown-form d .1 u))
+  refused-14 text = (λ e. to e (has-form text (λ q. false≢true cc)), λ (d, F, u). formed text d F ∙ rw (unknown-form d .1 u))
     where
       to : readText size names text ≡ refused UnknownName → ((d : Form) × HasForm text d) →
           (d : Form) × HasForm text d × ((x : List ℕ) × List·Memᴰ x (formNames d) × (¬ List·Memᴰ x names))
@@ -119,7 +119,7 @@ module _ (size : ℕ) (names : List (List ℕ)) where
   pub refused-15 : (text : List ℕ) → (readText size names text ≡ refused NameTwice)
       ↔ ((d : Form) × HasForm text d × ((x : List ℕ) → List·Memᴰ x (formNames d) → List·Memᴰ x names) × Twice (modelNames (d .factors)))
   unfolding judged formNames
-  refused-15 text = (λ e. to e (has-form text (λ q. let z : _≡_ {A = ℕ} 0 1 = cc in omega arith)), from)
+  refused-15 text = (λ e. to e (has-form text (λ q. false≢true cc)), from)
     where
       twice-form : (d : Form) → ((x : List ℕ) → List·Memᴰ x (formNames d) → List·Memᴰ x names) → (noneTwice (length names) (numbered names (d .factors)) ≡ false) ↔ Twice (modelNames (d .factors))
       twice-form d k =

@@ -6,7 +6,6 @@ use mathlib.Core.Bool.{Bool, true, false, cond, _&&_, false≢true}
 use mathlib.Core.List.{List, [], _∷_, _++_}
 use mathlib.Core.Option.{none, some}
 use mathlib.Core.Logic.{_⊎_, inl, inr, _↔_}
-use native.Mathlib.Omega.{arith}
 use lib.Dec.{eqb}
 use borrow.Author.Tests.{eq-eqb, eqb-true}
 use Rattle.declaration_spelling.specs.Form.{same, strip}
@@ -34,7 +33,7 @@ same-refl [] = refl
 same-refl (a ∷ v) = and-is (eqb a a) (same v v) .1 (eq-eqb a a refl, same-refl v)
 
 pub none-some : {A C : Type 0} {a : A} → none ≡ some a → C
-none-some e = absurd (let z : _≡_ {A = ℕ} 0 1 = cc in omega arith)
+none-some e = absurd (false≢true cc)
 
 pub some-injective : {A : Type 0} {a b : A} → some a ≡ some b → a ≡ b
 some-injective e = cc

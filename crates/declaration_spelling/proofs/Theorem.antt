@@ -2,11 +2,10 @@
 -- Assumes nothing.
 use Prim.Native.Nat.{ℕ, _≤_, _<_}
 use mathlib.Core.Path.{_≡_, refl, sym, _∙_, ap, subst}
-use mathlib.Core.Bool.{Bool, true, false, cond, not}
+use mathlib.Core.Bool.{Bool, true, false, cond, not, false≢true}
 use mathlib.Core.List.{List, _∷_, _++_}
 use mathlib.Core.Option.{Option, none, some}
 use mathlib.Core.Logic.{_↔_}
-use native.Mathlib.Omega.{arith}
 use lib.ListN.{length}
 use borrow.Author.Tests.{not-false}
 use Rattle.refusal.specs.declared.Refusal.the-variants.{NotADeclaration, UnknownName, NameTwice}
@@ -112,7 +111,7 @@ module _ (size : ℕ) (names : List (List ℕ)) (G : GoodNames size names) where
       same a b q h = subst (λ (x : Declared). Spelled size names text (x .parent) (x .model)) q h
 
       at-form : (o : Option Form) → formOf text ≡ o → onward (orRefuse NotADeclaration o) (judged size names) ≡ given (declared p m) → Spelled size names text p m
-      at-form none q f = absurd (let z : _≡_ {A = ℕ} 0 1 = cc in omega arith)
+      at-form none q f = absurd (false≢true cc)
       at-form (some d) q f =
           let a = check-given (not (allForm (known names) d)) UnknownName _ (declared p m) f in
           let b = check-given (not (noneTwice (length names) (numbered names (d .factors)))) NameTwice _ (declared p m) (a .1) in

@@ -2,7 +2,7 @@
 -- Assumes nothing.
 use Prim.Native.Nat.{ℕ, _≤_, _<_}
 use mathlib.Core.Path.{_≡_, refl, sym, _∙_}
-use mathlib.Core.Bool.{true}
+use mathlib.Core.Bool.{true, false≢true}
 use mathlib.Core.List.{List, [], _∷_}
 use native.Mathlib.Omega.{arith}
 use native.Mathlib.Decide.{decLt}
@@ -41,13 +41,13 @@ module _ (x y : ℕ) (xs ys : List ℕ) where
       go (no h) (no k) = heads-equal (omega arith)
 
 clash : {A : Type 0} {o : Order} → o ≡ Below → o ≡ Above → A
-clash p q = absurd (let z : _≡_ {A = ℕ} 0 1 = cc in omega arith)
+clash p q = absurd (false≢true cc)
 
 same-below : {A : Type 0} {o : Order} → o ≡ Same → o ≡ Below → A
-same-below p q = absurd (let z : _≡_ {A = ℕ} 0 1 = cc in omega arith)
+same-below p q = absurd (false≢true cc)
 
 same-above : {A : Type 0} {o : Order} → o ≡ Same → o ≡ Above → A
-same-above p q = absurd (let z : _≡_ {A = ℕ} 0 1 = cc in omega arith)
+same-above p q = absurd (false≢true cc)
 
 -- ---- laws
 
@@ -117,5 +117,5 @@ rises-below a b e = go (orderOf a b) e
   where
     go : (o : Order) → isBelow o ≡ true → o ≡ Below
     go Below e = refl
-    go Same e = absurd (let z : _≡_ {A = ℕ} 0 1 = cc in omega arith)
-    go Above e = absurd (let z : _≡_ {A = ℕ} 0 1 = cc in omega arith)
+    go Same e = absurd (false≢true cc)
+    go Above e = absurd (false≢true cc)

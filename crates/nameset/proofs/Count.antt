@@ -21,8 +21,8 @@ count-bounds n e = go (leb 1 n) (leb n places) (leb-true 1 n) (leb-true n places
   where
     go : (a b : Bool) → (a ≡ true → 1 ≤ n) → (b ≡ true → n ≤ places) → (a && b) ≡ true → (1 ≤ n) × (n ≤ places)
     go true true f g e = (f e, g e)
-    go true false f g e = absurd (let z : _≡_ {A = ℕ} 0 1 = cc in omega arith)
-    go false b f g e = absurd (let z : _≡_ {A = ℕ} 0 1 = cc in omega arith)
+    go true false f g e = absurd (false≢true cc)
+    go false b f g e = absurd (false≢true cc)
 
 pub bounds-count : (n : ℕ) → 1 ≤ n → n ≤ places → goodCount n ≡ true
 unfolding goodCount

@@ -3,6 +3,7 @@
 -- Assumes nothing.
 use Prim.Native.Nat.{ℕ, zero, suc, _<_}
 use mathlib.Core.Path.{_≡_, refl, sym, _∙_, ap}
+use mathlib.Core.Bool.{false≢true}
 use mathlib.Core.List.{List, [], _∷_, map}
 use native.Mathlib.Omega.{arith}
 use lib.ListN.{getD}
@@ -60,7 +61,7 @@ pub refused-alike : (r q : Refusal) → Refused r ≡ Refused q → r ≡ q
 refused-alike r q e = cc
 
 pub Done≢Refused : (r : Refusal) → Done ≡ Refused r → ⊥
-Done≢Refused r e = let z : _≡_ {A = ℕ} 0 1 = cc in omega arith
+Done≢Refused r e = false≢true cc
 
 pub number-injective : (r q : Refusal) → numberOf r ≡ numberOf q → r ≡ q
 number-injective r q e = refused-alike r q (sym (row-of r) ∙ ap told e ∙ row-of q)
