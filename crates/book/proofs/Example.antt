@@ -8,7 +8,7 @@ use Rattle.refusal.specs.Answer.{given, refused}
 use Rattle.nameset.specs.Places.{goodCount}
 use Rattle.name.specs.Class.{startByte, laterByte, between}
 use Rattle.name.specs.Rule.{goodLength, goodBytes, allLater}
-use Rattle.name.specs.Order.{orderOf, rises}
+use Rattle.name_order.specs.Order.{orderOf, rises}
 use Rattle.book.specs.Field.{byteOf, bytesOf, countOf}
 use Rattle.book.specs.Book.{Block, allBelow, nameOf, namesOf, blockOf, blocksOf, nameSection, blockSection, bookOf}
 

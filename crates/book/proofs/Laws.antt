@@ -19,10 +19,10 @@ use Rattle.refusal.proofs.Laws.{refused-alike, Done≢Refused}
 use Rattle.refusal.proofs.Answers.{onward-given, check-given, given-same}
 use Rattle.nameset.specs.Places.{places}
 use Rattle.nameset.proofs.Count.{count-bounds}
-use Rattle.name.specs.declared.Order.the-variants.{Below, Same}
 use Rattle.name.specs.Rule.{isName}
-use Rattle.name.specs.Order.{orderOf}
-use Rattle.name.proofs.Ordering.{rises-below, below-trans, same-refl}
+use Rattle.name_order.specs.declared.Order.the-variants.{Below, Same}
+use Rattle.name_order.specs.Order.{orderOf}
+use Rattle.name_order.proofs.Ordering.{rises-below, below-trans, same-refl}
 use Rattle.book.specs.declared.Layout.{Layout}
 use Rattle.book.specs.declared.Reading.{Reading}
 use Rattle.book.specs.Field.{Field, countSize}

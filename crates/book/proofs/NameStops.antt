@@ -14,7 +14,7 @@ use Rattle.refusal.specs.declared.Refusal.the-variants.{BytesMissing, BadName, 
 use Rattle.refusal.specs.Answer.{given, refused, onward}
 use Rattle.refusal.proofs.Answers.{refused-same, given-refused, onward-refused, check-refused}
 use Rattle.name.specs.Rule.{goodLength, goodBytes}
-use Rattle.name.specs.Order.{rises}
+use Rattle.name_order.specs.Order.{rises}
 use Rattle.book.specs.Field.{Field, field, byteOf, bytesOf}
 use Rattle.book.specs.Book.{nameOf, namesOf}
 use Rattle.book.specs.Bytes.{nameBytes, namesBytes}

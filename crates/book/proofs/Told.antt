@@ -12,7 +12,7 @@ use Rattle.refusal.specs.declared.Refusal.the-variants.{BytesMissing, BadName, 
 use Rattle.refusal.specs.Answer.{Answer, given, onward, refuseIf}
 use Rattle.refusal.proofs.Answers.{onward-given, check-given, given-same, given-refused}
 use Rattle.name.specs.Rule.{goodLength, goodBytes}
-use Rattle.name.specs.Order.{rises}
+use Rattle.name_order.specs.Order.{rises}
 use Rattle.book.specs.Field.{Field, field, byteOf, bytesOf}
 use Rattle.book.specs.Book.{Block, allBelow, nameOf, namesOf, blockOf, blocksOf}
 use Rattle.book.specs.Bytes.{nameBytes, namesBytes, blockBytes, blocksBytes}

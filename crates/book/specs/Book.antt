@@ -12,7 +12,7 @@ use Rattle.refusal.specs.declared.Refusal.the-variants.{BookTooLong, BadNameCou
 use Rattle.refusal.specs.Answer.{Answer, given, onward, refuseIf, valueOr}
 use Rattle.nameset.specs.Places.{goodCount}
 use Rattle.name.specs.Rule.{goodLength, goodBytes}
-use Rattle.name.specs.Order.{rises}
+use Rattle.name_order.specs.Order.{rises}
 use Rattle.book.specs.Field.{Field, field, byteOf, bytesOf, countOf}
 
 -- a parent number and its child list, a word

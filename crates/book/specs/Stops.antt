@@ -12,7 +12,7 @@ use Rattle.refusal.specs.declared.Refusal.{Refusal}
 use Rattle.refusal.specs.declared.Refusal.the-variants.{BookTooLong, BytesMissing, BadNameCount, BadName, NameNotAbove, NumberNotBelow, BytesLeftOver}
 use Rattle.nameset.specs.Places.{places, OutOfRange}
 use Rattle.name.specs.Rule.{goodLength, goodBytes}
-use Rattle.name.specs.Order.{rises}
+use Rattle.name_order.specs.Order.{rises}
 use Rattle.book.specs.Field.{countSize, countAt}
 use Rattle.book.specs.Book.{Block, Book, longestBook, allBelow}
 use Rattle.book.specs.Bytes.{nameBytes, namesBytes, blockBytes, blocksBytes}

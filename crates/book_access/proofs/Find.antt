@@ -8,9 +8,9 @@ use native.Mathlib.Omega.{arith}
 use native.Mathlib.Decide.{decLt}
 use native.Mathlib.Nat.{le-of-suc-le-suc, zero-lt-suc, zero-add}
 use lib.ListN.{length, getD}
-use Rattle.name.specs.declared.Order.the-variants.{Below, Same, Above}
-use Rattle.name.specs.Order.{orderOf, isSame}
-use Rattle.name.proofs.Ordering.{same-equal, above-flip, below-flip, below-trans}
+use Rattle.name_order.specs.declared.Order.the-variants.{Below, Same, Above}
+use Rattle.name_order.specs.Order.{orderOf, isSame}
+use Rattle.name_order.proofs.Ordering.{same-equal, above-flip, below-flip, below-trans}
 use Rattle.book.specs.declared.Found.the-variants.{At, Nothing}
 use Rattle.book.specs.Access.{numberFrom, numberIn}
 use Rattle.book.specs.Stops.{Rising}

@@ -6,12 +6,12 @@ use book::HEAD_SIZE;
 use book::Layout;
 use book::part;
 use book::wide;
-use name::Order;
+use name_order::Order;
 ghost use mathlib.Core.Path.{_≡_};
 ghost use mathlib.Core.List.{[]};
 ghost use Prim.Native.Nat.{_+_, _≤_, _<_};
 ghost use lib.ListN.{length, getD, take, drop};
-ghost use Rattle.name.specs.Order.{orderOf};
+ghost use Rattle.name_order.specs.Order.{orderOf};
 ghost use Rattle.book.specs.Book.{namesIn};
 ghost use Rattle.book.specs.Access.{LaidOut, numberIn, BlockFits, blockPlace};
 
@@ -29,7 +29,7 @@ fn compare_at_place(bytes: &[u8], at: usize, text: &[u8]) -> Order
     requires { ⌜ (at + 1 ≤ length (now bytes)) × (at + 1 + getD (now bytes) at 0 ≤ length (now bytes)) ⌝ }
     ensures { λ r. ⌜ r ≡ orderOf (take (getD (now (bytes .entry)) at 0) (drop (at + 1) (now (bytes .entry)))) (now (text .entry)) ⌝ }
 {
-    name::compare(name_at_place(bytes, at), text)
+    name_order::compare(name_at_place(bytes, at), text)
 }
 
 // The bytes of name i.

@@ -9,7 +9,7 @@ use Rattle.refusal.specs.declared.Refusal.the-variants.{BadName, NameNotAbove}
 use Rattle.refusal.specs.declared.Outcome.the-variants.{Done, Refused}
 use Rattle.refusal.specs.Answer.{Answer, given, refused, refuseIf}
 use Rattle.name.specs.Rule.{goodBytes}
-use Rattle.name.specs.Order.{rises}
+use Rattle.name_order.specs.Order.{rises}
 use Rattle.book.specs.Field.{Field, field, countSize}
 use Rattle.book.specs.Layout.{noOffsets, offsetTable, endFrom}
 use Rattle.book_names.specs.declared.NameStep.{NameStep}

@@ -35,7 +35,7 @@ fn judge(name: &[u8], before: &[u8]) -> NameStep
     ensures { λ r. ⌜ r ≡ judgedName (now (before .entry)) (now (name .entry)) ⌝ }
 {
     if name::good_bytes(name) {
-        if name::rises(before, name) {
+        if name_order::rises(before, name) {
             NameStep::Name(name.len())
         } else {
             NameStep::Stopped(Refusal::NameNotAbove)

@@ -6,7 +6,7 @@ use mathlib.Core.List.{map}
 use Rattle.name.specs.Class.{startByte, laterByte, between}
 use Rattle.name.specs.Rule.{isName, goodLength, goodBytes, allLater}
 use Rattle.name.specs.Word.{wordByte}
-use Rattle.name.specs.Order.{orderOf}
+use Rattle.name_order.specs.Order.{orderOf}
 use Rattle.book.specs.Access.{numberFrom, numberIn}
 use Rattle.model.specs.Record.{emptyModel}
 use Rattle.declaration_spelling.specs.Text.{bytes}

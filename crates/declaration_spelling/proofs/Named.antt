@@ -9,8 +9,8 @@ use native.Mathlib.Omega.{arith}
 use lib.Dec.{eqb}
 use lib.ListN.{length}
 use borrow.Author.Tests.{eqb-true, eq-eqb}
-use Rattle.name.specs.Order.{orderOf, isSame}
-use Rattle.name.proofs.Ordering.{same-refl, same-equal}
+use Rattle.name_order.specs.Order.{orderOf, isSame}
+use Rattle.name_order.proofs.Ordering.{same-refl, same-equal}
 use Rattle.book.specs.declared.Found.the-variants.{At}
 use Rattle.book.specs.Access.{numberFrom, numberIn}
 use Rattle.declaration_spelling.specs.House.{Factor, nameAt}

@@ -8,10 +8,10 @@ use mathlib.Core.Logic.{_↔_}
 use native.Mathlib.Omega.{arith}
 use native.Mathlib.Nat.{le-of-suc-le-suc}
 use lib.ListN.{length}
-use Rattle.name.specs.declared.Order.{Order}
-use Rattle.name.specs.declared.Order.the-variants.{Below as Lower, Same, Above}
-use Rattle.name.specs.Order.{orderOf, isSame}
-use Rattle.name.proofs.Ordering.{same-refl, same-equal}
+use Rattle.name_order.specs.declared.Order.{Order}
+use Rattle.name_order.specs.declared.Order.the-variants.{Below as Lower, Same, Above}
+use Rattle.name_order.specs.Order.{orderOf, isSame}
+use Rattle.name_order.proofs.Ordering.{same-refl, same-equal}
 use Rattle.book.specs.declared.Found.{Found}
 use Rattle.book.specs.declared.Found.the-variants.{At, Nothing}
 use Rattle.book.specs.Access.{numberFrom, numberIn}

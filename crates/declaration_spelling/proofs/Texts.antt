@@ -5,7 +5,7 @@ use mathlib.Core.List.{map}
 use Rattle.name.specs.Class.{between, startByte, laterByte}
 use Rattle.name.specs.Rule.{goodLength, allLater, goodBytes, isName}
 use Rattle.name.specs.Word.{wordByte}
-use Rattle.name.specs.Order.{orderOf}
+use Rattle.name_order.specs.Order.{orderOf}
 use Rattle.book.specs.Access.{numberFrom, numberIn}
 use Rattle.declaration_spelling.specs.Text.{bytes}
 use Rattle.declaration_spelling.specs.Token.{isSpace, markByte, room, behind}

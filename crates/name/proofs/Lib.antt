@@ -1,4 +1,3 @@
 pub mod Table
 pub mod Classes
 pub mod Words
-pub mod Ordering

@@ -1,4 +1,3 @@
 pub mod Class
 pub mod Rule
 pub mod Word
-pub mod Order

@@ -1,9 +1,8 @@
-// The rule for a name's bytes, and the order of names.
+// The rule for a name's bytes.
 ghost use mathlib.Core.Path.{_≡_};
 ghost use Rattle.name.specs.Class.{classOf, classTable};
 ghost use Rattle.name.specs.Rule.{goodLength, goodBytes, isName};
 ghost use Rattle.name.specs.Word.{wordByte};
-ghost use Rattle.name.specs.Order.{orderOf, rises};
 
 // The most bytes that a name has.
 const LONGEST: usize = 32;
@@ -32,13 +31,6 @@ const CLASSES: [u8; 256] = [
     0, 0, 0, 0, 0, 0, 0, 0, 0, 0, 0, 0, 0, 0, 0, 0,
     0, 0, 0, 0, 0, 0, 0, 0, 0, 0, 0, 0, 0, 0, 0, 0,
 ];
-
-// How two byte strings stand to each other, compared byte by byte, a proper prefix first.
-pub enum Order {
-    Below,
-    Same,
-    Above,
-}
 
 // The whole table. It is made again wherever it is asked for, so a loop asks once and lends it.
 pub fn class_table() -> [u8; 256]
@@ -110,39 +102,5 @@ pub fn is_name(classes: &[u8; 256], bytes: &[u8]) -> bool
         good_bytes_in(classes, bytes)
     } else {
         false
-    }
-}
-
-pub fn compare(a: &[u8], b: &[u8]) -> Order
-    ensures { λ r. ⌜ r ≡ orderOf (now (a .entry)) (now (b .entry)) ⌝ }
-{
-    let mut i = 0;
-    while i < a.len() {
-        if b.len() <= i {
-            return Order::Above;
-        }
-        if a[i] < b[i] {
-            return Order::Below;
-        }
-        if b[i] < a[i] {
-            return Order::Above;
-        }
-        i += 1;
-    }
-    if i < b.len() {
-        Order::Below
-    } else {
-        Order::Same
-    }
-}
-
-// Whether b comes after a, strictly.
-pub fn rises(a: &[u8], b: &[u8]) -> bool
-    ensures { λ r. ⌜ r ≡ rises (now (a .entry)) (now (b .entry)) ⌝ }
-{
-    match compare(a, b) {
-        Order::Below => true,
-        Order::Same => false,
-        Order::Above => false,
     }
 }

@@ -6,12 +6,12 @@ use mathlib.Core.List.{List, []}
 use native.Mathlib.Omega.{arith}
 use lib.ListN.{length, getD, take, drop}
 use borrow.Author.Needs.{needs}
-use Rattle.name.specs.declared.Order.the-variants.{Below, Same, Above}
-use Rattle.name.specs.Order.{orderOf}
+use Rattle.name_order.specs.declared.Order.the-variants.{Below, Same, Above}
+use Rattle.name_order.specs.Order.{orderOf}
 use Rattle.book.specs.Book.{namesIn}
 use Rattle.book.proofs.Laws.{few-names, name-laid, name-count, names-rising}
 use Rattle.book_access.proofs.Find.{found, missing, lower, upper}
-use Rattle.name.specs.declared.Order.{Order}
+use Rattle.name_order.specs.declared.Order.{Order}
 use Rattle.book.specs.declared.Layout.{Layout}
 use Rattle.book.specs.declared.Found.the-variants.{At, Nothing}
 use Rattle.book.specs.Access.{LaidOut, numberIn}

@@ -7,7 +7,7 @@ use mathlib.Core.List.{List}
 use lib.ListN.{length}
 use Rattle.refusal.specs.declared.Refusal.the-variants.{BadName, NameNotAbove}
 use Rattle.name.specs.Rule.{goodBytes}
-use Rattle.name.specs.Order.{rises}
+use Rattle.name_order.specs.Order.{rises}
 use Rattle.book_names.specs.declared.NameStep.the-variants.{Name, Stopped}
 use Rattle.book_names.specs.Tables.{nameStep, judgedName}
 use borrow.Author.Needs.{needs}

@@ -12,7 +12,7 @@ use borrow.Author.Tests.{lt-ltb, le-ltb}
 use Rattle.refusal.specs.declared.Refusal.the-variants.{BytesMissing, BadName, NameNotAbove}
 use Rattle.refusal.specs.Answer.{given, refuseIf}
 use Rattle.name.specs.Rule.{goodLength, goodBytes}
-use Rattle.name.specs.Order.{rises}
+use Rattle.name_order.specs.Order.{rises}
 use Rattle.book_names.specs.declared.NameStep.the-variants.{Stopped}
 use Rattle.book.specs.Field.{field, byteOf, bytesOf}
 use Rattle.book.specs.Book.{nameOf}

@@ -8,11 +8,11 @@ use native.Mathlib.Numerals.{add-one}
 use lib.ListN.{length, getD, drop, drop-of-length-le}
 use lib.Seq.{drop-cons}
 use borrow.Author.Tests.{lt-ltb, le-ltb}
-use Rattle.name.specs.Order.{orderOf}
-use Rattle.name.specs.declared.Order.{Order}
-use Rattle.name.specs.declared.Order.the-variants.{Below, Same, Above}
-use Rattle.name.proofs.compare.Statement.{statement}
-use Rattle.name.proofs.compare.Tie as tie
+use Rattle.name_order.specs.Order.{orderOf}
+use Rattle.name_order.specs.declared.Order.{Order}
+use Rattle.name_order.specs.declared.Order.the-variants.{Below, Same, Above}
+use Rattle.name_order.proofs.compare.Statement.{statement}
+use Rattle.name_order.proofs.compare.Tie as tie
 
 left : List ℕ → List ℕ → ℕ → Order
 left a b i = orderOf (drop i a) (drop i b)

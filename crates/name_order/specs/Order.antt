@@ -4,8 +4,8 @@ use Prim.Native.Nat.{ℕ}
 use mathlib.Core.Bool.{Bool, true, false, cond}
 use mathlib.Core.List.{List, [], _∷_}
 use lib.Dec.{ltb}
-use Rattle.name.specs.declared.Order.{Order}
-use Rattle.name.specs.declared.Order.the-variants.{Below, Same, Above}
+use Rattle.name_order.specs.declared.Order.{Order}
+use Rattle.name_order.specs.declared.Order.the-variants.{Below, Same, Above}
 
 unfoldable pub orderOf : List ℕ → List ℕ → Order
 orderOf [] [] = Same

@@ -3,11 +3,11 @@
 use Prim.Native.Nat.{ℕ}
 use mathlib.Core.Path.{_≡_, sym, _∙_, ap}
 use mathlib.Core.List.{List}
-use Rattle.name.specs.declared.Order.{Order}
-use Rattle.name.specs.Order.{orderOf, isBelow, rises}
+use Rattle.name_order.specs.declared.Order.{Order}
+use Rattle.name_order.specs.Order.{orderOf, isBelow, rises}
 use borrow.Author.Needs.{needs}
-use Rattle.name.proofs.rises.Statement.{statement}
-use Rattle.name.proofs.rises.Tie as tie
+use Rattle.name_order.proofs.rises.Statement.{statement}
+use Rattle.name_order.proofs.rises.Tie as tie
 
 -- src/lib.rt:100:11
 enum-told : tie.Need-enum-told

@@ -7,9 +7,9 @@ use mathlib.Core.List.{List, [], _∷_}
 use native.Mathlib.Omega.{arith}
 use native.Mathlib.Decide.{decLt}
 use borrow.Author.Tests.{lt-ltb, le-ltb}
-use Rattle.name.specs.declared.Order.{Order}
-use Rattle.name.specs.declared.Order.the-variants.{Below, Same, Above}
-use Rattle.name.specs.Order.{orderOf, isBelow, rises}
+use Rattle.name_order.specs.declared.Order.{Order}
+use Rattle.name_order.specs.declared.Order.the-variants.{Below, Same, Above}
+use Rattle.name_order.specs.Order.{orderOf, isBelow, rises}
 
 -- ---- two names by their first bytes
 
