@@ -190,10 +190,10 @@ def text(groups, deps, bare):
 
 
 def wrong_marks(deps, bare):
-    """A message for each crate whose mark is not as its source files are: no function where all is comment."""
+    """A message for each crate whose mark is wrong: its source files have no function and pass none on, or do."""
     for name in deps:
         source = "\n".join(file.read_text() for file in (ROOT / "crates" / name / "src").glob("*.rt"))
-        empty = all(re.match(r"\s*(//|$)", line) for line in source.splitlines())
+        empty = not re.search(r"^ *(pub )?(extern .*)?fn |^pub use ", source, re.M)
         if empty != (name in bare):
             yield f'crates.txt: the comment of {name} must {"" if empty else "not "}end with "{MARK}"'
 

@@ -1,15 +1,6 @@
-// The book: where its names and blocks stand, and what a place among its bytes holds.
+// The book: where its names and blocks stand.
 use nameset::PLACES;
 use refusal::Outcome;
-
-mod field; // field.rt: bytes, counts and parts of the book
-mod word; // word.rt: whether each number of a word is below n
-
-pub use field::COUNT_SIZE;
-pub use field::count_at;
-pub use field::part;
-pub use field::wide;
-pub use word::all_below;
 
 // The bytes of a block before its children, and where among them the number of the children stands.
 pub const HEAD_SIZE: usize = 2;

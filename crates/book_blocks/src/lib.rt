@@ -1,11 +1,11 @@
 // Section 2 of the book: the count M and the blocks.
 use book::CHILD_COUNT_AT;
-use book::COUNT_SIZE;
 use book::HEAD_SIZE;
-use book::all_below;
-use book::count_at;
-use book::part;
-use book::wide;
+use book_bytes::COUNT_SIZE;
+use book_bytes::all_below;
+use book_bytes::count_at;
+use book_bytes::part;
+use book_bytes::wide;
 use refusal::Refusal;
 ghost use mathlib.Core.Path.{_≡_};
 ghost use Prim.Native.Nat.{_+_, _≤_};

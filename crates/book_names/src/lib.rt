@@ -1,8 +1,8 @@
 // Section 1 of the book: the count N and the names.
-use book::COUNT_SIZE;
-use book::count_at;
-use book::part;
-use book::wide;
+use book_bytes::COUNT_SIZE;
+use book_bytes::count_at;
+use book_bytes::part;
+use book_bytes::wide;
 use nameset::PLACES;
 use nameset::good_count;
 use refusal::Outcome;

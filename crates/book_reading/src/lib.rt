@@ -1,9 +1,9 @@
 // A book read: its length, then its two sections.
-use book::COUNT_SIZE;
 use book::Layout;
 use book::Reading;
 use book_blocks::BlockCount;
 use book_blocks::block_section;
+use book_bytes::COUNT_SIZE;
 use book_names::name_section;
 use nameset::PLACES;
 use refusal::Outcome;

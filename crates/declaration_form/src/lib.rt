@@ -83,7 +83,7 @@ fn good_word(classes: &[u8; 256], text: &[u8], from: usize, to: usize) -> bool
     requires { ⌜ (now classes ≡ classTable) × (from ≤ to) × (to ≤ length (now text)) ⌝ }
     ensures { λ r. ⌜ r ≡ isName (take (to - from) (drop from (now (text .entry)))) ⌝ }
 {
-    name::is_name(classes, book::part(text, from, to))
+    name::is_name(classes, book_bytes::part(text, from, to))
 }
 
 // Whether white space stands where it has to, behind a word.

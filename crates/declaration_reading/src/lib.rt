@@ -114,7 +114,7 @@ fn read_tokens(bytes: &[u8], layout: Layout, text: &[u8], at: usize) -> Declarat
     if piece.kind != WORD {
         return refused(Refusal::NotADeclaration);
     }
-    match book_access::find_name(bytes, layout, book::part(text, piece.from, piece.to)) {
+    match book_access::find_name(bytes, layout, book_bytes::part(text, piece.from, piece.to)) {
         Found::At(parent) => read_model(bytes, layout, text, piece.to, parent),
         Found::Nothing => refused(Refusal::UnknownName),
     }

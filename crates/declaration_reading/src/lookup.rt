@@ -21,7 +21,7 @@ pub fn number_at(bytes: &[u8], layout: Layout, text: &[u8], piece: Piece) -> usi
     if piece.kind != WORD {
         return 0;
     }
-    match book_access::find_name(bytes, layout, book::part(text, piece.from, piece.to)) {
+    match book_access::find_name(bytes, layout, book_bytes::part(text, piece.from, piece.to)) {
         Found::At(x) => x,
         Found::Nothing => PLACES,
     }

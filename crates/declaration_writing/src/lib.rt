@@ -52,7 +52,7 @@ pub fn write_chain(
     if buffer.len() < size {
         return refused(Refusal::BufferTooShort);
     }
-    put_all(buffer, 0, book::part(&text, 0, size));
+    put_all(buffer, 0, book_bytes::part(&text, 0, size));
     Written {
         outcome: Outcome::Done,
         length: size,

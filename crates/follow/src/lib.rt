@@ -1,8 +1,8 @@
 // Follow facts of one parent: which names may start a word, which may end one, which follow which, and whether a word
 // is empty.
 use book::Layout;
-use book::part;
 use book_access::block_at_place;
+use book_bytes::part;
 use nameset::NameSet;
 use nameset::ROWS;
 use nameset::put_row;

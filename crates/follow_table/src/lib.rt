@@ -1,8 +1,8 @@
 // The follow facts of all parents of a book, gathered in one walk over its blocks into a table with a row of words for
 // each parent.
 use book::Layout;
-use book::part;
 use book_access::block_at_place;
+use book_bytes::part;
 use follow::Facts;
 use follow::ParentFacts;
 use follow::add_pairs;

@@ -23,7 +23,7 @@ fn bad_word(names: usize, word: &[u8]) -> bool
     if LONGEST < word.len() {
         true
     } else {
-        !book::all_below(word, names)
+        !book_bytes::all_below(word, names)
     }
 }
 

@@ -3,7 +3,7 @@
 // of the name that is the text (or -), and each block as its parent, a colon and the number of its children.
 use book::Found;
 use book::Layout;
-use book::wide;
+use book_bytes::wide;
 use refusal::Outcome;
 ghost use Prim.Native.Nat.{_≤_};
 ghost use lib.ListN.{length};

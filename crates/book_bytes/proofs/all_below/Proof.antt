@@ -9,10 +9,10 @@ use native.Mathlib.Decide.{decLt}
 use lib.Dec.{ltb}
 use borrow.Author.Tests.{lt-ltb, le-ltb}
 use Rattle.byte_row.specs.Largest.{largest}
 use Rattle.book.specs.Book.{allBelow}
 use borrow.Author.Needs.{needs}
-use Rattle.book.proofs.word.all_below.Statement.{statement}
-use Rattle.book.proofs.word.all_below.Tie as tie
+use Rattle.book_bytes.proofs.all_below.Statement.{statement}
+use Rattle.book_bytes.proofs.all_below.Tie as tie
 
 both-below : (n x y : ℕ) → ltb (max x y) n ≡ (ltb x n && ltb y n)
 both-below n x y = go (decLt x n) (decLt y n)

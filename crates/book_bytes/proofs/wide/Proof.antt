@@ -1,8 +1,8 @@
 -- `wide` meets its contract.
 -- Assumes nothing.
 use borrow.Author.Needs.{needs}
-use Rattle.book.proofs.field.wide.Statement.{statement}
-use Rattle.book.proofs.field.wide.Tie as tie
+use Rattle.book_bytes.proofs.wide.Statement.{statement}
+use Rattle.book_bytes.proofs.wide.Tie as tie
 
 returns : tie.Need-returns
 returns c = search needs

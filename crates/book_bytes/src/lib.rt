@@ -1,8 +1,10 @@
-// Bytes, counts and parts of the book.
+// What the bytes at a place of a book say: a byte, a count, a part; and whether each number of a word is below n.
+use byte_row::largest_from;
 ghost use mathlib.Core.Path.{_≡_};
 ghost use Prim.Native.Nat.{_+_, _-_, _≤_, _<_};
 ghost use lib.ListN.{length, take, drop};
 ghost use Rattle.book.specs.Field.{countSize, countAt};
+ghost use Rattle.book.specs.Book.{allBelow};
 
 // The bytes of a count.
 pub const COUNT_SIZE: usize = 2;
@@ -27,4 +29,12 @@ pub fn part(bytes: &[u8], from: usize, to: usize) -> &[u8]
     ensures { λ r. ⌜ now r ≡ take (to - from) (drop from (now (bytes .entry))) ⌝ }
 {
     &bytes[from..to]
+}
+
+// Whether each number of a word is below n.
+pub fn all_below(word: &[u8], n: usize) -> bool
+    requires { ⌜ 0 < n ⌝ }
+    ensures { λ r. ⌜ r ≡ allBelow n (now (word .entry)) ⌝ }
+{
+    wide(largest_from(word, 0)) < n
 }
