@@ -1,4 +1,4 @@
--- `model_accept::may_end` meets its contract, whatever the factor row.
+-- `model_step::may_end` meets its contract, whatever the factor row.
 -- Assumes nothing.
 use Prim.Native.Nat.{ℕ}
 use mathlib.Core.Path.{_≡_, refl, sym, _∙_}
@@ -8,8 +8,8 @@ use Rattle.model.specs.declared.State.{State}
 use Rattle.model.specs.declared.Moved.the-variants.{To, Nowhere}
 use Rattle.model.specs.Run.{wentTo, mayEnd}
 use Rattle.model.proofs.Tests.{never}
-use Rattle.model_accept.proofs.may_end.Statement.{statement}
-use Rattle.model_accept.proofs.may_end.Tie as tie
+use Rattle.model_step.proofs.may_end.Statement.{statement}
+use Rattle.model_step.proofs.may_end.Tie as tie
 
 -- Where a run is tells whether it went there.
 went : (there : Bool) (own : ℕ) (s : State) → wentTo there own ≡ To s → true ≡ there

@@ -1,8 +1,8 @@
--- `model_accept::went_to` meets its contract.
+-- `model_step::went_to` meets its contract.
 -- Assumes nothing.
 use Rattle.model.specs.Run.{wentTo}
-use Rattle.model_accept.proofs.went_to.Statement.{statement}
-use Rattle.model_accept.proofs.went_to.Tie as tie
+use Rattle.model_step.proofs.went_to.Statement.{statement}
+use Rattle.model_step.proofs.went_to.Tie as tie
 
 returns : tie.Need-returns
 unfolding wentTo

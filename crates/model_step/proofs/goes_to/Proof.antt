@@ -1,4 +1,4 @@
--- `model_accept::goes_to` meets its contract. The loop keeps whether the run goes there.
+-- `model_step::goes_to` meets its contract. The loop keeps whether the run goes there.
 -- Assumes nothing.
 use Prim.Native.Nat.{ℕ, _+_, _-_}
 use mathlib.Core.Path.{_≡_, refl, sym, _∙_, ap}
@@ -8,8 +8,8 @@ use Rattle.model.specs.declared.Turn.{Turn}
 use Rattle.model.specs.declared.Moved.{Moved}
 use Rattle.model.specs.Run.{state, after, goesTo, wentTo}
 use Rattle.model.proofs.Turns.{takes-own, goes-turn, goes-past}
-use Rattle.model_accept.proofs.goes_to.Statement.{statement}
-use Rattle.model_accept.proofs.goes_to.Tie as tie
+use Rattle.model_step.proofs.goes_to.Statement.{statement}
+use Rattle.model_step.proofs.goes_to.Tie as tie
 
 abbrev Inv-loop : tie.InvT-loop
 Inv-loop count mode own through factor₀ taken₀ factor taken = goesTo count mode own through (state factor taken) ≡ goesTo count mode own through (state factor₀ taken₀)

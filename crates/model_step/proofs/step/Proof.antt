@@ -1,4 +1,4 @@
--- `model_accept::step` meets its contract.
+-- `model_step::step` meets its contract.
 -- Assumes nothing.
 use Prim.Native.Nat.{ℕ}
 use mathlib.Core.Path.{_∙_, ap}
@@ -6,8 +6,8 @@ use mathlib.Core.Bool.{false}
 use borrow.Author.Needs.{needs}
 use Rattle.model.specs.Record.{factorOf}
 use Rattle.model.specs.Run.{goesTo, wentTo, move}
-use Rattle.model_accept.proofs.step.Statement.{statement}
-use Rattle.model_accept.proofs.step.Tie as tie
+use Rattle.model_step.proofs.step.Statement.{statement}
+use Rattle.model_step.proofs.step.Tie as tie
 
 returns : tie.Need-returns
 unfolding move factorOf

@@ -1,12 +1,12 @@
--- `acceptance::next_turn` meets its contract: one answer for each way through the arms.
+-- `model_step::next_turn` meets its contract: one answer for each way through the arms.
 -- Assumes nothing.
 use Prim.Native.Nat.{ℕ, zero, suc}
 use mathlib.Core.Path.{_≡_, refl, sym}
 use mathlib.Core.Bool.{Bool}
 use Rattle.model.specs.declared.Turn.the-variants.{Refuse}
 use Rattle.model.specs.Run.{either, turnOf}
-use Rattle.model_accept.proofs.next_turn.Statement.{statement}
-use Rattle.model_accept.proofs.next_turn.Tie as tie
+use Rattle.model_step.proofs.next_turn.Statement.{statement}
+use Rattle.model_step.proofs.next_turn.Tie as tie
 
 no-mode : (m : ℕ) (t h : Bool) → (m ≡ 0 → ⊥) → (m ≡ 1 → ⊥) → (m ≡ 2 → ⊥) → (m ≡ 3 → ⊥) → turnOf m t h ≡ Refuse
 unfolding turnOf either
