@@ -10,7 +10,7 @@ use lib.ListN.{length, getD}
 use Rattle.model.specs.Record.{noFactor}
 use Rattle.model.specs.Build.{ofRows}
 use Rattle.model.specs.Check.{everyBelow, anyBelow, allPlaced, allNamed, allKnown, isChain}
-use Rattle.model_check.proofs.Factors.{used-named}
+use Rattle.model_rows.proofs.Factors.{used-named}
 
 module _ (size n count : ℕ) (factors modes : List ℕ) where
   pub factors-unfit : ¬ (length factors ≡ size) → isChain size n (ofRows count factors modes) ≡ false

@@ -1,4 +1,4 @@
--- `model_check::all_among` meets its contract: `top` is at most `count` where the numbers passed are in such a factor
+-- `model_rows::all_among` meets its contract: `top` is at most `count` where the numbers passed are in such a factor
 -- or in none.
 -- Assumes nothing.
 use Prim.Native.Nat.{_-_, _≤_, _<_}
@@ -10,9 +10,9 @@ use lib.Dec.{leb}
 use lib.ListN.{length, getD}
 use Rattle.model.specs.Record.{noFactor}
 use Rattle.model.specs.Check.{everyBelow, mayHold}
-use Rattle.model_check.proofs.Factors.{among, among-start, among-more, among-done}
-use Rattle.model_check.proofs.all_among.Statement.{statement}
-use Rattle.model_check.proofs.all_among.Tie as tie
+use Rattle.model_rows.proofs.Factors.{among, among-start, among-more, among-done}
+use Rattle.model_rows.proofs.all_among.Statement.{statement}
+use Rattle.model_rows.proofs.all_among.Tie as tie
 
 abbrev Inv-loop : tie.InvT-loop
 Inv-loop count factor from top₀ x₀ top x = (from ≤ x) × (top < 256) × (leb top count ≡ everyBelow x (among count factor from))

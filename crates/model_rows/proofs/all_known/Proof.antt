@@ -1,9 +1,9 @@
--- `model_check::all_known` meets its contract.
+-- `model_rows::all_known` meets its contract.
 -- Assumes nothing.
 use borrow.Author.Needs.{needs}
-use Rattle.model_check.proofs.Modes.{modes-known, mode-unknown}
-use Rattle.model_check.proofs.all_known.Statement.{statement}
-use Rattle.model_check.proofs.all_known.Tie as tie
+use Rattle.model_rows.proofs.Modes.{modes-known, mode-unknown}
+use Rattle.model_rows.proofs.all_known.Statement.{statement}
+use Rattle.model_rows.proofs.all_known.Tie as tie
 
 returns : tie.Need-returns
 returns c =

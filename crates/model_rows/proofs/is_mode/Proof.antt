@@ -1,4 +1,4 @@
--- `model_check::is_mode` meets its contract.
+-- `model_rows::is_mode` meets its contract.
 -- Assumes nothing.
 use Prim.Native.Nat.{ℕ, _≤_, _<_}
 use mathlib.Core.Path.{_≡_, sym}
@@ -6,8 +6,8 @@ use mathlib.Core.Bool.{true, false}
 use native.Mathlib.Omega.{arith}
 use borrow.Author.Tests.{le-leb, lt-leb}
 use Rattle.model.specs.Check.{mayBe}
-use Rattle.model_check.proofs.is_mode.Statement.{statement}
-use Rattle.model_check.proofs.is_mode.Tie as tie
+use Rattle.model_rows.proofs.is_mode.Statement.{statement}
+use Rattle.model_rows.proofs.is_mode.Tie as tie
 
 few : (mode : ℕ) → mode ≤ 3 → true ≡ mayBe true mode
 unfolding mayBe

@@ -1,9 +1,9 @@
--- `model_check::all_used` meets its contract.
+-- `model_rows::all_used` meets its contract.
 -- Assumes nothing.
 use borrow.Author.Needs.{needs}
-use Rattle.model_check.proofs.Used.{used-law}
-use Rattle.model_check.proofs.all_used.Statement.{statement}
-use Rattle.model_check.proofs.all_used.Tie as tie
+use Rattle.model_rows.proofs.Used.{used-law}
+use Rattle.model_rows.proofs.all_used.Statement.{statement}
+use Rattle.model_rows.proofs.all_used.Tie as tie
 
 returns : tie.Need-returns
 returns c =

@@ -1,9 +1,9 @@
--- `model_check::all_placed` meets its contract.
+-- `model_rows::all_placed` meets its contract.
 -- Assumes nothing.
 use borrow.Author.Needs.{needs}
-use Rattle.model_check.proofs.Factors.{all-placed, one-misplaced}
-use Rattle.model_check.proofs.all_placed.Statement.{statement}
-use Rattle.model_check.proofs.all_placed.Tie as tie
+use Rattle.model_rows.proofs.Factors.{all-placed, one-misplaced}
+use Rattle.model_rows.proofs.all_placed.Statement.{statement}
+use Rattle.model_rows.proofs.all_placed.Tie as tie
 
 returns : tie.Need-returns
 returns c =

@@ -1,9 +1,9 @@
--- `model_check::counted` meets its contract.
+-- `model_rows::counted` meets its contract.
 -- Assumes nothing.
 use borrow.Author.Needs.{needs}
-use Rattle.model_check.proofs.Factors.{none-counted, factor-counted}
-use Rattle.model_check.proofs.counted.Statement.{statement}
-use Rattle.model_check.proofs.counted.Tie as tie
+use Rattle.model_rows.proofs.Factors.{none-counted, factor-counted}
+use Rattle.model_rows.proofs.counted.Statement.{statement}
+use Rattle.model_rows.proofs.counted.Tie as tie
 
 returns : tie.Need-returns
 returns c = none-counted _ (c .if1 .taken)

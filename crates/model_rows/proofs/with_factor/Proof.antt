@@ -1,4 +1,4 @@
--- `model_check::with_factor` meets its contract.
+-- `model_rows::with_factor` meets its contract.
 -- Assumes nothing.
 use mathlib.Core.Path.{sym, _∙_, ap}
 use mathlib.Core.Bool.{Bool, _||_, or-false}
@@ -6,8 +6,8 @@ use native.Mathlib.Omega.{arith}
 use borrow.Author.Tests.{ne-eqb}
 use borrow.Author.Needs.{needs}
 use Rattle.nameset.specs.Set.{member}
-use Rattle.model_check.proofs.with_factor.Statement.{statement}
-use Rattle.model_check.proofs.with_factor.Tie as tie
+use Rattle.model_rows.proofs.with_factor.Statement.{statement}
+use Rattle.model_rows.proofs.with_factor.Tie as tie
 
 returns : tie.Need-returns
 returns c = λ i l. c .with .ensures .members i

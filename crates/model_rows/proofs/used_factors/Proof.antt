@@ -1,4 +1,4 @@
--- `model_check::used_factors` meets its contract. The set has the factors of the names passed.
+-- `model_rows::used_factors` meets its contract. The set has the factors of the names passed.
 -- Assumes nothing.
 use Prim.Native.Nat.{ℕ, _-_, _≤_, _<_, min}
 use mathlib.Core.Path.{_≡_, sym, _∙_, ap, ap₂}
@@ -12,9 +12,9 @@ use Rattle.nameset.specs.Set.{member}
 use Rattle.model.specs.Record.{noFactor}
 use Rattle.model.specs.Check.{anyBelow}
 use Rattle.model.proofs.Tests.{any-start, any-more}
-use Rattle.model_check.proofs.Factors.{named-within}
-use Rattle.model_check.proofs.used_factors.Statement.{statement}
-use Rattle.model_check.proofs.used_factors.Tie as tie
+use Rattle.model_rows.proofs.Factors.{named-within}
+use Rattle.model_rows.proofs.used_factors.Statement.{statement}
+use Rattle.model_rows.proofs.used_factors.Tie as tie
 
 -- Whether factor i holds the name x.
 abbrev holds : List ℕ → ℕ → ℕ → Bool
