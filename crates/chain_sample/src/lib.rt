@@ -21,7 +21,7 @@ pub fn sample_chain(bytes: &[u8], layout: Layout, parent: usize) -> SampleChain
     ensures { λ r. ⌜ (r .blocks ≡ length (wordsOf parent (blocksIn (now (bytes .entry)))))
         × (r .model ≡ chainOfWords places (layout .names) (wordsOf parent (blocksIn (now (bytes .entry))))) ⌝ }
 {
-    let found = follow::parent_facts(bytes, layout, parent);
+    let found = follow_parent::parent_facts(bytes, layout, parent);
     SampleChain {
         blocks: found.blocks,
         model: chain::chain(found.facts, layout.names),

@@ -11,8 +11,9 @@ use lib.Seq.{drop-cons}
 use Rattle.nameset.specs.declared.NameSet.{NameSet}
 use Rattle.nameset.specs.Set.{with}
 use Rattle.nameset.specs.Rows.{rowAt, putRow}
+use Rattle.follow.specs.declared.Facts.{Facts}
 use Rattle.follow.specs.Follow.{isEmpty}
-use Rattle.follow.specs.Adding.{withFirst, withLast, withPair, withPairs}
+use Rattle.follow.specs.Adding.{withFirst, withLast, withPair, withPairs, withWord}
 
 -- ---- a word with no name
 
@@ -74,3 +75,12 @@ pairs-next rows next w i a b r s h eb er es en = rw (en, es, er, add-one i, drop
 pub pairs-done : (rows w : List ℕ) (a i : ℕ) → length w ≤ i → pairsLeft rows a w i ≡ rows
 unfolding pairsLeft withPairs
 pairs-done rows w a i h = rw (drop-of-length-le w h)
+
+-- ---- all that it adds
+
+-- the struct with a word added, field by field
+pub word-added : (facts : Facts) (s e : NameSet) (r w : List ℕ) (b : Bool) →
+    s ≡ withFirst (facts .starts) w → e ≡ withLast (facts .ends) w → r ≡ withPairs (facts .follows) w → b ≡ (facts .empty || isEmpty w) →
+    record { starts = s; ends = e; follows = r; empty = b } ≡ withWord facts w
+unfolding withWord
+word-added facts s e r w b es ee er eb = rw (es, ee, er, eb)

@@ -1,8 +1,5 @@
-// Follow facts of one parent: which names may start a word, which may end one, which follow which, and whether a word
-// is empty.
-use book::Layout;
-use book_access::block_at_place;
-use book_bytes::part;
+// Follow facts of words: which names may start a word, which may end one, which follow which, and whether a word is
+// empty.
 use nameset::NameSet;
 use nameset::ROWS;
 use nameset::put_row;
@@ -13,11 +10,9 @@ ghost use Prim.Native.Nat.{_<_};
 ghost use lib.ListN.{length, getD};
 ghost use Rattle.nameset.specs.Places.{places};
 ghost use Rattle.nameset.specs.Rows.{IsRows};
-ghost use Rattle.book.specs.Book.{allBelow, blocksIn};
-ghost use Rattle.book.specs.Access.{LaidOut};
+ghost use Rattle.book.specs.Book.{allBelow};
 ghost use Rattle.follow.specs.Follow.{isEmpty};
-ghost use Rattle.follow.specs.Sample.{wordsOf};
-ghost use Rattle.follow.specs.Adding.{withFirst, withLast, withPairs, withWord, factsOf};
+ghost use Rattle.follow.specs.Adding.{withFirst, withLast, withPairs, withWord};
 
 // Row a of `follows` keeps the names that follow a.
 pub struct Facts {
@@ -25,12 +20,6 @@ pub struct Facts {
     pub ends: NameSet,
     pub follows: [u64; ROWS],
     pub empty: bool,
-}
-
-// How many blocks a parent has, and what their words show.
-pub struct ParentFacts {
-    pub blocks: usize,
-    pub facts: Facts,
 }
 
 // The name at a place of a word.
@@ -75,7 +64,7 @@ pub fn with_last(names: NameSet, word: &[u8]) -> NameSet
 }
 
 // Whether there was an empty word before, or this one is empty.
-fn or_empty(empty: bool, word: &[u8]) -> bool
+pub fn or_empty(empty: bool, word: &[u8]) -> bool
     ensures { λ r. ⌜ r ≡ (empty || isEmpty (now (word .entry))) ⌝ }
 {
     if word.len() == 0 {
@@ -112,41 +101,5 @@ pub fn add_word(facts: Facts, word: &[u8]) -> Facts
         ends: with_last(facts.ends, word),
         follows: rows,
         empty: or_empty(facts.empty, word),
-    }
-}
-
-// The facts of a parent in a book that was read, in one walk over its blocks.
-pub fn parent_facts(bytes: &[u8], layout: Layout, parent: usize) -> ParentFacts
-    requires { ⌜ LaidOut (now bytes) layout ⌝ }
-    ensures { λ r. ⌜ (r .blocks ≡ length (wordsOf parent (blocksIn (now (bytes .entry))))) × (r .facts ≡ factsOf (wordsOf parent (blocksIn (now (bytes .entry))))) ⌝ }
-{
-    let mut starts = NameSet::empty();
-    let mut ends = NameSet::empty();
-    let mut rows = [0u64; ROWS];
-    let mut empty = false;
-    let mut blocks = 0;
-    let mut at = layout.body;
-    let mut left = layout.blocks;
-    while 0 < left {
-        let block = block_at_place(bytes, at);
-        if block.parent == parent {
-            let word = part(bytes, block.from, block.to);
-            starts = with_first(starts, word);
-            ends = with_last(ends, word);
-            add_pairs(&mut rows, word);
-            empty = or_empty(empty, word);
-            blocks += 1;
-        }
-        at = block.to;
-        left -= 1;
-    }
-    ParentFacts {
-        blocks,
-        facts: Facts {
-            starts,
-            ends,
-            follows: rows,
-            empty,
-        },
     }
 }

@@ -17,7 +17,7 @@ use Rattle.nameset.specs.Rows.{rowAt, putRow}
 use Rattle.nameset.proofs.Rows.{row-kept}
 use Rattle.follow.specs.Follow.{isEmpty}
 use Rattle.follow.specs.Adding.{withFirst, withLast, withPairs}
-use Rattle.follow.proofs.Walk.{word-added}
+use Rattle.follow.proofs.Words.{word-added}
 use Rattle.follow_table.specs.Table.{rowHead, rowSize, factsIn, countIn, withEnds, HasRoom, HeadAdded, RowAdded}
 
 -- ---- the copy of the following names

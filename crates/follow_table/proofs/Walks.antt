@@ -12,7 +12,7 @@ use Rattle.book.specs.declared.Layout.{Layout}
 use Rattle.book.specs.declared.BlockPlace.{BlockPlace}
 use Rattle.book.specs.Access.{LaidOut, blockPlace}
 use Rattle.follow.specs.Adding.{noFacts, withWord}
-use Rattle.follow.proofs.Walk.{Walk, walk-begin, walk-done, goes-on, own-turn, other-turn}
+use Rattle.follow_parent.proofs.Walk.{Walk, walk-begin, walk-done, goes-on, own-turn, other-turn}
 use Rattle.follow_table.specs.Table.{tabled, rowSize, tableSize, rowOf, factsIn, countIn, HasRoom, Added, Gathered}
 use Rattle.follow_table.proofs.Parts.{row-zeros}
 

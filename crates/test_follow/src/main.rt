@@ -41,7 +41,7 @@ fn print_facts(facts: Facts) {
 fn print_parent(bytes: &[u8], layout: Layout, parent: usize)
     requires { ⌜ LaidOut (now bytes) layout ⌝ }
 {
-    let found = follow::parent_facts(bytes, layout, parent);
+    let found = follow_parent::parent_facts(bytes, layout, parent);
     let facts = found.facts;
     test_lines::print(b"blocks ");
     test_lines::print_number(found.blocks);
@@ -60,7 +60,7 @@ fn print_parents(bytes: &[u8], layout: Layout)
     print_parent(bytes, layout, 1);
     print_parent(bytes, layout, 5);
     print_parent(bytes, layout, 2);
-    let found = follow::parent_facts(bytes, layout, 0);
+    let found = follow_parent::parent_facts(bytes, layout, 0);
     let facts = found.facts;
     print_facts(with_pair(facts));
 }

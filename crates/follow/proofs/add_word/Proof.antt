@@ -1,7 +1,7 @@
 -- `add_word` meets its contract.
 -- Assumes nothing.
 use borrow.Author.Needs.{needs}
-use Rattle.follow.proofs.Walk.{word-added}
+use Rattle.follow.proofs.Words.{word-added}
 use Rattle.follow.proofs.add_word.Statement.{statement}
 use Rattle.follow.proofs.add_word.Tie as tie
 

@@ -5,7 +5,7 @@ use mathlib.Core.Path.{_≡_, refl}
 use native.Mathlib.Omega.{arith}
 use lib.ListN.{length, length-replicate}
 use borrow.Author.Needs.{needs}
-use Rattle.follow.proofs.Walk.{Walk, turn, parent-named, part-fits, word-below}
+use Rattle.follow_parent.proofs.Walk.{Walk, turn, parent-named, part-fits, word-below}
 use Rattle.follow_table.specs.Table.{tableSize, rowOf, factsIn, countIn}
 use Rattle.follow_table.proofs.Walks.{Walks, count-room, walks-begin, walks-on, walks-done}
 use Rattle.follow_table.proofs.gather_facts.Statement.{statement}

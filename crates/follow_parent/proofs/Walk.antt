@@ -2,7 +2,7 @@
 -- Assumes nothing.
 use Prim.Native.Nat.{ℕ, suc, _+_, _-_, _≤_, _<_}
 use mathlib.Core.Path.{_≡_, refl, sym, _∙_, ap, subst}
-use mathlib.Core.Bool.{Bool, true, false, _||_}
+use mathlib.Core.Bool.{Bool, true, false}
 use mathlib.Core.List.{List, [], _∷_}
 use native.Mathlib.Omega.{arith}
 use native.Mathlib.Nat.{lt-of-lt-of-le}
@@ -22,18 +22,11 @@ use Rattle.book.specs.Stops.{BlocksBelow}
 use Rattle.book.proofs.Laws.{blocks-within, few-names}
 use Rattle.book.proofs.Blocks.{BlockLaid, BlocksAhead, all-ahead, NextBlock, next-block, others-ahead}
 use Rattle.model.proofs.Tests.{both, and-left, and-right}
 use Rattle.follow.specs.declared.Facts.{Facts}
-use Rattle.follow.specs.Follow.{isEmpty}
 use Rattle.follow.specs.Sample.{wordsOf}
-use Rattle.follow.specs.Adding.{noFacts, withFirst, withLast, withPairs, withWord, withWords, factsOf}
+use Rattle.follow.specs.Adding.{noFacts, withWord, withWords, factsOf}
 
--- what a word adds, field by field
-pub word-added : (facts : Facts) (s e : NameSet) (r w : List ℕ) (b : Bool) →
-    s ≡ withFirst (facts .starts) w → e ≡ withLast (facts .ends) w → r ≡ withPairs (facts .follows) w → b ≡ (facts .empty || isEmpty w) →
-    record { starts = s; ends = e; follows = r; empty = b } ≡ withWord facts w
-unfolding withWord
-word-added facts s e r w b es ee er eb = rw (es, ee, er, eb)
-
+-- where nothing is added, field by field
 pub none-added : (facts : Facts) (s e : NameSet) (r : List ℕ) (b : Bool) →
     s ≡ facts .starts → e ≡ facts .ends → r ≡ facts .follows → b ≡ facts .empty →
     record { starts = s; ends = e; follows = r; empty = b } ≡ facts

@@ -12,9 +12,10 @@ use Rattle.nameset.specs.Places.{places}
 use Rattle.nameset.specs.Rows.{IsRows, noRows}
 use Rattle.nameset.proofs.Rows.{no-rows}
 use Rattle.book.specs.Book.{allBelow}
-use Rattle.follow.proofs.Walk.{Walk, word-added, none-added, walk-begin, walk-done, turn, goes-on, part-fits, word-below, own-turn, other-turn}
-use Rattle.follow.proofs.parent_facts.Statement.{statement}
-use Rattle.follow.proofs.parent_facts.Tie as tie
+use Rattle.follow.proofs.Words.{word-added}
+use Rattle.follow_parent.proofs.Walk.{Walk, none-added, walk-begin, walk-done, turn, goes-on, part-fits, word-below, own-turn, other-turn}
+use Rattle.follow_parent.proofs.parent_facts.Statement.{statement}
+use Rattle.follow_parent.proofs.parent_facts.Tie as tie
 
 abbrev Inv-loop : tie.InvT-loop
 Inv-loop bytes parent starts₀ ends₀ rows₀ empty₀ blocks₀ at₀ left₀ starts ends rows empty blocks at left =
