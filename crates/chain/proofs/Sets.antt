@@ -1,4 +1,4 @@
--- Laws of reach by rounds, and of sets that are empty, meet, or have one name.
+-- Laws of the names that occur, and of sets that are empty, meet, or have one name.
 -- Assumes nothing.
 use Prim.Native.Nat.{ℕ, zero, suc, _+_, _≤_, _<_}
 use mathlib.Core.Path.{_≡_, refl, sym, _∙_, ap, ap₂, fun-ext}
@@ -6,61 +6,27 @@ use mathlib.Core.Bool.{Bool, true, false, cond, _&&_, _||_, not, or-false, or-as
 use mathlib.Core.List.{List}
 use mathlib.Core.Logic.{_⊎_, inl, inr}
 use native.Mathlib.Omega.{arith}
-use native.Mathlib.Numerals.{add-one}
 use native.Mathlib.Decide.{ℕ-discrete}
 use borrow.Author.Tests.{eq-eqb, ne-eqb}
 use lib.Dec.{eqb, ltb}
 use Rattle.nameset.specs.Places.{places}
 use Rattle.nameset.specs.declared.NameSet.{NameSet}
 use Rattle.nameset.specs.Set.{member, Sized, first}
-use Rattle.nameset.specs.Rows.{IsRows, rowAt}
+use Rattle.nameset.specs.Rows.{rowAt}
 use Rattle.nameset.specs.Promise.{Emptiness, Shrunk}
 use Rattle.nameset.proofs.Laws.{first-in}
 use Rattle.model.proofs.Tests.{same-test}
-use Rattle.follow.specs.Follow.{Follow}
 use Rattle.follow.specs.View.{viewOf}
 use Rattle.follow.specs.declared.Facts.{Facts}
 use Rattle.chain_levels.specs.Below.{anyBelow, countBelow}
-use Rattle.chain_levels.specs.Reach.{reachBy, reaches, occurs}
+use Rattle.chain_levels.specs.Reach.{occurs}
 use Rattle.chain_levels.specs.Chain.{factors}
 use Rattle.chain_peel.specs.Shown.{Shown}
 use Rattle.chain_peel.specs.Sets.{meets, inRows, stepsOver}
 use Rattle.chain_levels.proofs.Tests.{and-is, or-is, ltb-is, some-is, refuted, both-ways}
 use Rattle.chain_levels.proofs.Below.{some-count}
-use Rattle.chain_peel.proofs.Reaching.{occurs-small, edge-follows}
 use Rattle.chain_peel.proofs.Rows.{rows-none, rows-both}
-use Rattle.chain_rows.specs.Rows.{inRow, OnlyNames, Round, amongRows}
-use Rattle.chain.specs.Chain.{Reached}
-
--- ---- reach
-
-pub reach-none : (facts : Facts) (n : ℕ) → Shown (viewOf n facts) → (a b : ℕ) → inRow (facts .follows) a b ≡ reachBy (viewOf n facts) 0 a b
-unfolding inRow reachBy
-reach-none facts n s a b = sym (edge-follows (viewOf n facts) s a b)
-
-pub reach-more : (f : Follow) (n : ℕ) (old new : List ℕ) (k : ℕ) → ((a b : ℕ) → inRow old a b ≡ reachBy f k a b) → Round n old new k → (a b : ℕ) → inRow new a b ≡ reachBy f (k + 1) a b
-unfolding reachBy
-reach-more f n old new k e r a b = r .law a b ∙ rw (add-one k, e a b, e a k, e k b)
-
--- the facts speak of names only
-only-shown : (facts : Facts) (n : ℕ) → Shown (viewOf n facts) → IsRows places (facts .follows) → OnlyNames n (facts .follows)
-unfolding inRow
-only-shown facts n s h = record { size = h; below = λ a b e. (occurs-small (viewOf n facts) a (s .followed a b e), s .follows a b e) }
-
--- The rows after k rounds, whichever facts over n names the first rows are of.
-pub record Rounds (n : ℕ) (old new : List ℕ) (k : ℕ) : Type 0 where
-  pub names : OnlyNames n new
-  pub law : (facts : Facts) → facts .follows ≡ old → Shown (viewOf n facts) → (a b : ℕ) → inRow new a b ≡ reachBy (viewOf n facts) k a b
-
-pub rounds-none : (n : ℕ) (first : Facts) → Shown (viewOf n first) → IsRows places (first .follows) → Rounds n (first .follows) (first .follows) 0
-rounds-none n first s h = record { names = only-shown first n s h; law = λ facts e q a b. ap (λ (r : List ℕ). inRow r a b) (sym e) ∙ reach-none facts n q a b }
-
-pub rounds-more : {n : ℕ} {old new : List ℕ} {k : ℕ} → Rounds n old new k → (next : List ℕ) → Round n new next k → Rounds n old next (k + 1)
-rounds-more {n} {old} {new} {k} r next t = record { names = t .names; law = λ facts e s. reach-more (viewOf n facts) n new next k (r .law facts e s) t }
-
-pub rounds-all : {n : ℕ} {old new : List ℕ} {k : ℕ} → Rounds n old new k → (facts : Facts) → facts .follows ≡ old → Shown (viewOf n facts) → k ≡ n → Reached (viewOf n facts) new
-unfolding reaches
-rounds-all {n} {old} {new} {k} r facts e s q = record { names = r .names; law = λ a b. r .law facts e s a b ∙ ap (λ (j : ℕ). reachBy (viewOf n facts) j a b) q }
+use Rattle.chain_rows.specs.Rows.{inRow, amongRows}
 
 -- ---- names that occur
 

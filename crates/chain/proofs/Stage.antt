@@ -34,7 +34,8 @@ use Rattle.chain_peel.proofs.Skips.{skipped-over}
 use Rattle.chain_peel.proofs.Counting.{level-room}
 use Rattle.chain_rows.specs.Rows.{inRow, leadsAway, OneWay, groupIn, loopsIn, smallestIn, leadsIn}
 use Rattle.chain_rows.proofs.Laws.{group-members}
-use Rattle.chain.specs.Chain.{Reached, holdsIn}
+use Rattle.chain_reach.specs.Reached.{Reached}
+use Rattle.chain.specs.Chain.{holdsIn}
 use Rattle.chain.proofs.Factors.{each-upto}
 
 -- ---- the tables

@@ -1,7 +1,7 @@
 // From follow facts to the chain: reach, loop groups, levels, skips and the factors of each level.
 ghost use mathlib.Core.Path.{_≡_};
 ghost use mathlib.Core.Bool.{cond, _&&_, _||_, not};
-ghost use Prim.Native.Nat.{ℕ, _+_, _≤_, _<_};
+ghost use Prim.Native.Nat.{ℕ, _+_, _≤_};
 ghost use lib.Dec.{eqb};
 ghost use Rattle.nameset.specs.Places.{places};
 ghost use Rattle.nameset.specs.Set.{member};
@@ -13,31 +13,17 @@ ghost use Rattle.follow.specs.View.{viewOf};
 ghost use Rattle.chain_peel.specs.Shown.{Shown};
 ghost use Rattle.chain_peel.specs.Sets.{meets, inRows};
 ghost use Rattle.chain_rows.specs.Rows.{inRow};
-ghost use Rattle.chain.specs.Chain.{Reached, holdsIn};
+ghost use Rattle.chain.specs.Chain.{holdsIn};
+use chain_reach::reach_rows;
 use chain_rows::group;
 use chain_rows::loop_groups;
 use chain_rows::one_way;
-use chain_rows::round;
 use chain_rows::rows_of;
 use chain_rows::with_rows;
 use follow::Facts;
 use model::Model;
 use nameset::NameSet;
 use nameset::ROWS;
-
-// What each name reaches.
-pub fn reach_rows(facts: Facts, n: usize) -> [u64; ROWS]
-    requires { ⌜ (n ≤ places) × Shown (viewOf n facts) ⌝ }
-    ensures { λ r. ⌜ Reached (viewOf n facts) r ⌝ }
-{
-    let mut rows = facts.follows;
-    let mut k = 0;
-    while k < n {
-        round(&mut rows, n, k);
-        k += 1;
-    }
-    rows
-}
 
 // Whether a name is in both sets.
 fn meets(a: NameSet, b: NameSet) -> bool

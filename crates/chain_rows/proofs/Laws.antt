@@ -4,7 +4,6 @@ use Prim.Native.Nat.{ℕ, _+_, _≤_, _<_}
 use mathlib.Core.Path.{_≡_, refl, sym, _∙_, ap, ap₂}
 use mathlib.Core.Bool.{Bool, true, false, cond, _&&_, _||_, not, or-false, or-assoc, and-true, and-false}
 use mathlib.Core.List.{List}
-use mathlib.Core.Logic.{_⊎_, inl, inr}
 use native.Mathlib.Omega.{arith}
 use native.Mathlib.Numerals.{add-one}
 use native.Mathlib.Decide.{ℕ-discrete, decLt}
@@ -19,10 +18,10 @@ use Rattle.nameset.specs.Rows.{IsRows, HasRow, rowAt, putRow, noRows}
 use Rattle.nameset.proofs.Laws.{member-empty, member-minus, first-none}
 use Rattle.nameset.proofs.Rows.{row-put, row-kept, length-put, no-rows, row-of-none}
 use Rattle.chain_levels.specs.Below.{anyBelow}
-use Rattle.chain_levels.proofs.Tests.{some-is, and-is, or-is, both-ways, refuted}
+use Rattle.chain_levels.proofs.Tests.{some-is, both-ways, refuted}
 use Rattle.chain_peel.specs.Sets.{inRows}
 use Rattle.chain_peel.proofs.Rows.{rows-none, rows-first}
-use Rattle.chain_rows.specs.Rows.{inRow, leadsAway, OnlyNames, Round, OneWay, groupIn, loopsIn, smallestIn, leadsIn, amongRows}
+use Rattle.chain_rows.specs.Rows.{inRow, leadsAway, OnlyNames, OneWay, groupIn, loopsIn, smallestIn, leadsIn, amongRows}
 
 -- ---- rows
 
@@ -44,16 +43,8 @@ unfolding inRow
 none-related a b = ap (λ (t : NameSet). member t b) (row-of-none places a) ∙ member-empty b
 
 -- a row from n on is empty
-past : {n : ℕ} {rows : List ℕ} → OnlyNames n rows → (a b : ℕ) → n ≤ a → inRow rows a b ≡ false
+pub past : {n : ℕ} {rows : List ℕ} → OnlyNames n rows → (a b : ℕ) → n ≤ a → inRow rows a b ≡ false
 past {n} {rows} o a b h = refuted (inRow rows a b) (λ e. omega (arith, o .below a b e .0))
-
--- ---- a set joined with another
-
-pub join-yes : (x p u : NameSet) (k : ℕ) → ((j : ℕ) → member u j ≡ (member x j || member p j)) → member x k ≡ true → (b : ℕ) → member u b ≡ (member x b || (member x k && member p b))
-join-yes x p u k law e b = law b ∙ sym (rw e)
-
-pub join-no : (x p : NameSet) (k : ℕ) → member x k ≡ false → (b : ℕ) → member x b ≡ (member x b || (member x k && member p b))
-join-no x p k e b = sym (rw e (or-false (member x b)))
 
 -- ---- a table, row by row
 
@@ -84,46 +75,15 @@ module _ {old new : List ℕ} {test : ℕ → ℕ → Bool} {i : ℕ} (r : Fille
       at a b (no q) = put-other new i a s b q ∙ r .law a b ∙ rw (below-next a i q)
 
   -- the row whose turn it is
-  fill-own : (b : ℕ) → inRow new i b ≡ inRow old i b
+  pub fill-own : (b : ℕ) → inRow new i b ≡ inRow old i b
   fill-own b = r .law i b ∙ rw (le-ltb i i (omega arith))
 
-  fill-all : (n : ℕ) → n ≤ i → ((a b : ℕ) → n ≤ a → inRow old a b ≡ test a b) → (a b : ℕ) → inRow new a b ≡ test a b
+  pub fill-all : (n : ℕ) → n ≤ i → ((a b : ℕ) → n ≤ a → inRow old a b ≡ test a b) → (a b : ℕ) → inRow new a b ≡ test a b
   fill-all n h rest a b = r .law a b ∙ at (decLt a i)
     where
       at : Dec (a < i) → cond (ltb a i) (test a b) (inRow old a b) ≡ test a b
       at (yes l) = rw (lt-ltb a i l)
       at (no l) = rw (le-ltb a i (omega arith)) (rest a b (omega arith))
-
--- ---- a round
-
--- a is related to b, or to k, and b is in the set p
-unfoldable pub turned : List ℕ → NameSet → ℕ → ℕ → ℕ → Bool
-turned rows p k a b = inRow rows a b || (inRow rows a k && member p b)
-
-pub turn-more : (old new : List ℕ) (p : NameSet) (k i : ℕ) → Filled old new (turned old p k) i → (x s : NameSet) → i < places → x ≡ rowAt new i →
-    ((b : ℕ) → member s b ≡ (member x b || (member x k && member p b))) → (next : List ℕ) → next ≡ putRow new i s → Filled old next (turned old p k) (i + 1)
-unfolding turned
-turn-more old new p k i r x s h q e = fill-more r s h (λ b. e b ∙ ap₂ (λ (u v : Bool). u || (v && member p b)) (own b) (own k))
-  where
-    own : (b : ℕ) → member x b ≡ inRow old i b
-    own b = row-is new i x q b ∙ fill-own r b
-
-module _ {n : ℕ} {old : List ℕ} (o : OnlyNames n old) (p : NameSet) (k : ℕ) (q : p ≡ rowAt old k) where
-  through : (new : List ℕ) → IsRows places new → ((a b : ℕ) → inRow new a b ≡ (inRow old a b || (inRow old a k && inRow old k b))) → Round n old new k
-  through new h law = record { names = record { size = h; below = λ a b e. go a b (or-is (inRow old a b) _ .0 (sym (law a b) ∙ e)) }; law = law }
-    where
-      go : (a b : ℕ) → (inRow old a b ≡ true) ⊎ ((inRow old a k && inRow old k b) ≡ true) → (a < n) × (b < n)
-      go a b (inl e) = o .below a b e
-      go a b (inr e) = let t = and-is (inRow old a k) (inRow old k b) .0 e in (o .below a k (t .0) .0, o .below k b (t .1) .1)
-
-  -- a row without names turns nothing
-  pub turn-still : ((b : ℕ) → member p b ≡ false) → Round n old old k
-  turn-still none = through old (o .size) (λ a b. let z : inRow old k b ≡ false = sym (row-is old k p q b) ∙ none b in sym (rw (z, and-false (inRow old a k)) (or-false (inRow old a b))))
-
-  pub turn-all : {new : List ℕ} {i : ℕ} → Filled old new (turned old p k) i → n ≤ i → Round n old new k
-  unfolding turned
-  turn-all {new} {i} r h =
-      through new (r .size) (λ a b. fill-all r n h (λ x y l. sym (rw (past o x y l, past o x k l))) a b ∙ ap (λ (v : Bool). inRow old a b || (inRow old a k && v)) (row-is old k p q b))
 
 -- ---- what goes one way
 

@@ -3,7 +3,7 @@
 -- A relation between names, kept as rows of words: row a keeps the set of the names that a is related to.
 use Prim.Native.Nat.{ℕ, _<_}
 use mathlib.Core.Path.{_≡_}
-use mathlib.Core.Bool.{Bool, true, _&&_, _||_, not}
+use mathlib.Core.Bool.{Bool, true, _&&_, not}
 use mathlib.Core.List.{List}
 use Rattle.nameset.specs.Places.{places}
 use Rattle.nameset.specs.declared.NameSet.{NameSet}
@@ -20,11 +20,6 @@ inRow rows a b = member (rowAt rows a) b
 pub record OnlyNames (n : ℕ) (rows : List ℕ) : Type 0 where
   pub size : IsRows places rows
   pub below : (a b : ℕ) → inRow rows a b ≡ true → (a < n) × (b < n)
-
--- `new` is `old` after one round: k may now stand between two names.
-pub record Round (n : ℕ) (old new : List ℕ) (k : ℕ) : Type 0 where
-  pub names : OnlyNames n new
-  pub law : (a b : ℕ) → inRow new a b ≡ (inRow old a b || (inRow old a k && inRow old k b))
 
 -- a is related to b, and b is not related to a.
 unfoldable pub leadsAway : List ℕ → ℕ → ℕ → Bool

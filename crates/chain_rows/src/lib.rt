@@ -8,36 +8,11 @@ ghost use Rattle.nameset.specs.Places.{places};
 ghost use Rattle.nameset.specs.Set.{member};
 ghost use Rattle.nameset.specs.Rows.{IsRows};
 ghost use Rattle.chain_peel.specs.Sets.{inRows};
-ghost use Rattle.chain_rows.specs.Rows.{inRow, leadsAway, OnlyNames, Round, OneWay, groupIn, loopsIn, leadsIn, amongRows};
+ghost use Rattle.chain_rows.specs.Rows.{inRow, leadsAway, OnlyNames, OneWay, groupIn, loopsIn, leadsIn, amongRows};
 use nameset::NameSet;
 use nameset::ROWS;
 use nameset::put_row;
 use nameset::row_at;
-
-// The set x, joined with the set p if x has the name k.
-fn joined(x: NameSet, p: NameSet, k: usize) -> NameSet
-    requires { ⌜ k < places ⌝ }
-    ensures { λ r. ⌜ ((b : ℕ) → member r b ≡ (member x b || (member x k && member p b))) ⌝ }
-{
-    if x.has(k) { x.union(p) } else { x }
-}
-
-// One round of reach among n names: k may now stand between two names. A name that leads nowhere stands between none.
-pub fn round(rows: &mut [u64], n: usize, k: usize)
-    requires { ⌜ (k < places) × (n ≤ places) × OnlyNames n (now rows) ⌝ }
-    ensures { λ _. ⌜ Round n (now (rows .entry)) (now (rows .exit)) k ⌝ }
-{
-    let p = row_at(rows, k);
-    if p.is_empty() {
-        return;
-    }
-    let mut a = 0;
-    while a < n {
-        let more = joined(row_at(rows, a), p, k);
-        put_row(rows, a, more);
-        a += 1;
-    }
-}
 
 // The set s, with the name i if `more` says so.
 fn with_if(s: NameSet, i: usize, more: bool) -> NameSet

@@ -5,9 +5,9 @@ use mathlib.Core.Path.{refl}
 use native.Mathlib.Omega.{arith}
 use borrow.Author.Needs.{needs}
 use Rattle.nameset.specs.Places.{places}
-use Rattle.chain.proofs.Sets.{Rounds, rounds-none, rounds-more, rounds-all}
-use Rattle.chain.proofs.reach_rows.Statement.{statement}
-use Rattle.chain.proofs.reach_rows.Tie as tie
+use Rattle.chain_reach.proofs.Rounds.{Rounds, rounds-none, rounds-more, rounds-all}
+use Rattle.chain_reach.proofs.reach_rows.Statement.{statement}
+use Rattle.chain_reach.proofs.reach_rows.Tie as tie
 
 abbrev Inv-loop : tie.InvT-loop
 Inv-loop n rows₀ k₀ rows k = (k ≤ n) × (n ≤ places) × Rounds n rows₀ rows k

@@ -4,10 +4,11 @@ use Prim.Native.Nat.{_-_, _≤_}
 use native.Mathlib.Omega.{arith}
 use borrow.Author.Needs.{needs}
 use Rattle.nameset.specs.Places.{places}
 use Rattle.chain_rows.specs.Rows.{OnlyNames}
-use Rattle.chain_rows.proofs.Laws.{Filled, fill-none, turned, turn-more, turn-still, turn-all}
-use Rattle.chain_rows.proofs.round.Statement.{statement}
-use Rattle.chain_rows.proofs.round.Tie as tie
+use Rattle.chain_rows.proofs.Laws.{Filled, fill-none}
+use Rattle.chain_reach.proofs.Rounds.{turned, turn-more, turn-still, turn-all}
+use Rattle.chain_reach.proofs.round.Statement.{statement}
+use Rattle.chain_reach.proofs.round.Tie as tie
 
 abbrev Inv-loop : tie.InvT-loop
 Inv-loop rows₀ n k p a₀ rows a = (a ≤ n) × (n ≤ places) × OnlyNames n rows₀ × Filled rows₀ rows (turned rows₀ p k) a

@@ -2,9 +2,9 @@
 -- Assumes nothing.
 use mathlib.Core.Path.{sym, _∙_}
 use borrow.Author.Needs.{needs}
-use Rattle.chain_rows.proofs.Laws.{join-yes, join-no}
-use Rattle.chain_rows.proofs.joined.Statement.{statement}
-use Rattle.chain_rows.proofs.joined.Tie as tie
+use Rattle.chain_reach.proofs.Rounds.{join-yes, join-no}
+use Rattle.chain_reach.proofs.joined.Statement.{statement}
+use Rattle.chain_reach.proofs.joined.Tie as tie
 
 returns : tie.Need-returns
 returns c = join-yes _ _ _ _ (c .union .ensures .members) (sym (c .before .before .has .ensures) ∙ c .before .if1 .taken)
