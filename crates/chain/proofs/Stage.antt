@@ -32,9 +32,10 @@ use Rattle.chain_peel.proofs.Reaching.{occurs-small}
 use Rattle.chain_peel.proofs.Peel.{at-is, higher-is, higher-first, lower-first, higher-next, lower-next, single-at, leads-at, peel, level-left, level-none, level-found}
 use Rattle.chain_peel.proofs.Skips.{skipped-over}
 use Rattle.chain_peel.proofs.Counting.{level-room}
-use Rattle.chain_rows.specs.Rows.{inRow, leadsAway, OneWay, groupIn, loopsIn, smallestIn, leadsIn}
-use Rattle.chain_rows.proofs.Laws.{group-members}
+use Rattle.chain_rows.specs.Rows.{inRow, leadsAway, OneWay}
 use Rattle.chain_reach.specs.Reached.{Reached}
+use Rattle.chain_groups.specs.Groups.{groupIn, loopsIn, smallestIn, leadsIn}
+use Rattle.chain_groups.proofs.Groups.{group-members}
 use Rattle.chain.specs.Chain.{holdsIn}
 use Rattle.chain.proofs.Factors.{each-upto}
 

@@ -5,7 +5,7 @@ use Prim.Native.Nat.{ℕ}
 use mathlib.Core.Bool.{Bool}
 use mathlib.Core.List.{List}
 use Rattle.nameset.specs.Set.{member}
-use Rattle.chain_rows.specs.Rows.{groupIn}
+use Rattle.chain_groups.specs.Groups.{groupIn}
 
 -- b is in the loop group of a.
 unfoldable pub holdsIn : List ℕ → List ℕ → ℕ → ℕ → Bool

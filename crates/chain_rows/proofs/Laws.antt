@@ -1,4 +1,4 @@
--- Laws of rows: a table row by row, a set name by name, rows joined one after the other, and loop groups.
+-- Laws of rows: a table row by row, a set name by name, and rows joined one after the other.
 -- Assumes nothing.
 use Prim.Native.Nat.{ℕ, _+_, _≤_, _<_}
 use mathlib.Core.Path.{_≡_, refl, sym, _∙_, ap, ap₂}
@@ -12,16 +12,15 @@ use lib.Dec.{eqb, ltb}
 use lib.ListN.{length}
 use Rattle.nameset.specs.Places.{places}
 use Rattle.nameset.specs.declared.NameSet.{NameSet}
-use Rattle.nameset.specs.Set.{capacity, member, minus, isEmpty}
-use Rattle.nameset.specs.Promise.{Smallest}
+use Rattle.nameset.specs.Set.{member}
 use Rattle.nameset.specs.Rows.{IsRows, HasRow, rowAt, putRow, noRows}
-use Rattle.nameset.proofs.Laws.{member-empty, member-minus, first-none}
+use Rattle.nameset.proofs.Laws.{member-empty}
 use Rattle.nameset.proofs.Rows.{row-put, row-kept, length-put, no-rows, row-of-none}
 use Rattle.chain_levels.specs.Below.{anyBelow}
-use Rattle.chain_levels.proofs.Tests.{some-is, both-ways, refuted}
+use Rattle.chain_levels.proofs.Tests.{refuted}
 use Rattle.chain_peel.specs.Sets.{inRows}
 use Rattle.chain_peel.proofs.Rows.{rows-none, rows-first}
-use Rattle.chain_rows.specs.Rows.{inRow, leadsAway, OnlyNames, OneWay, groupIn, loopsIn, smallestIn, leadsIn, amongRows}
+use Rattle.chain_rows.specs.Rows.{inRow, leadsAway, OnlyNames, OneWay, amongRows}
 
 -- ---- rows
 
@@ -126,7 +125,7 @@ pick-more {s} {test} {i} p r more e law = record { law = λ j. law j ∙ at j (�
         let z : eqb i j ≡ false = ne-eqb i j (λ u. q (sym u)) in
         rw (z, and-false more) (or-false (member s j)) ∙ p .law j ∙ rw (below-next j i q)
 
-pick-all : {s : NameSet} {test : ℕ → Bool} {i : ℕ} → Picked s test i → (n : ℕ) → n ≤ i → ((j : ℕ) → n ≤ j → test j ≡ false) → (j : ℕ) → member s j ≡ test j
+pub pick-all : {s : NameSet} {test : ℕ → Bool} {i : ℕ} → Picked s test i → (n : ℕ) → n ≤ i → ((j : ℕ) → n ≤ j → test j ≡ false) → (j : ℕ) → member s j ≡ test j
 pick-all {s} {test} {i} p n h rest j = p .law j ∙ at (decLt j i)
   where
     at : Dec (j < i) → (ltb j i && test j) ≡ test j
@@ -177,53 +176,6 @@ pub among-more : (rows : List ℕ) (s r q : NameSet) (a b : ℕ) (x : Bool) → 
     member r b ≡ (member s b || member q b) → member r b ≡ (x || amongRows (a + 1) rows b)
 unfolding amongRows anyBelow
 among-more rows s r q a b x e f law = law ∙ rw (add-one a, e, row-is rows a q f b) (or-assoc x (anyBelow a (λ k. inRow rows k b)) (inRow rows a b))
-
--- ---- loop groups
-
-pub group-members : (reach behind : List ℕ) (a b : ℕ) → member (groupIn reach behind a) b ≡ (inRow reach a b && not (inRow behind a b))
-unfolding groupIn inRow
-group-members reach behind a b = member-minus (rowAt reach a) (rowAt behind a) b
-
-pub group-made : (reach behind : List ℕ) (a : ℕ) (p q r : NameSet) → p ≡ rowAt reach a → q ≡ rowAt behind a → r ≡ minus p q → r ≡ groupIn reach behind a
-unfolding groupIn
-group-made reach behind a p q r e f g = rw (← e, ← f) g
-
--- the smallest member, or none
-leads-is : (s : NameSet) (a r : ℕ) → a < places → Smallest s r → eqb r a ≡ smallestIn s a
-unfolding smallestIn
-leads-is s a r h q = go (decLt r a) (decLt a r)
-  where
-    found : r < capacity → member s r ≡ true
-    found l = q .found (refuted (isEmpty s) (λ e. omega (arith, q .same, first-none s e))) .1
-
-    go : Dec (r < a) → Dec (a < r) → eqb r a ≡ (member s a && not (anyBelow a (member s)))
-    go (yes l) d = let z : anyBelow a (member s) ≡ true = some-is a (member s) .1 (r, l, found (omega arith)) in rw (z, and-false (member s a)) (ne-eqb r a (λ u. omega arith))
-    go (no l) (yes d) = rw (q .least a d) (ne-eqb r a (λ u. omega arith))
-    go (no l) (no d) =
-        let u : r ≡ a = omega arith in
-        let m : member s a ≡ true = ap (member s) (sym u) ∙ found (omega arith) in
-        let z : anyBelow a (member s) ≡ false = refuted (anyBelow a (member s)) (λ t. let p = some-is a (member s) .0 t in both-ways (member s (p .0)) (p .2) (q .least (p .0) (omega (arith, p .1)))) in
-        rw (m, z) (eq-eqb r a u)
-
-pub loops-has : (reach behind : List ℕ) (a : ℕ) (s : NameSet) (more : Bool) → s ≡ groupIn reach behind a → more ≡ member s a → more ≡ loopsIn reach behind a
-unfolding loopsIn
-loops-has reach behind a s more e f = rw (← e) f
-
-pub leads-has : (reach behind : List ℕ) (a : ℕ) (s : NameSet) (r : ℕ) → a < places → s ≡ groupIn reach behind a → Smallest s r → eqb r a ≡ leadsIn reach behind a
-unfolding leadsIn
-leads-has reach behind a s r h e f = rw (← e) (leads-is s a r h f)
-
-module _ (n : ℕ) (reach behind : List ℕ) (o : OnlyNames n reach) (i : ℕ) (s : NameSet) (h : n ≤ i) where
-  alone : (a b : ℕ) → n ≤ a → member (groupIn reach behind a) b ≡ false
-  alone a b l = group-members reach behind a b ∙ rw (past o a b l)
-
-  pub loops-all : Picked s (loopsIn reach behind) i → (a : ℕ) → member s a ≡ loopsIn reach behind a
-  unfolding loopsIn
-  loops-all p = pick-all p n h (λ j l. alone j j l)
-
-  pub leads-all : Picked s (leadsIn reach behind) i → (a : ℕ) → member s a ≡ leadsIn reach behind a
-  unfolding leadsIn smallestIn
-  leads-all p = pick-all p n h (λ j l. rw (alone j j l))
 
 -- ---- more or not
 

@@ -6,8 +6,7 @@ use mathlib.Core.Path.{_≡_}
 use mathlib.Core.Bool.{Bool, true, _&&_, not}
 use mathlib.Core.List.{List}
 use Rattle.nameset.specs.Places.{places}
-use Rattle.nameset.specs.declared.NameSet.{NameSet}
-use Rattle.nameset.specs.Set.{member, minus}
+use Rattle.nameset.specs.Set.{member}
 use Rattle.nameset.specs.Rows.{IsRows, rowAt}
 use Rattle.chain_levels.specs.Below.{anyBelow}
 
@@ -29,22 +28,6 @@ leadsAway rows a b = inRow rows a b && not (inRow rows b a)
 pub record OneWay (old new : List ℕ) : Type 0 where
   pub size : IsRows places new
   pub law : (a b : ℕ) → inRow new a b ≡ leadsAway old a b
-
--- The names that a reaches and that do not stand behind it: its loop group.
-unfoldable pub groupIn : List ℕ → List ℕ → ℕ → NameSet
-groupIn reach behind a = minus (rowAt reach a) (rowAt behind a)
-
--- a is in its loop group: it reaches itself.
-unfoldable pub loopsIn : List ℕ → List ℕ → ℕ → Bool
-loopsIn reach behind a = member (groupIn reach behind a) a
-
--- a is the smallest name of the set.
-unfoldable pub smallestIn : NameSet → ℕ → Bool
-smallestIn s a = member s a && not (anyBelow a (member s))
-
--- a is the smallest name of its loop group.
-unfoldable pub leadsIn : List ℕ → List ℕ → ℕ → Bool
-leadsIn reach behind a = smallestIn (groupIn reach behind a) a
 
 -- b is in one of the first n rows.
 unfoldable pub amongRows : ℕ → List ℕ → ℕ → Bool

@@ -1,9 +1,9 @@
 -- `group` meets its contract.
 -- Assumes nothing.
 use borrow.Author.Needs.{needs}
-use Rattle.chain_rows.proofs.Laws.{group-made}
-use Rattle.chain_rows.proofs.group.Statement.{statement}
-use Rattle.chain_rows.proofs.group.Tie as tie
+use Rattle.chain_groups.proofs.Groups.{group-made}
+use Rattle.chain_groups.proofs.group.Statement.{statement}
+use Rattle.chain_groups.proofs.group.Tie as tie
 
 returns : tie.Need-returns
 returns c = group-made _ _ _ _ _ _ (c .before .before .row-at .ensures) (c .before .row-at2 .ensures) (c .minus .ensures .same)

@@ -4,10 +4,12 @@ use Prim.Native.Nat.{_-_, _≤_}
 use native.Mathlib.Omega.{arith}
 use borrow.Author.Needs.{needs}
 use Rattle.nameset.specs.Places.{places}
-use Rattle.chain_rows.specs.Rows.{OnlyNames, loopsIn, leadsIn}
-use Rattle.chain_rows.proofs.Laws.{Picked, pick-none, pick-more, loops-has, loops-all, leads-has, leads-all}
-use Rattle.chain_rows.proofs.loop_groups.Statement.{statement}
-use Rattle.chain_rows.proofs.loop_groups.Tie as tie
+use Rattle.chain_rows.specs.Rows.{OnlyNames}
+use Rattle.chain_rows.proofs.Laws.{Picked, pick-none, pick-more}
+use Rattle.chain_groups.specs.Groups.{loopsIn, leadsIn}
+use Rattle.chain_groups.proofs.Groups.{loops-has, loops-all, leads-has, leads-all}
+use Rattle.chain_groups.proofs.loop_groups.Statement.{statement}
+use Rattle.chain_groups.proofs.loop_groups.Tie as tie
 
 abbrev Inv-loop : tie.InvT-loop
 Inv-loop reach behind n names₀ leaders₀ a₀ names leaders a =
