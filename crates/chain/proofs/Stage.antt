@@ -34,10 +34,9 @@ use Rattle.chain_peel.proofs.Skips.{skipped-over}
 use Rattle.chain_peel.proofs.Counting.{level-room}
 use Rattle.chain_rows.specs.Rows.{inRow, leadsAway, OneWay}
 use Rattle.chain_reach.specs.Reached.{Reached}
-use Rattle.chain_groups.specs.Groups.{groupIn, loopsIn, smallestIn, leadsIn}
+use Rattle.chain_groups.specs.Groups.{groupIn, holdsIn, loopsIn, smallestIn, leadsIn}
 use Rattle.chain_groups.proofs.Groups.{group-members}
-use Rattle.chain.specs.Chain.{holdsIn}
-use Rattle.chain.proofs.Factors.{each-upto}
+use Rattle.chain_factors.proofs.Factors.{each-upto}
 
 -- ---- the tables
 

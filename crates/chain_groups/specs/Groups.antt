@@ -14,6 +14,10 @@ use Rattle.chain_levels.specs.Below.{anyBelow}
 unfoldable pub groupIn : List ℕ → List ℕ → ℕ → NameSet
 groupIn reach behind a = minus (rowAt reach a) (rowAt behind a)
 
+-- b is in the loop group of a.
+unfoldable pub holdsIn : List ℕ → List ℕ → ℕ → ℕ → Bool
+holdsIn reach behind a b = member (groupIn reach behind a) b
+
 -- a is in its loop group: it reaches itself.
 unfoldable pub loopsIn : List ℕ → List ℕ → ℕ → Bool
 loopsIn reach behind a = member (groupIn reach behind a) a

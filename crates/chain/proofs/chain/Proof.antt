@@ -8,7 +8,8 @@ use Rattle.nameset.specs.Set.{member}
 use Rattle.chain_levels.specs.Below.{countBelow}
 use Rattle.follow.specs.View.{viewOf}
 use Rattle.chain_peel.specs.Shown.{Shown}
-use Rattle.chain.proofs.Sets.{some-empty, some-full, Stepped, stepped-none, stepped-more, stepped-over}
+use Rattle.chain_factors.proofs.Sets.{some-empty, some-full}
+use Rattle.chain.proofs.Sets.{Stepped, stepped-none, stepped-more, stepped-over}
 use Rattle.chain.proofs.Stage.{Tables, tables-made, Stage, stage-none, stage-last, fewer, stage-room, stage-more, skips-view}
 use Rattle.chain.proofs.chain.Statement.{statement}
 use Rattle.chain.proofs.chain.Tie as tie

@@ -1,10 +1,10 @@
 -- `with_level` meets its contract.
 -- Assumes nothing.
 use borrow.Author.Needs.{needs}
-use Rattle.chain.specs.Chain.{holdsIn}
-use Rattle.chain.proofs.Factors.{level-any, level-groups, level-both}
-use Rattle.chain.proofs.with_level.Statement.{statement}
-use Rattle.chain.proofs.with_level.Tie as tie
+use Rattle.chain_groups.specs.Groups.{holdsIn}
+use Rattle.chain_factors.proofs.Factors.{level-any, level-groups, level-both}
+use Rattle.chain_factors.proofs.with_level.Statement.{statement}
+use Rattle.chain_factors.proofs.with_level.Tie as tie
 
 with-any-requires : tie.Need-with-any-requires
 with-any-requires c κs = level-any _ _ _ (c .before .before .before .before .before .pre .0)

@@ -1,9 +1,9 @@
 -- `with_any` meets its contract.
 -- Assumes nothing.
 use borrow.Author.Needs.{needs}
-use Rattle.chain.proofs.Factors.{any-none, any-some, any-room}
-use Rattle.chain.proofs.with_any.Statement.{statement}
-use Rattle.chain.proofs.with_any.Tie as tie
+use Rattle.chain_factors.proofs.Factors.{any-none, any-some, any-room}
+use Rattle.chain_factors.proofs.with_any.Statement.{statement}
+use Rattle.chain_factors.proofs.with_any.Tie as tie
 
 with-factor-requires : tie.Need-with-factor-requires
 with-factor-requires c κs = any-room _ _ _ (c .before .is-empty .ensures) (c .if1 .left) (c .before .before .pre)

@@ -19,9 +19,8 @@ use Rattle.chain_levels.specs.Chain.{factors, singlesMode, groupMode, withAny, 
 use Rattle.chain_levels.proofs.Tests.{and-is}
 use Rattle.chain_levels.proofs.Below.{count-more}
 use Rattle.chain_peel.proofs.Counting.{any-count, each-count}
-use Rattle.chain_groups.specs.Groups.{groupIn}
-use Rattle.chain.specs.Chain.{holdsIn}
-use Rattle.chain.proofs.Sets.{some-empty, some-full}
+use Rattle.chain_groups.specs.Groups.{groupIn, holdsIn}
+use Rattle.chain_factors.proofs.Sets.{some-empty, some-full}
 
 -- ---- a set as one factor
 

@@ -6,10 +6,10 @@ use Rattle.nameset.specs.Places.{places}
 use Rattle.nameset.specs.Set.{member, size}
 use Rattle.nameset.proofs.Turns.{turn-first, turn-fewer, turns-done}
 use Rattle.chain_levels.specs.Below.{countBelow}
-use Rattle.chain.specs.Chain.{holdsIn}
-use Rattle.chain.proofs.Factors.{Appended, append-none, append-room, append-more, append-all, holds-group}
-use Rattle.chain.proofs.with_groups.Statement.{statement}
-use Rattle.chain.proofs.with_groups.Tie as tie
+use Rattle.chain_groups.specs.Groups.{holdsIn}
+use Rattle.chain_factors.proofs.Factors.{Appended, append-none, append-room, append-more, append-all, holds-group}
+use Rattle.chain_factors.proofs.with_groups.Statement.{statement}
+use Rattle.chain_factors.proofs.with_groups.Tie as tie
 
 abbrev Inv-loop : tie.InvT-loop
 Inv-loop reach behind mode out₀ left₀ out left = Appended left₀ left (holdsIn reach behind) mode out₀ out × (out₀ .count + countBelow places (member left₀) ≤ places)

@@ -1,9 +1,9 @@
 -- `just_one` meets its contract.
 -- Assumes nothing.
 use borrow.Author.Needs.{needs}
-use Rattle.chain.proofs.Sets.{one-none, one-some}
-use Rattle.chain.proofs.just_one.Statement.{statement}
-use Rattle.chain.proofs.just_one.Tie as tie
+use Rattle.chain_factors.proofs.Sets.{one-none, one-some}
+use Rattle.chain_factors.proofs.just_one.Statement.{statement}
+use Rattle.chain_factors.proofs.just_one.Tie as tie
 
 returns : tie.Need-returns
 returns c = one-none _ _ (c .before .is-empty .ensures) (c .if1 .taken)

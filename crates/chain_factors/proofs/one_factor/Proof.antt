@@ -1,9 +1,9 @@
 -- `one_factor` meets its contract.
 -- Assumes nothing.
 use borrow.Author.Needs.{needs}
-use Rattle.chain.proofs.Sets.{factors-groups, factors-singles}
-use Rattle.chain.proofs.one_factor.Statement.{statement}
-use Rattle.chain.proofs.one_factor.Tie as tie
+use Rattle.chain_factors.proofs.Sets.{factors-groups, factors-singles}
+use Rattle.chain_factors.proofs.one_factor.Statement.{statement}
+use Rattle.chain_factors.proofs.one_factor.Tie as tie
 
 returns : tie.Need-returns
 returns c = factors-groups _ _ _ _ (c .before .before .is-empty .ensures) (c .before .if1 .taken) (c .just-one .ensures)
