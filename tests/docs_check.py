@@ -9,7 +9,7 @@ The checks:
 - no line has more than 120 characters, except table rows and code blocks;
 - every path of the repository that is named exists, unless it has a placeholder such as NAME or *;
 - names that are cited with a file of a crate are defined there: `a`, `b` in `crates/..`, or `crates/..`: `a`, `b`;
-- the columns of crates in the tables of README.md have crates of crates.txt, and README.md names every crate;
+- the map of README.md has a row for each group of crates.txt, with its sentence and its crates, and no other row;
 - in docs/TRUST.md, a table row with a file and a number has the file's number of lines;
 - in docs/FORMAT.md, the offsets in each code block `hex` are right, and dtd prints for its bytes the next code block
   `dtd`; for the bytes in a table with a column "`dtd` prints" it prints what the table says;
@@ -158,17 +158,34 @@ def wrong_citations(lines):
                 yield finding(line, f"`{name}` is not defined in {path}")
 
 
+def map_rows():
+    """The rows of the map in README.md, one for each group of crates.txt; a crate without a function is in italics."""
+    rows, kind = [], ""
+    for line in (ROOT / "crates.txt").read_text().splitlines():
+        if line.startswith("## "):
+            group, _, said = line[3:].partition(": ")
+            rows.append((group, said, []))
+        elif line.startswith("#"):
+            kind = "*" if line.endswith("(no function).") else ""
+        elif line:
+            rows[-1][2].append(f"{kind}`{line.split(':')[0]}`{kind}")
+    return [f"| {group} | {said} | {', '.join(crates)} |" for group, said, crates in rows]
+
+
 def wrong_crates(lines):
-    """README.md beside crates.txt."""
-    listed = re.findall(r"(?m)^(\w+):", (ROOT / "crates.txt").read_text())
-    rows = list(rows_under("crate", lines))
-    for line, _, cell in rows:
-        yield from (finding(line, f"`{name}` is no crate of crates.txt")
-                    for name in re.findall(r"`(\w+)`", cell) if name not in listed)
-    if not rows:
-        yield finding(lines[0], "no table has a column with crates")
-    named = re.findall(r"`(\w+)`", "\n".join(line.text for line in prose(lines)))
-    yield from (finding(lines[0], f"the crate `{name}` is not named") for name in listed if name not in named)
+    """The map of README.md beside crates.txt."""
+    heads = [line for line in prose(lines) if line.text.startswith("| Layer |")]
+    if len(heads) != 1:
+        yield finding(lines[0], "there is not one table with a first column 'Layer'")
+        return
+    table = [line for line in lines if line.number > heads[0].number + 1]
+    rows = list(itertools.takewhile(lambda line: line.text.startswith("|"), table))
+    right = map_rows()
+    yield from (finding(line, "not a row of crates.txt") for line in rows if line.text not in right)
+    missing = [row for row in right if row not in [line.text for line in rows]]
+    yield from (finding(heads[0], f"missing row: {row}") for row in missing)
+    if not missing and [line.text for line in rows] != right:
+        yield finding(heads[0], "the rows are not in the order of crates.txt, or one is there twice")
 
 
 def line_count(path):
