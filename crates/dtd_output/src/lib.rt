@@ -51,7 +51,7 @@ fn put_line(
         × (at + length (lineOf (bookIn (now bytes)) parent) ≤ length (now out)) ⌝ }
     ensures { λ r. ⌜ Put (now (out .entry)) at (lineOf (bookIn (now (bytes .entry))) parent) r (now (out .exit)) ⌝ }
 {
-    let found = follow_table::facts_in(table, parent);
+    let found = follow_row::facts_in(table, parent);
     if found.blocks == 0 {
         return at;
     }

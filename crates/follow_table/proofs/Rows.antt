@@ -1,16 +1,15 @@
--- One row: a word added to it, and its 64 words of following names copied.
+-- A word added to one row.
 -- Assumes nothing.
-use Prim.Native.Nat.{ℕ, suc, _+_, _-_, _<_}
-use mathlib.Core.Path.{_≡_, refl, sym, _∙_, ap}
+use Prim.Native.Nat.{ℕ, suc, _+_, _-_}
+use mathlib.Core.Path.{_≡_, refl, _∙_, ap}
 use mathlib.Core.Bool.{_||_}
 use mathlib.Core.List.{List, [], _∷_, _++_, append-nil}
 use native.Mathlib.Omega.{arith}
-use native.Mathlib.Numerals.{add-one}
 use lib.Dec.{eqb}
-use lib.ListN.{length, getD, set, take, drop, replicate, length-drop, length-replicate, drop-of-length-le}
+use lib.ListN.{length, getD, set, take, drop, length-drop, drop-of-length-le}
 use mir.Syntax.{w64}
 use mir.Val.{Fits}
-use lib.Seq.{paste, paste-zero, paste-suc, take-all, getD-drop}
+use lib.Seq.{take-all}
 use Rattle.nameset.specs.Places.{places}
 use Rattle.nameset.specs.declared.NameSet.{NameSet}
 use Rattle.nameset.specs.Rows.{rowAt, putRow}
@@ -18,48 +17,7 @@ use Rattle.nameset.proofs.Rows.{row-kept}
 use Rattle.follow.specs.Follow.{isEmpty}
 use Rattle.follow.specs.Adding.{withFirst, withLast, withPairs}
 use Rattle.follow.proofs.Words.{word-added}
-use Rattle.follow_table.specs.Table.{rowHead, rowSize, factsIn, countIn, withEnds, HasRoom, HeadAdded, RowAdded}
-
--- ---- the copy of the following names
-
--- zeros, the first i of them replaced by those of the row
-pub copied : List ℕ → ℕ → List ℕ
-copied row i = paste (replicate places 0) 0 (drop 4 row) i
-
-pub copied-none : (row : List ℕ) → replicate places 0 ≡ copied row 0
-unfolding copied
-copied-none row = paste-zero (replicate places 0) 0 (drop 4 row)
-
-pub copied-more : (row rows : List ℕ) (i : ℕ) → rows ≡ copied row i → length row ≡ rowSize → i < places → set rows i (getD row (4 + i) 0) ≡ copied row (i + 1)
-unfolding copied
-copied-more row rows i c l h =
-    let z : length (replicate {A = ℕ} places 0) ≡ places = length-replicate {A = ℕ} places 0 in
-    let d : length (drop 4 row) ≡ length row - 4 = length-drop 4 row in
-    let e : 0 + i ≡ i = omega arith in
-    rw c
-    (ap (λ (v : ℕ). set (copied row i) i v) (sym (getD-drop 4 row i 0))
-    ∙ ap (λ (k : ℕ). set (copied row i) k (getD (drop 4 row) i 0)) (sym e)
-    ∙ paste-suc (replicate places 0) 0 (drop 4 row) i 0 (omega arith) (omega arith)
-    ∙ ap (copied row) (sym (add-one i)))
-
-pub copied-all : (row : List ℕ) (i : ℕ) → length row ≡ rowSize → i ≡ places → copied row i ≡ drop 4 row
-unfolding copied
-copied-all row i l e =
-    let d : length (drop 4 row) ≡ length row - 4 = length-drop 4 row in
-    rw (e, take-all places (drop 4 row) (omega arith)) (append-nil (drop 4 row))
-
--- ---- a row read
-
-pub count-read : (v u : List ℕ) → v ≡ u → getD v 3 0 ≡ countIn u
-unfolding countIn
-count-read v u e = rw e
-
-pub facts-read : (v u : List ℕ) → v ≡ u → (s e : NameSet) (f : List ℕ) → s ≡ rowAt v 0 → e ≡ rowAt v 1 → f ≡ drop rowHead v →
-    record { starts = s; ends = e; follows = f; empty = eqb (getD v 2 0) 1 } ≡ factsIn u
-unfolding factsIn
-facts-read v u same s e f es ee ef = rw (es, ee, ef, same)
-
--- ---- a word added
+use Rattle.follow_table.specs.Table.{rowSize, factsIn, countIn, withEnds, HasRoom, HeadAdded, RowAdded}
 
 -- the two sets, read and put by the code: u₁ is the row after the first
 pub ends-put : (u u₁ v w : List ℕ) (p s q e : NameSet) → p ≡ rowAt u 0 → s ≡ withFirst p w → u₁ ≡ putRow u 0 s →

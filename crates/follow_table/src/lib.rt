@@ -3,41 +3,38 @@
 use book::Layout;
 use book_access::block_at_place;
 use book_bytes::part;
-use follow::Facts;
 use follow::add_pairs;
 use follow::with_first;
 use follow::with_last;
-use follow_parent::ParentFacts;
-use nameset::ROWS;
 use nameset::put_row;
 use nameset::row_at;
 ghost use mathlib.Core.Path.{_≡_};
 ghost use mathlib.Core.Bool.{true, _||_};
 ghost use Prim.Native.Nat.{_≤_, _<_};
 ghost use lib.Dec.{eqb};
-ghost use lib.ListN.{length, drop};
+ghost use lib.ListN.{length};
 ghost use Rattle.nameset.specs.Places.{places};
 ghost use Rattle.book.specs.Book.{allBelow};
 ghost use Rattle.book.specs.Access.{LaidOut};
 ghost use Rattle.follow.specs.Follow.{isEmpty};
-ghost use Rattle.follow_table.specs.Table.{tabled, rowHead, rowSize, tableSize, rowOf, factsIn, countIn, withEnds, HasRoom, HeadAdded, RowAdded, Added, Gathered};
+ghost use Rattle.follow_table.specs.Table.{tabled, rowSize, tableSize, rowOf, withEnds, HasRoom, HeadAdded, RowAdded, Added, Gathered};
 
 // A table serves books of up to so many names.
 pub const TABLED: usize = 64;
 
 // A row of the table: the set of starts and the set of ends, as rows of `nameset`; 1 where a word is empty; the number
 // of blocks; then the names that follow each name.
-const STARTS: usize = 0;
+pub const STARTS: usize = 0;
 
-const ENDS: usize = 1;
+pub const ENDS: usize = 1;
 
-const EMPTY: usize = 2;
+pub const EMPTY: usize = 2;
 
-const BLOCKS: usize = 3;
+pub const BLOCKS: usize = 3;
 
-const FOLLOWS: usize = 4;
+pub const FOLLOWS: usize = 4;
 
-const ROW: usize = FOLLOWS + TABLED;
+pub const ROW: usize = FOLLOWS + TABLED;
 
 // The words of a table: a row for each name.
 pub const WORDS: usize = TABLED * ROW;
@@ -108,45 +105,4 @@ pub fn gather_facts(bytes: &[u8], layout: Layout) -> [u64; WORDS]
         left -= 1;
     }
     table
-}
-
-// The row of a parent.
-fn row_of(table: &[u64], parent: usize) -> &[u64]
-    requires { ⌜ (length (now table) ≡ tableSize) × (parent < tabled) ⌝ }
-    ensures { λ r. ⌜ (now r ≡ rowOf (now (table .entry)) parent) × (length (now r) ≡ rowSize) ⌝ }
-{
-    let from = parent * ROW;
-    let to = from + ROW;
-    &table[from..to]
-}
-
-// The names that follow each name, of a row.
-fn follows_in(row: &[u64]) -> [u64; ROWS]
-    requires { ⌜ length (now row) ≡ rowSize ⌝ }
-    ensures { λ r. ⌜ r ≡ drop rowHead (now (row .entry)) ⌝ }
-{
-    let mut rows = [0u64; ROWS];
-    let mut i = 0;
-    while i < TABLED {
-        rows[i] = row[FOLLOWS + i];
-        i += 1;
-    }
-    rows
-}
-
-// What the table keeps of a parent.
-pub fn facts_in(table: &[u64], parent: usize) -> ParentFacts
-    requires { ⌜ (length (now table) ≡ tableSize) × (parent < tabled) ⌝ }
-    ensures { λ r. ⌜ (r .blocks ≡ countIn (rowOf (now (table .entry)) parent)) × (r .facts ≡ factsIn (rowOf (now (table .entry)) parent)) ⌝ }
-{
-    let row = row_of(table, parent);
-    ParentFacts {
-        blocks: row[BLOCKS] as usize,
-        facts: Facts {
-            starts: row_at(row, STARTS),
-            ends: row_at(row, ENDS),
-            follows: follows_in(row),
-            empty: row[EMPTY] == 1,
-        },
-    }
 }

@@ -3,9 +3,9 @@
 use mathlib.Core.Path.{_∙_, ap}
 use lib.ListN.{length}
 use borrow.Author.Needs.{needs}
 use Rattle.follow_table.proofs.Parts.{part-is, length-row}
-use Rattle.follow_table.proofs.row_of.Statement.{statement}
-use Rattle.follow_table.proofs.row_of.Tie as tie
+use Rattle.follow_row.proofs.row_of.Statement.{statement}
+use Rattle.follow_row.proofs.row_of.Tie as tie
 
 returns : tie.Need-returns
 returns c =

@@ -1,9 +1,9 @@
 -- `facts_in` meets its contract.
 -- Assumes nothing.
 use borrow.Author.Needs.{needs}
-use Rattle.follow_table.proofs.Rows.{count-read, facts-read}
-use Rattle.follow_table.proofs.facts_in.Statement.{statement}
-use Rattle.follow_table.proofs.facts_in.Tie as tie
+use Rattle.follow_row.proofs.Read.{count-read, facts-read}
+use Rattle.follow_row.proofs.facts_in.Statement.{statement}
+use Rattle.follow_row.proofs.facts_in.Tie as tie
 
 returns : tie.Need-returns
 returns c =

@@ -5,9 +5,9 @@ use mathlib.Core.Path.{_≡_, _∙_}
 use native.Mathlib.Omega.{arith}
 use borrow.Author.Needs.{needs}
 use Rattle.nameset.specs.Places.{places}
-use Rattle.follow_table.proofs.Rows.{copied, copied-none, copied-more, copied-all}
-use Rattle.follow_table.proofs.follows_in.Statement.{statement}
-use Rattle.follow_table.proofs.follows_in.Tie as tie
+use Rattle.follow_row.proofs.Read.{copied, copied-none, copied-more, copied-all}
+use Rattle.follow_row.proofs.follows_in.Statement.{statement}
+use Rattle.follow_row.proofs.follows_in.Tie as tie
 
 abbrev Inv-loop : tie.InvT-loop
 Inv-loop row rows₀ i₀ rows i = (i ≤ places) × (rows ≡ copied row i)
