@@ -14,7 +14,8 @@ use Rattle.declaration_walk.specs.Walk.{signalOf, isWord, fitsAfter, passes, go
 use Rattle.declaration_scan.specs.Unread.{nextOf, kindOf}
 use Rattle.declaration_scan.specs.Piece.{tokenLength, wordEnd}
 use Rattle.declaration_scan.proofs.ByKind.{EachKind, token-some, by-place}
-use Rattle.declaration_form.specs.Step.{signals, kindFits, tokenAt}
+use Rattle.declaration_states.specs.Space.{kindFits}
+use Rattle.declaration_form.specs.Step.{signals, tokenAt}
 
 -- ---- each kind
 

@@ -3,11 +3,10 @@
 -- Assumes nothing.
 use Prim.Native.Nat.{ℕ, _≤_, _<_}
 use mathlib.Core.Path.{_≡_}
-use mathlib.Core.Bool.{Bool, true, false, cond, not, _&&_}
+use mathlib.Core.Bool.{Bool, true, false, cond, _&&_}
 use mathlib.Core.List.{List, [], _∷_}
 use lib.Dec.{eqb}
 use lib.ListN.{length, take, drop}
-use Rattle.name.specs.Class.{between}
 use Rattle.declaration_spelling.specs.Token.{Token}
 use Rattle.declaration_spelling.specs.Form.{cut}
 use Rattle.declaration_walk.specs.Walk.{signalOf, stepOf, fitsAfter, goodToken, accepts}
@@ -24,11 +23,6 @@ begins (a ∷ as′) (b ∷ bs) = eqb a b && begins as′ bs
 -- The signal of each kind: a mark of any sort is 8, a byte of no use 0.
 unfoldable pub signals : List ℕ
 signals = 0 ∷ 1 ∷ 3 ∷ 4 ∷ 5 ∷ 6 ∷ 7 ∷ 8 ∷ 8 ∷ 8 ∷ 0 ∷ []
-
--- White space before a token of this kind: a word or `(` behind a word needs it, a mark has none.
-unfoldable pub kindFits : Bool → Bool → ℕ → Bool
-unfolding between
-kindFits behindWord gap kind = cond (between 1 2 kind) (cond behindWord gap true) (cond (between 7 9 kind) (not gap) true)
 
 -- The token that begins at a place.
 unfoldable pub tokenAt : List ℕ → ℕ → Token

@@ -3,8 +3,8 @@
 use mathlib.Core.Path.{_∙_, ap}
 use borrow.Author.Needs.{needs}
 use Rattle.name.specs.Rule.{isName}
-use Rattle.declaration_form.proofs.good_word.Statement.{statement}
-use Rattle.declaration_form.proofs.good_word.Tie as tie
+use Rattle.declaration_states.proofs.good_word.Statement.{statement}
+use Rattle.declaration_states.proofs.good_word.Tie as tie
 
 returns : tie.Need-returns
 returns c = c .is-name .ensures ∙ ap isName (c .before .part .ensures)

@@ -2,8 +2,8 @@
 -- Assumes nothing.
 use mathlib.Core.Path.{_≡_}
 use mathlib.Core.Bool.{Bool, true, false, cond}
-use Rattle.declaration_form.proofs.apart.Statement.{statement}
-use Rattle.declaration_form.proofs.apart.Tie as tie
+use Rattle.declaration_states.proofs.apart.Statement.{statement}
+use Rattle.declaration_states.proofs.apart.Tie as tie
 
 asked : (behind gap : Bool) → behind ≡ true → gap ≡ cond behind gap true
 asked behind gap e = rw e

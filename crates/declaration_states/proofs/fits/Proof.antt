@@ -1,10 +1,10 @@
 -- `fits` meets its contract.
 -- Assumes nothing.
 use mathlib.Core.Path.{_∙_}
-use Rattle.declaration_form.proofs.Steps.{fits-none, fits-apart, fits-free, fits-mark, fits-rest}
+use Rattle.declaration_states.proofs.Space.{fits-none, fits-apart, fits-free, fits-mark, fits-rest}
 use borrow.Author.Needs.{needs}
-use Rattle.declaration_form.proofs.fits.Statement.{statement}
-use Rattle.declaration_form.proofs.fits.Tie as tie
+use Rattle.declaration_states.proofs.fits.Statement.{statement}
+use Rattle.declaration_states.proofs.fits.Tie as tie
 
 returns : tie.Need-returns
 returns c = fits-none _ _ _ (c .match .keys1)

@@ -2,10 +2,10 @@
 -- Assumes nothing.
 use Prim.Native.Nat.{_+_, _*_}
 use Rattle.declaration_walk.specs.Walk.{table}
-use Rattle.declaration_form.proofs.Steps.{state-entry, state-is}
+use Rattle.declaration_states.proofs.Table.{state-entry, state-is}
 use borrow.Author.Needs.{needs}
-use Rattle.declaration_form.proofs.next_state.Statement.{statement}
-use Rattle.declaration_form.proofs.next_state.Tie as tie
+use Rattle.declaration_states.proofs.next_state.Statement.{statement}
+use Rattle.declaration_states.proofs.next_state.Tie as tie
 
 returns : tie.Need-returns
 unfolding table
