@@ -1,10 +1,10 @@
-// A text together with the place of its next unread byte: thin steps over the functions of `declaration_scan`, and the
-// next token by them.
+// A text together with the place of its next unread byte: thin steps over the functions of `declaration_bytes` and
+// `declaration_scan`, and the next token by them.
 use declaration_scan::Piece;
 ghost use mathlib.Core.Path.{_≡_};
 ghost use Prim.Native.Nat.{_≤_};
 ghost use lib.ListN.{length, drop};
-ghost use Rattle.declaration_scan.specs.Unread.{endOfText, nextOf};
+ghost use Rattle.declaration_bytes.specs.Unread.{endOfText, nextOf};
 ghost use Rattle.declaration_scan.specs.Piece.{spaceEnd, pieceFrom, pieceAt};
 
 // The text, and the place of its next unread byte.
@@ -24,7 +24,7 @@ pub fn cursor_at<'a>(text: &'a [u8], at: usize) -> Cursor<'a>
 pub fn next_byte<'a>(c: Cursor<'a>) -> usize
     ensures { λ r. ⌜ (r ≡ nextOf (drop (c .entry .at) (now (c .entry .text)))) × (r ≤ endOfText) ⌝ }
 {
-    declaration_scan::next_unread(c.text, c.at)
+    declaration_bytes::next_unread(c.text, c.at)
 }
 
 // The cursor, moved on past the white space.
@@ -32,7 +32,7 @@ pub fn past_spaces<'a>(c: Cursor<'a>) -> Cursor<'a>
     requires { ⌜ c .at ≤ length (now (c .text)) ⌝ }
     ensures { λ r. ⌜ (r .text ≡ c .entry .text) × (r .at ≡ spaceEnd (now (c .entry .text)) (c .entry .at)) × (r .at ≤ length (now (c .entry .text))) ⌝ }
 {
-    let at = declaration_scan::skip_spaces(c.text, c.at);
+    let at = declaration_bytes::skip_spaces(c.text, c.at);
     Cursor { text: c.text, at }
 }
 

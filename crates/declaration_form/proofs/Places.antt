@@ -15,8 +15,9 @@ use Rattle.declaration_spelling.specs.House.{opening}
 use Rattle.declaration_spelling.specs.Form.{Cut, atFront, cut}
 use Rattle.declaration_walk.specs.Walk.{signalOf, stepOf, isWord, fitsAfter, goodToken, accepts, acceptsRest, hasForm}
 use Rattle.declaration_walk.proofs.Formed.{accepts-lost}
+use Rattle.declaration_bytes.specs.Unread.{nextOf}
 use Rattle.declaration_scan.specs.declared.Piece.{Piece}
-use Rattle.declaration_scan.specs.Unread.{nextOf, kindOf}
+use Rattle.declaration_scan.specs.Kind.{kindOf}
 use Rattle.declaration_scan.specs.Piece.{tokenLength, wordEnd, spaceEnd, pieceAt, tokenOf}
 use Rattle.declaration_scan.proofs.Pieces.{piece-over, piece-first}
 use Rattle.declaration_form.specs.Step.{begins, tokenAt, advance, acceptsFrom}

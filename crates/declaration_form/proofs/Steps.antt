@@ -11,7 +11,8 @@ use Rattle.declaration_spelling.specs.Token.{Token, word}
 use Rattle.declaration_spelling.specs.House.{emptyWord}
 use Rattle.declaration_spelling.specs.Form.{same}
 use Rattle.declaration_walk.specs.Walk.{signalOf, stepOf, fitsAfter, passes, goodToken}
-use Rattle.declaration_scan.specs.Unread.{nextOf, kindOf}
+use Rattle.declaration_bytes.specs.Unread.{nextOf}
+use Rattle.declaration_scan.specs.Kind.{kindOf}
 use Rattle.declaration_scan.specs.Piece.{wordEnd}
 use Rattle.declaration_states.specs.Space.{kindFits}
 use Rattle.declaration_states.proofs.Table.{upTo, entry-up}

@@ -11,7 +11,8 @@ use lib.Seq.{drop-cons}
 use Rattle.name.specs.Class.{between}
 use Rattle.declaration_spelling.specs.Token.{Token, word}
 use Rattle.declaration_walk.specs.Walk.{signalOf, isWord, fitsAfter, passes, goodToken}
-use Rattle.declaration_scan.specs.Unread.{nextOf, kindOf}
+use Rattle.declaration_bytes.specs.Unread.{nextOf}
+use Rattle.declaration_scan.specs.Kind.{kindOf}
 use Rattle.declaration_scan.specs.Piece.{tokenLength, wordEnd}
 use Rattle.declaration_scan.proofs.ByKind.{EachKind, token-some, by-place}
 use Rattle.declaration_states.specs.Space.{kindFits}

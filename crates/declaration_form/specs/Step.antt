@@ -10,8 +10,9 @@ use lib.ListN.{length, take, drop}
 use Rattle.declaration_spelling.specs.Token.{Token}
 use Rattle.declaration_spelling.specs.Form.{cut}
 use Rattle.declaration_walk.specs.Walk.{signalOf, stepOf, fitsAfter, goodToken, accepts}
+use Rattle.declaration_bytes.specs.Unread.{nextOf}
 use Rattle.declaration_scan.specs.declared.Piece.{Piece}
-use Rattle.declaration_scan.specs.Unread.{nextOf, kindOf}
+use Rattle.declaration_scan.specs.Kind.{kindOf}
 use Rattle.declaration_scan.specs.Piece.{tokenLength, wordEnd, tokenOf}
 
 -- The text begins with these bytes.

@@ -19,9 +19,10 @@ use Rattle.declaration_spelling.specs.Token.{isSpace, Token}
 use Rattle.declaration_spelling.specs.Form.{Cut, atFront, cut, tokens}
 use Rattle.declaration_spelling.specs.Read.{known, numberFor, Declared}
 use Rattle.declaration_walk.specs.Walk.{isWord, passes, allPass}
-use Rattle.declaration_scan.specs.Unread.{nextOf, runOf, kindOf}
+use Rattle.declaration_bytes.specs.Unread.{nextOf, runOf}
+use Rattle.declaration_scan.specs.Kind.{kindOf}
 use Rattle.declaration_scan.specs.Piece.{tokenLength, wordEnd, spaceEnd, pieceAt, tokenOf}
-use Rattle.declaration_scan.proofs.Runs.{end-kind}
+use Rattle.declaration_scan.proofs.Signs.{end-kind}
 use Rattle.declaration_scan.proofs.Pieces.{piece-over, piece-first}
 use Rattle.declaration_scan.proofs.ByKind.{EachKind, front, token-some, by-kind}
 use Rattle.declaration_gather.specs.Gather.{knownToken, knownTokens, Rows, isFree, withName, nextFactor, withMode, takeToken, andThen, gatherFrom, beginsWithWord, contentAnswer, tokensAnswer}

@@ -11,9 +11,10 @@ use lib.Seq.{drop-cons}
 use Rattle.name.specs.Word.{wordByte}
 use Rattle.declaration_spelling.specs.Token.{Token, word, lpar, rpar, comma, bar, end, mark, other}
 use Rattle.declaration_spelling.specs.Form.{sign}
-use Rattle.declaration_scan.specs.Unread.{nextOf, runOf, signKind, kindOf}
+use Rattle.declaration_bytes.specs.Unread.{nextOf, runOf}
+use Rattle.declaration_scan.specs.Kind.{signKind, kindOf}
 use Rattle.declaration_scan.specs.Piece.{tokenLength, tokenOf}
-use Rattle.declaration_scan.proofs.Runs.{kind-word}
+use Rattle.declaration_scan.proofs.Signs.{kind-word}
 
 -- the bytes of the token at the start of a text
 abbrev pub front : List ℕ → List ℕ

@@ -1,4 +1,3 @@
-pub mod Runs
-pub mod Cuts
+pub mod Signs
 pub mod Pieces
 pub mod ByKind

@@ -12,10 +12,12 @@ use borrow.Author.Tests.{lt-ltb, le-ltb}
 use Rattle.name.specs.Word.{wordByte}
 use Rattle.declaration_spelling.specs.Token.{isSpace, word}
 use Rattle.declaration_spelling.specs.Form.{Cut, sign, atFront, cut}
-use Rattle.declaration_scan.specs.Unread.{nextOf, runOf, signKind, kindOf}
+use Rattle.declaration_bytes.specs.Unread.{nextOf, runOf}
+use Rattle.declaration_bytes.proofs.Runs.{next-here, stop, stop-is, run-there, run-over, run-some, word-end}
+use Rattle.declaration_bytes.proofs.Cuts.{some-of, cut-spaces, cut-sign, cut-word}
+use Rattle.declaration_scan.specs.Kind.{signKind, kindOf}
 use Rattle.declaration_scan.specs.Piece.{tokenLength, wordEnd, spaceEnd, pieceFrom, pieceAt, tokenOf}
-use Rattle.declaration_scan.proofs.Runs.{next-here, stop, stop-is, run-there, run-over, run-some, word-end, sign-no-word}
-use Rattle.declaration_scan.proofs.Cuts.{some-of, cut-spaces, cut-sign, cut-word}
+use Rattle.declaration_scan.proofs.Signs.{sign-no-word}
 
 -- ---- where a token ends
 

@@ -9,8 +9,9 @@ use lib.ListN.{drop}
 use Rattle.name.specs.Word.{wordByte}
 use Rattle.declaration_spelling.specs.Token.{isSpace, Token, word}
 use Rattle.declaration_spelling.specs.Form.{sign}
+use Rattle.declaration_bytes.specs.Unread.{nextOf, runOf}
 use Rattle.declaration_scan.specs.declared.Piece.{Piece}
-use Rattle.declaration_scan.specs.Unread.{nextOf, runOf, kindOf}
+use Rattle.declaration_scan.specs.Kind.{kindOf}
 
 -- How many bytes the token at the start of a text has: a run of the bytes of words, or one byte, or none at
 -- the end of the text.

@@ -1,16 +1,13 @@
-// Steps along a text: its next unread byte, white space, a run of the bytes of words, a token.
+// The token that begins at a place of a text: its kind, and where it ends.
+use declaration_bytes::skip_word;
 ghost use mathlib.Core.Path.{_≡_};
 ghost use mathlib.Core.Bool.{false};
 ghost use Prim.Native.Nat.{_+_, _≤_};
 ghost use lib.ListN.{length, drop};
-ghost use Rattle.name.specs.Class.{classTable};
 ghost use Rattle.name.specs.Word.{wordByte};
-ghost use Rattle.declaration_spelling.specs.Token.{isSpace};
-ghost use Rattle.declaration_scan.specs.Unread.{endOfText, nextOf, runOf, signKind};
+ghost use Rattle.declaration_bytes.specs.Unread.{endOfText, nextOf, runOf};
+ghost use Rattle.declaration_scan.specs.Kind.{signKind};
 ghost use Rattle.declaration_scan.specs.Piece.{wordEnd, pieceFrom};
-
-// What stands for the next byte at the end of a text.
-const END: usize = 256;
 
 // The kinds of a token: the end of the text, a word, and each sign; the marks are 7 to 9.
 const OVER: u8 = 0;
@@ -25,61 +22,6 @@ pub struct Piece {
     pub kind: u8,
     pub from: usize,
     pub to: usize,
-}
-
-// The next unread byte, or 256 at the end of the text.
-pub fn next_unread(text: &[u8], at: usize) -> usize
-    ensures { λ r. ⌜ (r ≡ nextOf (drop at (now (text .entry)))) × (r ≤ endOfText) ⌝ }
-{
-    if at < text.len() {
-        text[at] as usize
-    } else {
-        END
-    }
-}
-
-// Whether the next byte is white space.
-fn is_space(next: usize) -> bool
-    ensures { λ r. ⌜ r ≡ isSpace next ⌝ }
-{
-    next == 32
-}
-
-// Whether the next byte is a byte of words, by the table of classes.
-fn is_word_byte(classes: &[u8; 256], next: usize) -> bool
-    requires { ⌜ (now classes ≡ classTable) × (next ≤ endOfText) ⌝ }
-    ensures { λ r. ⌜ r ≡ wordByte next ⌝ }
-{
-    if next < END {
-        name::in_word(classes, next as u8)
-    } else {
-        false
-    }
-}
-
-// The first place from `at` on that holds no white space.
-pub fn skip_spaces(text: &[u8], at: usize) -> usize
-    requires { ⌜ at ≤ length (now text) ⌝ }
-    ensures { λ r. ⌜ (r ≡ at + runOf isSpace (drop at (now (text .entry)))) × (r ≤ length (now (text .entry))) ⌝ }
-{
-    let mut i = at;
-    while is_space(next_unread(text, i)) {
-        i += 1;
-    }
-    i
-}
-
-// The first place from `at` on that holds no byte of words.
-fn skip_word(text: &[u8], at: usize) -> usize
-    requires { ⌜ at ≤ length (now text) ⌝ }
-    ensures { λ r. ⌜ (r ≡ at + runOf wordByte (drop at (now (text .entry)))) × (r ≤ length (now (text .entry))) ⌝ }
-{
-    let classes = name::class_table();
-    let mut i = at;
-    while is_word_byte(&classes, next_unread(text, i)) {
-        i += 1;
-    }
-    i
 }
 
 // The kind of a token that is no word, by its first byte.

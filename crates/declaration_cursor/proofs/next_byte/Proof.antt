@@ -1,5 +1,5 @@
 -- `next_byte` meets its contract: a walk of its MIR, by hand. The cursor is taken apart for
--- `declaration_scan::next_unread`, of which the proof knows its contract alone.
+-- `declaration_bytes::next_unread`, of which the proof knows its contract alone.
 -- Assumes nothing.
 use mathlib.Core.Path.{_≡_, refl}
 use Prim.Native.Nat.{ℕ, _<_, _≤_, _^_}
@@ -34,11 +34,11 @@ use denote.Triple.Table.{entered, cited}
 use denote.Triple.Walked.{says, Stays, stay-none, walkOf, goes-none, Walks, ends-at, walked, walk-meets}
 use denote.Triple.Clauses.{ensured, lasts}
 use denote.Exit.{yes}
-use Rattle.declaration_scan.specs.Unread.{endOfText, nextOf}
-use Rattle.declaration_scan.proofs.next_unread as unread
-use Rattle.declaration_scan.proofs.next_unread.Symbol as unread-def
-use Rattle.declaration_scan.proofs.next_unread.Symbol.{name as #declaration-scan·next-unread}
-use Rattle.declaration_scan.proofs.next_unread.Met as unread-thm
+use Rattle.declaration_bytes.specs.Unread.{endOfText, nextOf}
+use Rattle.declaration_bytes.proofs.next_unread as unread
+use Rattle.declaration_bytes.proofs.next_unread.Symbol as unread-def
+use Rattle.declaration_bytes.proofs.next_unread.Symbol.{name as #declaration-bytes·next-unread}
+use Rattle.declaration_bytes.proofs.next_unread.Met as unread-thm
 use Rattle.declaration_cursor.specs.declared.Cursor.{Cursor}
 use Rattle.declaration_cursor.proofs.Parts.{Text, CursorT, bytes, whole, spelled, told, text-out, typed}
 use Rattle.declaration_cursor.proofs.next_byte.Key.{name as #declaration-cursor·next-byte}
@@ -88,7 +88,7 @@ module _ {M : Type 1} (𝓤 : URA M) (H : Heap 𝓤) (A : Atoms 𝓤) (W : Given
       suffices ! _ (ends-at 𝓤 H A f.ended stayed (f.clauses 𝓤 H A mem run) W (((κ, tt), (q, tt), tt, (c, tt), (whole c ∷ [], tt)), tt) v r (tt, tt) (tt, tt)) $ says ! e $
       move ! (1 ∷ []) $ frame ! $ nothing ! $ move ! (2 ∷ 0 ∷ []) $ fjoin ! $ frame ! $ done !
 
-  module _ (C : Calls 𝓤 H) (Λ : Loops 𝓤 H) (fm : FmC 𝓤 H (W .laws) C) (known : Triple 𝓤 (C #declaration-scan·next-unread) (Unread 𝓤 H A mem run)) where
+  module _ (C : Calls 𝓤 H) (Λ : Loops 𝓤 H) (fm : FmC 𝓤 H (W .laws) C) (known : Triple 𝓤 (C #declaration-bytes·next-unread) (Unread 𝓤 H A mem run)) where
     walk : Is (CursorT κ) c (whole c ∷ []) → ent 𝓤 (onEntry 𝓤 H A f.signature (κ, tt) (q, tt) (c, tt) (whole c ∷ [], tt)) (WpFn 𝓤 H C Λ code.function (whole c ∷ []) Post)
     walk is =
         let wt = typed 𝓤 H A W κ (named 0) c (whole c) is in
@@ -108,11 +108,11 @@ module _ {M : Type 1} (𝓤 : URA M) (H : Heap 𝓤) (A : Atoms 𝓤) (W : Given
         move ! (9 ∷ 10 ∷ []) $ free1 ! $ move ! (7 ∷ 8 ∷ []) $ free1 ! $ move ! (5 ∷ 6 ∷ []) $ free1 ! $ move ! (3 ∷ 4 ∷ []) $ free1 ! $ free0 ! $ by ! (exits r v e)))))))))
 
 module _ {M : Type 1} (𝓤 : URA M) (H : Heap 𝓤) (A : Atoms 𝓤) (W : Given 𝓤 H A) (mem : Memory → SProp 𝓤) (run : Routine → Fun 𝓤) where
-  walks : (C : Calls 𝓤 H) (Λ : Loops 𝓤 H) → FmC 𝓤 H (W .laws) C → Triple 𝓤 (C #declaration-scan·next-unread) (Unread 𝓤 H A mem run) → Walks 𝓤 H A f.ended stayed (WpFn 𝓤 H C Λ code.function) (f.clauses 𝓤 H A mem run)
+  walks : (C : Calls 𝓤 H) (Λ : Loops 𝓤 H) → FmC 𝓤 H (W .laws) C → Triple 𝓤 (C #declaration-bytes·next-unread) (Unread 𝓤 H A mem run) → Walks 𝓤 H A f.ended stayed (WpFn 𝓤 H C Λ code.function) (f.clauses 𝓤 H A mem run)
   walks C Λ fm known = walked 𝓤 H A f.ended stayed (f.clauses 𝓤 H A mem run) (WpFn 𝓤 H C Λ code.function) (λ κs. (spelled, tt)) (λ κs. (told (κs .0), tt))
       (λ κs qs bounds a g are. via 𝓤 _ (fst∗ 𝓤 _ (emp 𝓤)) (walk 𝓤 H A W mem run (κs .0) (qs .0) (a .0) C Λ fm known (are .0)))
 
-  meets : (𝓣 : Tables 𝓤 H) → Triple 𝓤 (𝓣 .C #declaration-scan·next-unread) (Unread 𝓤 H A mem run) → Meets 𝓤 H A f.signature (WpFn 𝓤 H (𝓣 .C) (𝓣 .Λ) code.function) (f.spec 𝓤 H A mem run)
+  meets : (𝓣 : Tables 𝓤 H) → Triple 𝓤 (𝓣 .C #declaration-bytes·next-unread) (Unread 𝓤 H A mem run) → Meets 𝓤 H A f.signature (WpFn 𝓤 H (𝓣 .C) (𝓣 .Λ) code.function) (f.spec 𝓤 H A mem run)
   meets 𝓣 known =
       walk-meets 𝓤 H A f.ended stayed W (goes-none 𝓤 H A W 1 (λ κs. CursorT (κs .0)) yes (λ κs y h. refl), tt) (f.clauses 𝓤 H A mem run)
       (WpFn 𝓤 H (𝓣 .C) (𝓣 .Λ) code.function) (WpFn-mono 𝓤 H (W .laws) 𝓣 code.function) (walks (𝓣 .C) (𝓣 .Λ) (fmOf 𝓤 H (W .laws) 𝓣) known)
@@ -123,4 +123,4 @@ next-byte-spec 𝓤 H 𝓜 𝓖 𝓡 =
     entered 𝓤 H (tripleOf 𝓤 H (𝓖 .A) f.signature (f.spec 𝓤 H (𝓖 .A) (𝓜 .mem) (𝓡 .run)))
     (tables 𝓤 H 𝓜 𝓡 code.env .C) (tables 𝓤 H 𝓜 𝓡 code.env .Λ) #declaration-cursor·next-byte code.function (code.unfolded 𝓤 H 𝓜 𝓡)
     (meets 𝓤 H (𝓖 .A) (givenOf 𝓤 H 𝓜 𝓖) (𝓜 .mem) (𝓡 .run) (tablesOf 𝓤 H 𝓜 (tables 𝓤 H 𝓜 𝓡 code.env))
-    (cited 𝓤 H (Unread 𝓤 H (𝓖 .A) (𝓜 .mem) (𝓡 .run)) 𝓜 𝓡 code.env #declaration-scan·next-unread unread-def.routine code.calls-declaration-scan·next-unread (unread-thm.met 𝓤 H 𝓜 𝓖 𝓡)))
+    (cited 𝓤 H (Unread 𝓤 H (𝓖 .A) (𝓜 .mem) (𝓡 .run)) 𝓜 𝓡 code.env #declaration-bytes·next-unread unread-def.routine code.calls-declaration-bytes·next-unread (unread-thm.met 𝓤 H 𝓜 𝓖 𝓡)))

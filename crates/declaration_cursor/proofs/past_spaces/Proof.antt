@@ -1,5 +1,5 @@
 -- `past_spaces` meets its contract: a walk of its MIR, by hand. The cursor is taken apart for
--- `declaration_scan::skip_spaces`, of which the proof knows its contract alone, and its text goes into a new one with
+-- `declaration_bytes::skip_spaces`, of which the proof knows its contract alone, and its text goes into a new one with
 -- the place that was found.
 -- Assumes nothing.
 use mathlib.Core.Path.{_≡_, refl, ap}
@@ -37,10 +37,10 @@ use denote.Triple.Walked.{says, needs, Stays, stay-none, walkOf, goes-none, Walk
 use denote.Triple.Clauses.{ensured, lasts}
 use denote.Exit.{yes}
 use Rattle.declaration_scan.specs.Piece.{spaceEnd}
-use Rattle.declaration_scan.proofs.skip_spaces as skip
-use Rattle.declaration_scan.proofs.skip_spaces.Symbol as skip-def
-use Rattle.declaration_scan.proofs.skip_spaces.Symbol.{name as #declaration-scan·skip-spaces}
-use Rattle.declaration_scan.proofs.skip_spaces.Met as skip-thm
+use Rattle.declaration_bytes.proofs.skip_spaces as skip
+use Rattle.declaration_bytes.proofs.skip_spaces.Symbol as skip-def
+use Rattle.declaration_bytes.proofs.skip_spaces.Symbol.{name as #declaration-bytes·skip-spaces}
+use Rattle.declaration_bytes.proofs.skip_spaces.Met as skip-thm
 use Rattle.declaration_cursor.specs.declared.Cursor.{Cursor}
 use Rattle.declaration_cursor.proofs.Parts.{Text, CursorT, bytes, whole, spelled, told, text-out, text-in, typed}
 use Rattle.declaration_cursor.proofs.past_spaces.Key.{name as #declaration-cursor·past-spaces}
@@ -96,7 +96,7 @@ module _ {M : Type 1} (𝓤 : URA M) (H : Heap 𝓤) (A : Atoms 𝓤) (W : Given
       suffices ! _ (ends-at 𝓤 H A f.ended stayed (f.clauses 𝓤 H A mem run) W (((κ, tt), (q, tt), tt, (c, tt), (whole c ∷ [], tt)), tt) (whole (moved r)) (moved r) (tt, tt) (tt, tt)) $ says ! (refl, e .0, e .1) $ frame ! $
       use1 W (‵ (Text κ .own (c .text) (bytes (c .text) ∷ [])) ⊛ ‵ Own) (text-out 𝓤 H A W κ c) $ split ! $ nothing ! $ move ! (2 ∷ 0 ∷ []) $ fjoin ! $ frame ! $ by ! (text-in 𝓤 H A W κ (c .text) r fits)
 
-  module _ (C : Calls 𝓤 H) (Λ : Loops 𝓤 H) (fm : FmC 𝓤 H (W .laws) C) (known : Triple 𝓤 (C #declaration-scan·skip-spaces) (Skip 𝓤 H A mem run)) where
+  module _ (C : Calls 𝓤 H) (Λ : Loops 𝓤 H) (fm : FmC 𝓤 H (W .laws) C) (known : Triple 𝓤 (C #declaration-bytes·skip-spaces) (Skip 𝓤 H A mem run)) where
     walk : Is (CursorT κ) c (whole c ∷ []) → c .at ≤ length (now (c .text)) → ent 𝓤 (onEntry 𝓤 H A f.signature (κ, tt) (q, tt) (c, tt) (whole c ∷ [], tt)) (WpFn 𝓤 H C Λ code.function (whole c ∷ []) Post)
     walk is within =
         let wt = typed 𝓤 H A W κ (named 0) c (whole c) is in
@@ -120,11 +120,11 @@ module _ {M : Type 1} (𝓤 : URA M) (H : Heap 𝓤) (A : Atoms 𝓤) (W : Given
         by ! (exits r e (is′ .1))))))))))))
 
 module _ {M : Type 1} (𝓤 : URA M) (H : Heap 𝓤) (A : Atoms 𝓤) (W : Given 𝓤 H A) (mem : Memory → SProp 𝓤) (run : Routine → Fun 𝓤) where
-  walks : (C : Calls 𝓤 H) (Λ : Loops 𝓤 H) → FmC 𝓤 H (W .laws) C → Triple 𝓤 (C #declaration-scan·skip-spaces) (Skip 𝓤 H A mem run) → Walks 𝓤 H A f.ended stayed (WpFn 𝓤 H C Λ code.function) (f.clauses 𝓤 H A mem run)
+  walks : (C : Calls 𝓤 H) (Λ : Loops 𝓤 H) → FmC 𝓤 H (W .laws) C → Triple 𝓤 (C #declaration-bytes·skip-spaces) (Skip 𝓤 H A mem run) → Walks 𝓤 H A f.ended stayed (WpFn 𝓤 H C Λ code.function) (f.clauses 𝓤 H A mem run)
   walks C Λ fm known = walked 𝓤 H A f.ended stayed (f.clauses 𝓤 H A mem run) (WpFn 𝓤 H C Λ code.function) (λ κs. (spelled, tt)) (λ κs. (told (κs .0), tt))
       (λ κs qs bounds a g are. needs 𝓤 (a .0 .at ≤ length (now (a .0 .text))) _ (λ within. walk 𝓤 H A W mem run (κs .0) (qs .0) (a .0) C Λ fm known (are .0) within))
 
-  meets : (𝓣 : Tables 𝓤 H) → Triple 𝓤 (𝓣 .C #declaration-scan·skip-spaces) (Skip 𝓤 H A mem run) → Meets 𝓤 H A f.signature (WpFn 𝓤 H (𝓣 .C) (𝓣 .Λ) code.function) (f.spec 𝓤 H A mem run)
+  meets : (𝓣 : Tables 𝓤 H) → Triple 𝓤 (𝓣 .C #declaration-bytes·skip-spaces) (Skip 𝓤 H A mem run) → Meets 𝓤 H A f.signature (WpFn 𝓤 H (𝓣 .C) (𝓣 .Λ) code.function) (f.spec 𝓤 H A mem run)
   meets 𝓣 known =
       walk-meets 𝓤 H A f.ended stayed W (goes-none 𝓤 H A W 1 (λ κs. CursorT (κs .0)) yes (λ κs y h. refl), tt) (f.clauses 𝓤 H A mem run)
       (WpFn 𝓤 H (𝓣 .C) (𝓣 .Λ) code.function) (WpFn-mono 𝓤 H (W .laws) 𝓣 code.function) (walks (𝓣 .C) (𝓣 .Λ) (fmOf 𝓤 H (W .laws) 𝓣) known)
@@ -135,4 +135,4 @@ past-spaces-spec 𝓤 H 𝓜 𝓖 𝓡 =
     entered 𝓤 H (tripleOf 𝓤 H (𝓖 .A) f.signature (f.spec 𝓤 H (𝓖 .A) (𝓜 .mem) (𝓡 .run)))
     (tables 𝓤 H 𝓜 𝓡 code.env .C) (tables 𝓤 H 𝓜 𝓡 code.env .Λ) #declaration-cursor·past-spaces code.function (code.unfolded 𝓤 H 𝓜 𝓡)
     (meets 𝓤 H (𝓖 .A) (givenOf 𝓤 H 𝓜 𝓖) (𝓜 .mem) (𝓡 .run) (tablesOf 𝓤 H 𝓜 (tables 𝓤 H 𝓜 𝓡 code.env))
-    (cited 𝓤 H (Skip 𝓤 H (𝓖 .A) (𝓜 .mem) (𝓡 .run)) 𝓜 𝓡 code.env #declaration-scan·skip-spaces skip-def.routine code.calls-declaration-scan·skip-spaces (skip-thm.met 𝓤 H 𝓜 𝓖 𝓡)))
+    (cited 𝓤 H (Skip 𝓤 H (𝓖 .A) (𝓜 .mem) (𝓡 .run)) 𝓜 𝓡 code.env #declaration-bytes·skip-spaces skip-def.routine code.calls-declaration-bytes·skip-spaces (skip-thm.met 𝓤 H 𝓜 𝓖 𝓡)))

@@ -38,7 +38,7 @@ use denote.Triple.Table.{entered, cited}
 use denote.Triple.Walked.{says, needs, Stays, stay-none, stay-none-slice, walkOf, goes-none, goes-none-slice, Walks, ends-at, walked, walk-meets}
 use denote.Triple.Clauses.{ensured, lasts}
 use denote.Exit.{yes}
-use Rattle.declaration_scan.specs.Unread.{endOfText, nextOf}
+use Rattle.declaration_bytes.specs.Unread.{endOfText, nextOf}
 use Rattle.declaration_scan.specs.Piece.{spaceEnd, pieceFrom, pieceAt}
 use Rattle.declaration_scan.specs.declared.Piece.{Piece}
 use Rattle.declaration_scan.proofs.Piece as S

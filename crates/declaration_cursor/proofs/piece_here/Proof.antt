@@ -35,7 +35,7 @@ use denote.Triple.Table.{entered, cited}
 use denote.Triple.Walked.{says, needs, Stays, stay-none, walkOf, goes-none, Walks, ends-at, walked, walk-meets}
 use denote.Triple.Clauses.{ensured, lasts}
 use denote.Exit.{yes}
-use Rattle.declaration_scan.specs.Unread.{endOfText, nextOf}
+use Rattle.declaration_bytes.specs.Unread.{endOfText, nextOf}
 use Rattle.declaration_scan.specs.Piece.{pieceFrom}
 use Rattle.declaration_scan.specs.declared.Piece.{Piece}
 use Rattle.declaration_scan.proofs.Piece as S

@@ -2,8 +2,8 @@
 -- Assumes nothing.
 use mathlib.Core.Path.{sym, _∙_, ap}
 use Rattle.name.specs.Word.{wordByte}
-use Rattle.declaration_scan.specs.Unread.{signKind}
-use Rattle.declaration_scan.proofs.Runs.{kind-word, kind-sign}
+use Rattle.declaration_scan.specs.Kind.{signKind}
+use Rattle.declaration_scan.proofs.Signs.{kind-word, kind-sign}
 use Rattle.declaration_scan.proofs.Pieces.{end-word, word-here, no-word-here, piece-is}
 use borrow.Author.Needs.{needs}
 use Rattle.declaration_scan.proofs.piece_from.Statement.{statement}

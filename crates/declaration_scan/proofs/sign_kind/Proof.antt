@@ -1,6 +1,6 @@
 -- `sign_kind` meets its contract.
 -- Assumes nothing.
-use Rattle.declaration_scan.proofs.Runs.{sign-kinds, end-sign-kind, kind-at, kind-other}
+use Rattle.declaration_scan.proofs.Signs.{sign-kinds, end-sign-kind, kind-at, kind-other}
 use Rattle.declaration_scan.proofs.sign_kind.Statement.{statement}
 use Rattle.declaration_scan.proofs.sign_kind.Tie as tie
 

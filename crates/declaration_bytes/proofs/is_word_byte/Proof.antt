@@ -1,9 +1,9 @@
 -- `is_word_byte` meets its contract.
 -- Assumes nothing.
-use Rattle.declaration_scan.proofs.Runs.{past-bytes}
+use Rattle.declaration_bytes.proofs.Runs.{past-bytes}
 use borrow.Author.Needs.{needs}
-use Rattle.declaration_scan.proofs.is_word_byte.Statement.{statement}
-use Rattle.declaration_scan.proofs.is_word_byte.Tie as tie
+use Rattle.declaration_bytes.proofs.is_word_byte.Statement.{statement}
+use Rattle.declaration_bytes.proofs.is_word_byte.Tie as tie
 
 returns : tie.Need-returns
 returns c = c .in-word .ensures

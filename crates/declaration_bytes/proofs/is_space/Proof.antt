@@ -2,8 +2,8 @@
 -- Assumes nothing.
 use mathlib.Core.Path.{refl}
 use Rattle.declaration_spelling.specs.Token.{isSpace}
-use Rattle.declaration_scan.proofs.is_space.Statement.{statement}
-use Rattle.declaration_scan.proofs.is_space.Tie as tie
+use Rattle.declaration_bytes.proofs.is_space.Statement.{statement}
+use Rattle.declaration_bytes.proofs.is_space.Tie as tie
 
 returns : tie.Need-returns
 unfolding isSpace

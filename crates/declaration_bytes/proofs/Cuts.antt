@@ -10,7 +10,7 @@ use Rattle.name.specs.Word.{wordByte}
 use Rattle.declaration_spelling.specs.Token.{isSpace, Token, word, lpar, rpar, comma, bar, end, mark, other}
 use Rattle.declaration_spelling.specs.Form.{SpacedToken, Cut, sign, atFront, spaceBefore, longer, letterBefore, byteBefore, cut}
 use Rattle.declaration_spelling.proofs.Bytes.{word-not-space}
-use Rattle.declaration_scan.specs.Unread.{runOf}
+use Rattle.declaration_bytes.specs.Unread.{runOf}
 
 unfoldable pub some-of : ℕ → Bool
 some-of zero = false

@@ -1,10 +1,10 @@
 -- `next_unread` meets its contract.
 -- Assumes nothing.
 use native.Mathlib.Omega.{arith}
-use Rattle.declaration_scan.proofs.Runs.{next-here, next-end}
+use Rattle.declaration_bytes.proofs.Runs.{next-here, next-end}
 use borrow.Author.Needs.{needs}
-use Rattle.declaration_scan.proofs.next_unread.Statement.{statement}
-use Rattle.declaration_scan.proofs.next_unread.Tie as tie
+use Rattle.declaration_bytes.proofs.next_unread.Statement.{statement}
+use Rattle.declaration_bytes.proofs.next_unread.Tie as tie
 
 cast-result : tie.Need-cast-result
 cast-result c = omega (arith, c .shared-slice-known .given (c .before .before .args .at))

@@ -5,10 +5,10 @@ use mathlib.Core.Path.{_≡_, refl, sym, _∙_}
 use native.Mathlib.Omega.{arith}
 use lib.ListN.{length}
 use Rattle.declaration_spelling.specs.Token.{isSpace}
-use Rattle.declaration_scan.proofs.Runs.{space-end, stop, stop-is, run-there, run-on, run-over}
+use Rattle.declaration_bytes.proofs.Runs.{space-end, stop, stop-is, run-there, run-on, run-over}
 use borrow.Author.Needs.{needs}
-use Rattle.declaration_scan.proofs.skip_spaces.Statement.{statement}
-use Rattle.declaration_scan.proofs.skip_spaces.Tie as tie
+use Rattle.declaration_bytes.proofs.skip_spaces.Statement.{statement}
+use Rattle.declaration_bytes.proofs.skip_spaces.Tie as tie
 
 abbrev Inv-loop : tie.InvT-loop
 Inv-loop text at i₀ i = (i ≤ length text) × (stop isSpace text at ≡ stop isSpace text i)

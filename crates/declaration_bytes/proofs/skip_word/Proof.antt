@@ -6,10 +6,10 @@ use native.Mathlib.Omega.{arith}
 use lib.ListN.{length}
 use Rattle.name.specs.Class.{classTable}
 use Rattle.name.specs.Word.{wordByte}
-use Rattle.declaration_scan.proofs.Runs.{word-end, stop, stop-is, run-there, run-on, run-over}
+use Rattle.declaration_bytes.proofs.Runs.{word-end, stop, stop-is, run-there, run-on, run-over}
 use borrow.Author.Needs.{needs}
-use Rattle.declaration_scan.proofs.skip_word.Statement.{statement}
-use Rattle.declaration_scan.proofs.skip_word.Tie as tie
+use Rattle.declaration_bytes.proofs.skip_word.Statement.{statement}
+use Rattle.declaration_bytes.proofs.skip_word.Tie as tie
 
 abbrev Inv-loop : tie.InvT-loop
 Inv-loop text at classes i₀ i = (classes ≡ classTable) × (i ≤ length text) × (stop wordByte text at ≡ stop wordByte text i)
