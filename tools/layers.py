@@ -22,7 +22,7 @@ COLOURS = ["#444444", "#00558b", "#8a4b00", "#00693e", "#8b1a4a", "#5b2a86", "#0
 LEGEND = [
     "Lowest layer at the bottom. An arrow goes from a crate to one that it depends on, in the colour of its own group.",
     "Left out: arrows that follow from others, the arrows of the test programs, and Rattle's libraries io and libc.",
-    "Dashed border: a crate of definitions and theorems only, without a function.",
+    "Dashed border: a crate of types, definitions and theorems only, without a function.",
 ]
 
 

@@ -1,4 +1,4 @@
--- The walk over a book's blocks that gathers the facts of all parents: for each of them, it is the walk of `follow`.
+-- The walk over a book's blocks that gathers the facts of all parents: for each of them, it is that of `follow_parent`.
 -- Assumes nothing.
 use Prim.Native.Nat.{ℕ, _+_, _-_, _^_, _≤_, _<_}
 use mathlib.Core.Path.{_≡_, refl, sym, _∙_, ap}

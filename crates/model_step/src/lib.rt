@@ -12,7 +12,7 @@ use model::Turn;
 use model::entry;
 
 // `taken` says whether the factor has taken a name, `here` whether it holds the next one.
-pub fn next_turn(mode: u8, taken: bool, here: bool) -> Turn
+fn next_turn(mode: u8, taken: bool, here: bool) -> Turn
     ensures { λ r. ⌜ r ≡ turnOf mode taken here ⌝ }
 {
     match mode {

@@ -9,7 +9,6 @@ use borrow.Author.Needs.{needs}
 use Rattle.name_order.proofs.rises.Statement.{statement}
 use Rattle.name_order.proofs.rises.Tie as tie
 
--- src/lib.rt:100:11
 enum-told : tie.Need-enum-told
 enum-told c = search needs
 
