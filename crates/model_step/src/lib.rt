@@ -15,31 +15,22 @@ use model::entry;
 fn next_turn(mode: u8, taken: bool, here: bool) -> Turn
     ensures { λ r. ⌜ r ≡ turnOf mode taken here ⌝ }
 {
-    match mode {
-        0 => {
-            if taken {
-                Turn::Leave
-            } else {
-                if here { Turn::Take } else { Turn::Refuse }
-            }
-        }
-        1 => {
-            if taken {
-                Turn::Leave
-            } else {
-                if here { Turn::Take } else { Turn::Leave }
-            }
-        }
-        2 => {
-            if here {
-                Turn::Take
-            } else {
-                if taken { Turn::Leave } else { Turn::Refuse }
-            }
-        }
-        3 => { if here { Turn::Take } else { Turn::Leave } }
+    if mode > 3 {
         // No mode: the check of the record refuses these.
-        4..=255 => Turn::Refuse,
+        Turn::Refuse
+    } else if here {
+        if taken {
+            if mode > 1 { Turn::Take } else { Turn::Leave }
+        } else {
+            Turn::Take
+        }
+    } else if taken {
+        Turn::Leave
+    } else {
+        match mode {
+            1 | 3 => Turn::Leave,
+            _ => Turn::Refuse,
+        }
     }
 }
 

@@ -1,8 +1,9 @@
 //! bench [--program PROGRAM]..
 //!
-//! Times on books near 60,000 bytes, each the least and the median of many runs in one process after a warm-up: all declarations of
-//! a book, in one pass and a parent at a time, the model of one parent, a word of 255 names, a declaration written and read. With the feature `library` the static library
-//! is timed beside the plain code on the same inputs. Output buffers are lent as they are and not cleared between runs.
+//! Times on books near 60,000 bytes, each the least and the median of many runs in one process after a warm-up: all
+//! declarations of a book, in one pass and a parent at a time, the model of one parent, a word of 255 names, a
+//! declaration written and read. With the feature `library` the static library is timed beside the plain code on the
+//! same inputs. Output buffers are lent as they are and not cleared between runs.
 //! --program times whole programs from start to end, a book on standard input.
 
 use std::hint::black_box;
@@ -38,7 +39,7 @@ fn timed<T>(mut work: impl FnMut() -> T) -> (f64, f64) {
 }
 
 fn line(what: &str, who: &str, (least, median): (f64, f64)) {
-    println!("{what:<30} {who:<8} {:>12.2} µs least {:>12.2} µs median", least / 1000.0, median / 1000.0);
+    println!("{what:<30} {who:<8} {:>12.4} µs least {:>12.4} µs median", least / 1000.0, median / 1000.0);
 }
 
 /// One program from start to end.
