@@ -3,7 +3,7 @@
 
   two_builds.py OLD NEW [--limit RATIO]   OLD and NEW are files libcurlewsong.a; RATIO is 1.10 unless given
 
-The same machine code takes more or less time as it lies in memory. So each library is timed in three layouts: as it
+The time of the same machine code depends on where it lies in memory. So each library is timed in three layouts: as it
 is linked, and with every function at a multiple of 32 and of 64 bytes. The benchmark runs four times for each library
 and layout, in turn. A figure is the least time over all layouts and runs. Exits 1 where a ratio NEW / OLD is above
 the limit, and 2 where nothing can be timed. It takes about five minutes.
@@ -38,16 +38,18 @@ def run(*command, **options):
 
 
 def lay_out(library, folder, multiple):
-    """Puts the library into the folder, its functions at multiples of so many bytes, or as they are for None."""
+    """Puts the library's bytes into the folder, its functions at multiples of so many bytes, or as they are for None."""
     shutil.rmtree(folder, ignore_errors=True)
     folder.mkdir(parents=True)
+    (folder / LIBRARY).write_bytes(library)
     if multiple is None:
-        shutil.copy(library, folder / LIBRARY)
         return
-    run("ar", "x", library.resolve(), cwd=folder)
-    objects = run("ar", "t", library).split()
+    run("ar", "x", LIBRARY, cwd=folder)
+    objects = run("ar", "t", LIBRARY, cwd=folder).split()
     for name in objects:
         sections = re.findall(r" (\.text\.\S+) ", run("objdump", "-h", folder / name))
+        if not sections:
+            fail(f"{name} has no function in a section of its own, so no other layout can be made")
         run("objcopy", *(f"--set-section-alignment={section}={multiple}" for section in sections), folder / name)
     run("ar", "rcs", LIBRARY, *objects, cwd=folder)
 
@@ -58,36 +60,6 @@ def build(folder):
         "--manifest-path", ROOT / "rust" / "Cargo.toml", "-p", "plain", "--features", "library", "--bin", "bench",
         env={**os.environ, "CURLEWSONG_LIB": str(folder)})
     return folder / "rust" / "release" / "bench"
-
-
-def figures(printed):
-    """The library's least time in microseconds by book and call, from what the benchmark prints."""
-    times, book = {}, None
-    for line in printed.splitlines():
-        if not line.startswith(" "):
-            book = line.split(":")[0]
-        elif found := FIGURE.match(line):
-            times[book, found[1]] = float(found[2])
-    return times
-
-
-def least(runs):
-    """The least time of each figure over the runs, which all have the same figures."""
-    return {figure: min(times[figure] for times in runs) for figure in runs[0]}
-
-
-def above(old, new, limit):
-    """The figures whose ratio new / old is above the limit."""
-    return [figure for figure in old if new[figure] > limit * old[figure]]
-
-
-def table(old, new):
-    """A heading, and a line for each figure: old time, new time, ratio."""
-    lines = [f"{'book':<28} {'call':<24} {'old, µs':>10} {'new, µs':>10} {'ratio':>6}"]
-    for book, call in old:
-        before, after = old[book, call], new[book, call]
-        lines.append(f"{book:<28} {call:<24} {before:>10.4g} {after:>10.4g} {after / before:>6.3f}")
-    return "\n".join(lines)
 
 
 def benches(libraries):
@@ -102,31 +74,61 @@ def benches(libraries):
     return built
 
 
-def main():
-    parser = argparse.ArgumentParser(description=__doc__, formatter_class=argparse.RawDescriptionHelpFormatter)
-    parser.add_argument("old", type=pathlib.Path)
-    parser.add_argument("new", type=pathlib.Path)
-    parser.add_argument("--limit", type=float, default=1.10)
-    given = parser.parse_args()
-    libraries = {"old": given.old, "new": given.new}
-    for tool, source in TOOLS.items():
-        if not shutil.which(tool):
-            fail(f"{tool} is missing. Get it from {source}.")
-    for library in libraries.values():
-        if not library.is_file():
-            fail(f"there is no file {library}. 'rt staticlib curlewsong' makes target/staticlib/{LIBRARY}.")
-    runs = {which: [] for which in libraries}
-    built = benches(libraries)
+def figures(printed):
+    """The library's least time in microseconds by book and call, from what the benchmark prints."""
+    times, book = {}, None
+    for line in printed.splitlines():
+        if not line.startswith(" "):
+            book = line.split(":")[0]
+        elif found := FIGURE.match(line):
+            times[book, found[1]] = float(found[2])
+    return times
+
+
+def timed(built):
+    """The least times of each library over all layouts and rounds."""
+    least = {}
     for number in range(ROUNDS):
         for (which, multiple), bench in built.items():
             print(f"round {number + 1} of {ROUNDS}: {which}, {multiple or 'as linked'}", file=sys.stderr)
-            runs[which].append(figures(run(bench)))
-    old, new = least(runs["old"]), least(runs["new"])
-    print(table(old, new))
-    worse = above(old, new, given.limit)
-    print(f"{len(worse)} of {len(old)} ratios above {given.limit:g}")
-    sys.exit(bool(worse))
+            times = figures(run(bench))
+            known = least.setdefault(which, times)
+            if not times or any(times.keys() != other.keys() for other in least.values()):
+                fail("the benchmark printed no times of the library, or not the same ones in each run")
+            least[which] = {figure: min(times[figure], known[figure]) for figure in known}
+    return least["old"], least["new"]
+
+
+def table(old, new, limit):
+    """A heading, and a line for each figure: old time, new time, ratio, and a mark where that is above the limit."""
+    lines = [f"{'book':<28} {'call':<24} {'old, µs':>10} {'new, µs':>10} {'ratio':>6}"]
+    for book, call in old:
+        before, after = old[book, call], new[book, call]
+        mark = " above" if after > limit * before else ""
+        lines.append(f"{book:<28} {call:<24} {before:>10.4g} {after:>10.4g} {after / before:>6.3f}{mark}")
+    return lines
+
+
+def main(arguments):
+    parser = argparse.ArgumentParser(description=__doc__, formatter_class=argparse.RawDescriptionHelpFormatter)
+    parser.add_argument("old", metavar="OLD", type=pathlib.Path)
+    parser.add_argument("new", metavar="NEW", type=pathlib.Path)
+    parser.add_argument("--limit", metavar="RATIO", type=float, default=1.10)
+    given = parser.parse_args(arguments)
+    if not given.limit > 0:
+        fail(f"--limit wants a number above 0, and not {given.limit:g}")
+    for tool, source in TOOLS.items():
+        if not shutil.which(tool):
+            fail(f"{tool} is missing. Get it from {source}.")
+    try:
+        old, new = timed(benches({"old": given.old.read_bytes(), "new": given.new.read_bytes()}))
+    except OSError as error:
+        fail(error)
+    lines = table(old, new, given.limit)
+    worse = sum(line.endswith(" above") for line in lines)
+    print(*lines, f"{worse} of {len(old)} ratios above {given.limit:g}", sep="\n")
+    return int(worse > 0)
 
 
 if __name__ == "__main__":
-    main()
+    sys.exit(main(sys.argv[1:]))

@@ -20,6 +20,7 @@ fn next_turn(mode: u8, taken: bool, here: bool) -> Turn
         Turn::Refuse
     } else if here {
         if taken {
+            // Modes 2 and 3 repeat.
             if mode > 1 { Turn::Take } else { Turn::Leave }
         } else {
             Turn::Take
@@ -27,6 +28,7 @@ fn next_turn(mode: u8, taken: bool, here: bool) -> Turn
     } else if taken {
         Turn::Leave
     } else {
+        // Modes 1 and 3 may be skipped.
         match mode {
             1 | 3 => Turn::Leave,
             _ => Turn::Refuse,
