@@ -34,6 +34,10 @@ def told(model, word, last):
     return PRINTED.replace("70.0000", str(model)).replace("0.3500", str(word)).replace("0.5000", str(last))
 
 
+def one_layout(libraries):
+    return {(which, None): library for which, library in libraries.items()}
+
+
 class TwoBuilds(unittest.TestCase):
     def test_the_library_s_least_times_are_read(self):
         self.assertEqual(two_builds.figures(PRINTED), {MODEL: 70.0, WORD: 0.35, LAST: 0.5})
@@ -62,8 +66,7 @@ class Main(unittest.TestCase):
             for name in prints:
                 (folder / name).write_bytes(name.encode())
             later = {name.encode(): iter(texts) for name, texts in prints.items()}
-            builds = lambda libraries: {(which, None): library for which, library in libraries.items()}
-            for name, stub in {"benches": builds, "run": lambda bench: next(later[bench]), "ROUNDS": 2}.items():
+            for name, stub in {"benches": one_layout, "run": lambda bench: next(later[bench]), "ROUNDS": 2}.items():
                 stack.enter_context(mock.patch.object(two_builds, name, stub))
             stack.enter_context(mock.patch.object(two_builds.shutil, "which", lambda tool: tool))
             stack.enter_context(contextlib.redirect_stdout(self.out))

@@ -17,8 +17,9 @@ fn next_turn(mode: u8, taken: bool, here: bool) -> Turn
 {
     if mode > 3 {
         // No mode: the check of the record refuses these.
-        Turn::Refuse
-    } else if here {
+        return Turn::Refuse;
+    }
+    if here {
         if taken {
             // Modes 2 and 3 repeat.
             if mode > 1 { Turn::Take } else { Turn::Leave }
