@@ -1,12 +1,15 @@
 #!/usr/bin/env python3
-"""Printed DTDs against libxml2: xmllint_check.py PROGRAM [VERDICT [ARGUMENT..]].
+"""Printed DTDs, and declarations in the forms that the reader takes, against libxml2: xmllint_check.py PROGRAM [VERDICT [ARGUMENT..]].
 
 PROGRAM prints the DTD of a book on standard input; VERDICT, if given, says whether the models of one book accept every block of
 another (rust/compare/src/bin/verdict.rs). Of each set of documents the book is made with tools/book.py and the DTD printed with
 PROGRAM. Then xmllint must find the DTD well formed, the documents valid against it, and changed documents valid exactly when each
-element's children match its printed model as a regular expression of Python's, and when VERDICT says yes. Without xmllint the
-check is skipped, and says so.
+element's children match its printed model as a regular expression of Python's, and when VERDICT says yes.
+
+Each declaration in FORMS of tests/reading_cases.py, which test_reading reads too, must be to xmllint what the house spelling of its
+answer is: the same documents are valid, of all those with at most four children. Without xmllint the check is skipped, and says so.
 """
+import itertools
 import os
 import pathlib
 import random
@@ -19,10 +22,12 @@ import tempfile
 ROOT = pathlib.Path(__file__).resolve().parent.parent
 sys.path.insert(0, str(ROOT / "tools"))
 import book as tool  # noqa: E402
+import reading_cases as reading  # noqa: E402
 
 SEED = 20261115
 FEEDS = 6
 CHANGES = 8
+PARENT, CHILDREN, LONGEST_WORD = "d", "abc", 4
 
 STORY = """<feed>
 <entry><member/><contribution/><total/></entry>
@@ -130,6 +135,44 @@ def check(program, verdict, documents, others, folder):
     return len(others), turned_away
 
 
+def not_valid(declaration, files, folder):
+    """Which of the files are not valid against a declaration of PARENT, in one run of xmllint; the children are EMPTY."""
+    dtd = declaration + b"\n" + "".join(f"<!ELEMENT {c} EMPTY>\n" for c in CHILDREN).encode()
+    (folder / "form.dtd").write_bytes(dtd)
+    command = ["xmllint", "--noout", "--nonet", "--dtdvalid", "form.dtd", *files]
+    done = subprocess.run(command, cwd=folder, capture_output=True, text=True, errors="replace")
+    found = re.findall(r"(?m)^Document (.*) does not validate against form.dtd$", done.stderr)
+    if done.returncode != (3 if found else 0) or (done.stderr and not found):
+        sys.exit(f"xmllint_check: xmllint ended with {done.returncode}: {done.stderr.strip()}\n{dtd}")
+    return set(found)
+
+
+def check_forms(folder):
+    """How many declarations were compared with their house spelling, and with how many documents each."""
+    # What is 13 only because our reader takes less than XML allows is not compared: (a,b)+, ((a|b))*, ((a))?, (a?)*, ((a?),b), ((a)|b) or
+    # (((a))). These are models to libxml2, and the reader has no answer for them.
+    words = [word for n in range(LONGEST_WORD + 1) for word in itertools.product(CHILDREN, repeat=n)]
+    files = {"word-" + "".join(word) + ".xml": word for word in words}
+    for file, word in files.items():
+        (folder / file).write_text(f"<{PARENT}>" + "".join(f"<{c}/>" for c in word) + f"</{PARENT}>")
+    due = {}
+    for text, _ in reading.FORMS:
+        answer = reading.read(text)
+        if answer[0] != 0:
+            sys.exit(f"xmllint_check: {text} is refused with {answer[0]}")
+        house = reading.house(answer)
+        if house not in due:
+            due[house] = not_valid(house, files, folder)
+            model = models_of(house.decode())[PARENT]
+            other = due[house] ^ {file for file, word in files.items() if not model.fullmatch("".join(c + " " for c in word))}
+            if other:
+                sys.exit(f"xmllint_check: valid is not the same for xmllint and by the model {house}: {sorted(other)}")
+        other = due[house] ^ not_valid(text, files, folder)
+        if other:
+            sys.exit(f"xmllint_check: valid is not the same for xmllint by {text} and by {house}: {sorted(other)}")
+    return len(reading.FORMS), len(files)
+
+
 def main():
     if len(sys.argv) < 2:
         sys.exit("usage: xmllint_check.py PROGRAM [VERDICT [ARGUMENT..]]")
@@ -153,7 +196,9 @@ def main():
                 sys.exit("xmllint_check: an entry with both a contribution and a leaver is valid")
             total += n
             away += turned_away
+        forms, words = check_forms(folder)
     print(f"xmllint: {len(sets)} DTDs read, {total} documents compared, {away} of them not valid (seed {SEED})")
+    print(f"xmllint: {forms} declarations are read as their house spelling is, each with {words} documents")
 
 
 if __name__ == "__main__":

@@ -23,15 +23,15 @@ module _ {A : Type 0} (s : List ℕ) (next : Book → Answer A) where
   book-later f l = (λ e. ⊎-elim (λ q. absurd (false≢true (sym l ∙ taken-stops s f q))) (λ h. h) (onward-refused (takenBook s) next f e), λ (b, q, h). rw q h)
 
   -- a book's refusal is given exactly where the bytes are not taken, for that reason
-  pub book-first : (f : Refusal) → ofBook f ≡ true → ((b : Book) → next b ≡ refused f → ofBook f ≡ false) → (onward (takenBook s) next ≡ refused f) ↔ (takenBook s ≡ refused f)
+  pub book-first : (f : Refusal) → ofBook f ≡ true → ((b : Book) → TakenAs s b → next b ≡ refused f → ofBook f ≡ false) → (onward (takenBook s) next ≡ refused f) ↔ (takenBook s ≡ refused f)
   book-first f l above = (
-    λ e. ⊎-elim (λ q. q) (λ h. absurd (false≢true (sym (above (h .0) (h .2)) ∙ l))) (onward-refused (takenBook s) next f e),
+    λ e. ⊎-elim (λ q. q) (λ h. absurd (false≢true (sym (above (h .0) (h .1) (h .2)) ∙ l))) (onward-refused (takenBook s) next f e),
     λ q. rw q,
   )
 
   -- every refusal is a book's, or one of what is done with it
-  pub book-or-later : (f : Refusal) → onward (takenBook s) next ≡ refused f → (ofBook f ≡ true) ⊎ ((b : Book) × (next b ≡ refused f))
-  book-or-later f e = ⊎-elim (λ q. inl (taken-stops s f q)) (λ q. inr (q .0, q .2)) (onward-refused (takenBook s) next f e)
+  pub book-or-later : (f : Refusal) → onward (takenBook s) next ≡ refused f → (ofBook f ≡ true) ⊎ ((b : Book) × TakenAs s b × (next b ≡ refused f))
+  book-or-later f e = ⊎-elim (λ q. inl (taken-stops s f q)) inr (onward-refused (takenBook s) next f e)
 
   -- the same by a condition C of the book: of a refusal that is not a book's, and of what is given
   module _ (C : Book → Type 0) where

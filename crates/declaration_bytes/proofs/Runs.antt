@@ -29,7 +29,7 @@ unfolding isSpace
 space-end = refl
 
 pub word-end : wordByte endOfText ≡ false
-word-end = no-word .1 .0
+word-end = no-word .0
 
 pub past-bytes : (n : ℕ) → n ≤ endOfText → endOfText ≤ n → false ≡ wordByte n
 past-bytes n h k = let e : n ≡ endOfText = omega arith in sym (ap wordByte e ∙ word-end)

@@ -21,11 +21,20 @@ pub fn next_unread(text: &[u8], at: usize) -> usize
     }
 }
 
-// Whether the next byte is white space.
+// Whether the next byte is white space: space, tab, CR or LF.
 fn is_space(next: usize) -> bool
     ensures { λ r. ⌜ r ≡ isSpace next ⌝ }
 {
-    next == 32
+    if next == 32 {
+        return true;
+    }
+    if next == 9 {
+        return true;
+    }
+    if next == 13 {
+        return true;
+    }
+    next == 10
 }
 
 // Whether the next byte is a byte of words, by the table of classes.

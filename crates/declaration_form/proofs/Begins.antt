@@ -14,8 +14,10 @@ use lib.Dec.{eqb}
 use lib.ListN.{length, getD, take, drop, length-drop, drop-of-length-le}
 use lib.Seq.{drop-cons, length-take-le}
 use borrow.Author.Tests.{eq-eqb, ne-eqb}
+use Rattle.declaration_spelling.specs.Token.{word}
 use Rattle.declaration_spelling.specs.House.{emptyWord}
-use Rattle.declaration_spelling.specs.Form.{same, strip}
+use Rattle.declaration_spelling.specs.Cut.{same, strip}
+use Rattle.declaration_spelling.specs.Kind.{wordKind, emptyKind, tokenKind}
 use Rattle.declaration_spelling.proofs.Tests.{true-or-false, and-is, same-is}
 use Rattle.declaration_form.specs.Step.{begins}
 
@@ -61,12 +63,12 @@ module _ (s : List ℕ) (from to : ℕ) (h : from ≤ to) (k : to ≤ length s) 
   fit = let e = length-drop from s in omega arith
 
   -- a word of another length is not `EMPTY`
-  pub not-empty-word : (to - from ≡ 5 → ⊥) → _≡_ {A = ℕ} 1 (cond (same (take (to - from) (drop from s)) emptyWord) 2 1)
-  unfolding emptyWord
+  pub not-empty-word : (to - from ≡ 5 → ⊥) → wordKind ≡ tokenKind (word (take (to - from) (drop from s)))
+  unfolding emptyWord tokenKind
   not-empty-word n = rw (other-size (to - from) (drop from s) emptyWord fit n)
 
-  pub empty-word : to - from ≡ 5 → (b : Bool) → b ≡ begins emptyWord (drop from s) → _≡_ {A = ℕ} (cond b 2 1) (cond (same (take (to - from) (drop from s)) emptyWord) 2 1)
-  unfolding emptyWord
+  pub empty-word : to - from ≡ 5 → (b : Bool) → b ≡ begins emptyWord (drop from s) → cond b emptyKind wordKind ≡ tokenKind (word (take (to - from) (drop from s)))
+  unfolding emptyWord tokenKind
   empty-word e b q =
       let l : 5 ≤ length (drop from s) = (let z = fit in omega arith) in
       let p : same (take 5 (drop from s)) emptyWord ≡ begins emptyWord (drop from s) = same-front emptyWord (drop from s) l in

@@ -10,10 +10,12 @@ use lib.Dec.{eqb}
 use lib.ListN.{length, getD, take, drop, drop-of-length-le}
 use lib.Seq.{drop-cons}
 use borrow.Author.Tests.{lt-ltb}
+use Rattle.name.specs.Rule.{isName}
 use Rattle.declaration_spelling.specs.Token.{Token}
 use Rattle.declaration_spelling.specs.House.{opening}
-use Rattle.declaration_spelling.specs.Form.{Cut, atFront, cut}
-use Rattle.declaration_walk.specs.Walk.{signalOf, stepOf, isWord, fitsAfter, goodToken, accepts, acceptsRest, hasForm}
+use Rattle.declaration_spelling.specs.Cut.{Cut, atFront, cut}
+use Rattle.declaration_spelling.specs.Kind.{wordKind, tokenKind}
+use Rattle.declaration_walk.specs.Walk.{State, beforeParent, nowhere, step, numberOf, walk, isWord, kindFits, passes, accepts, acceptsRest, hasForm}
 use Rattle.declaration_walk.proofs.Formed.{accepts-lost}
 use Rattle.declaration_bytes.specs.Unread.{nextOf}
 use Rattle.declaration_scan.specs.declared.Piece.{Piece}
@@ -27,11 +29,11 @@ use Rattle.declaration_form.proofs.Tokens.{here-word, here-on}
 -- ---- one piece
 
 -- a test that fails leads nowhere
-advanced : (state : ℕ) (bw gap : Bool) (t : Token) (c : Cut) → accepts state bw gap (atFront t c .pieces) ≡ accepts (advance state bw gap t) (isWord t) (c .gap) (c .pieces)
+advanced : (state : State) (bw gap : Bool) (t : Token) (c : Cut) → accepts state bw gap (atFront t c .pieces) ≡ accepts (advance state bw gap t) (isWord t) (c .gap) (c .pieces)
 unfolding atFront accepts advance
-advanced state bw gap t c = go (fitsAfter bw gap t) (goodToken t)
+advanced state bw gap t c = go (kindFits bw gap (tokenKind t)) (passes isName t)
   where
-    go : (f g : Bool) → (f && (g && accepts (stepOf state (signalOf t)) (isWord t) (c .gap) (c .pieces))) ≡ accepts (cond (f && g) (stepOf state (signalOf t)) 11) (isWord t) (c .gap) (c .pieces)
+    go : (f g : Bool) → (f && (g && accepts (step state (tokenKind t)) (isWord t) (c .gap) (c .pieces))) ≡ accepts (cond (f && g) (step state (tokenKind t)) nowhere) (isWord t) (c .gap) (c .pieces)
     go true true = refl
     go true false = sym (accepts-lost (isWord t) (c .gap) (c .pieces))
     go false g = sym (accepts-lost (isWord t) (c .gap) (c .pieces))
@@ -54,10 +56,10 @@ piece-on s at p e h =
     let k = here-on s (p .kind) (p .from) (p .to) (t .0) (t .1) h in
     omega arith
 
-module _ (s : List ℕ) (at state : ℕ) (bw : Bool) where
+module _ (s : List ℕ) (at : ℕ) (state : State) (bw : Bool) where
   -- behind the last token
-  pub walk-done : length s ≤ at → acceptsFrom s state bw at ≡ eqb state 10
-  unfolding acceptsFrom accepts cut
+  pub walk-done : length s ≤ at → acceptsFrom s state bw at ≡ eqb (numberOf state) 13
+  unfolding acceptsFrom accepts walk cut
   walk-done h = rw (drop-of-length-le s h)
 
   over : at < length s → length s ≤ spaceEnd s at → acceptsFrom s state bw at ≡ false
@@ -86,7 +88,7 @@ module _ (s : List ℕ) (at state : ℕ) (bw : Bool) where
   walk-over p e l h = over l (let z : p .from ≡ spaceEnd s at = ap (λ (q : Piece). q .from) e ∙ from-is in omega arith)
 
   -- one token more
-  walk-on : (p : Piece) → p ≡ pieceAt s at → p .from < length s → (n : ℕ) → n ≡ advance state bw (p .gap) (tokenAt s (p .from))
+  walk-on : (p : Piece) → p ≡ pieceAt s at → p .from < length s → (n : State) → n ≡ advance state bw (p .gap) (tokenAt s (p .from))
       → acceptsFrom s state bw at ≡ acceptsFrom s n (isWord (tokenAt s (p .from))) (p .to)
   walk-on p e h n q =
       let z : p .from ≡ spaceEnd s at = ap (λ (k : Piece). k .from) e ∙ from-is in
@@ -94,27 +96,27 @@ module _ (s : List ℕ) (at state : ℕ) (bw : Bool) where
       let t : p .to ≡ pieceAt s at .to = ap (λ (k : Piece). k .to) e in
       rw (q, t, g, z) (on (omega arith))
 
-  pub walk-next : (p : Piece) → p ≡ pieceAt s at → p .from < length s → (n : ℕ) → n ≡ advance state bw (p .gap) (tokenAt s (p .from))
-      → acceptsFrom s state bw at ≡ acceptsFrom s n (eqb (p .kind) 1) (p .to)
+  pub walk-next : (p : Piece) → p ≡ pieceAt s at → p .from < length s → (n : State) → n ≡ advance state bw (p .gap) (tokenAt s (p .from))
+      → acceptsFrom s state bw at ≡ acceptsFrom s n (eqb (p .kind) wordKind) (p .to)
   walk-next p e h n q =
       let t = piece-told s at p e in
       rw (here-word s (p .kind) (p .from) (p .to) (t .0) (t .1) h) (walk-on p e h n q)
 
-  pub walk-lost : state ≡ 11 → acceptsFrom s state bw at ≡ false
+  pub walk-lost : state ≡ nowhere → acceptsFrom s state bw at ≡ false
   unfolding acceptsFrom
   walk-lost e = rw e (accepts-lost bw (cut (drop at s) .gap) (cut (drop at s) .pieces))
 
 -- ---- the whole
 
-pub form-is : (s : List ℕ) → hasForm s ≡ cond (begins opening s) (acceptsFrom s 0 true 9) false
+pub form-is : (s : List ℕ) → hasForm s ≡ cond (begins opening s) (acceptsFrom s beforeParent true 9) false
 unfolding hasForm acceptsRest acceptsFrom opening
 form-is s = rw (strip-begins opening s) (go (begins opening s))
   where
-    go : (b : Bool) → acceptsRest (cond b (some (drop (length opening) s)) none) ≡ cond b (acceptsFrom s 0 true 9) false
+    go : (b : Bool) → acceptsRest (cond b (some (drop (length opening) s)) none) ≡ cond b (acceptsFrom s beforeParent true 9) false
     go true = refl
     go false = refl
 
-pub form-begun : (s : List ℕ) (b : Bool) → begins opening s ≡ true → b ≡ acceptsFrom s 0 true 9 → b ≡ hasForm s
+pub form-begun : (s : List ℕ) (b : Bool) → begins opening s ≡ true → b ≡ acceptsFrom s beforeParent true 9 → b ≡ hasForm s
 form-begun s b e q = rw (form-is s, e) q
 
 pub form-not : (s : List ℕ) → begins opening s ≡ false → false ≡ hasForm s

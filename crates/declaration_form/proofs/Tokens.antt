@@ -2,59 +2,70 @@
 -- Assumes nothing.
 use Prim.Native.Nat.{ℕ, suc, _+_, _-_, _≤_, _<_}
 use mathlib.Core.Path.{_≡_, refl, ap}
-use mathlib.Core.Bool.{Bool, true}
+use mathlib.Core.Bool.{Bool, true, false, cond}
 use mathlib.Core.List.{List}
 use native.Mathlib.Omega.{arith}
 use lib.Dec.{eqb}
 use lib.ListN.{length, getD, take, drop}
 use lib.Seq.{drop-cons}
 use Rattle.name.specs.Class.{between}
+use Rattle.name.specs.Rule.{isName}
 use Rattle.declaration_spelling.specs.Token.{Token, word}
-use Rattle.declaration_walk.specs.Walk.{signalOf, isWord, fitsAfter, passes, goodToken}
+use Rattle.declaration_spelling.specs.House.{emptyWord}
+use Rattle.declaration_spelling.specs.Cut.{same}
+use Rattle.declaration_spelling.specs.Kind.{wordKind, emptyKind, starKind, markKind, tokenKind}
+use Rattle.declaration_walk.specs.Walk.{isWord, kindFits, passes}
 use Rattle.declaration_bytes.specs.Unread.{nextOf}
 use Rattle.declaration_scan.specs.Kind.{kindOf}
 use Rattle.declaration_scan.specs.Piece.{tokenLength, wordEnd}
 use Rattle.declaration_scan.proofs.ByKind.{EachKind, token-some, by-place}
-use Rattle.declaration_states.specs.Space.{kindFits}
-use Rattle.declaration_form.specs.Step.{signals, tokenAt}
+use Rattle.declaration_form.specs.Step.{tokenAt}
 
 -- ---- each kind
 
 abbrev Fits : ℕ → Token → List ℕ → Type 0
-Fits k t w = (bw gap : Bool) → kindFits bw gap k ≡ fitsAfter bw gap t
+Fits k t w = (bw gap : Bool) → kindFits bw gap k ≡ kindFits bw gap (tokenKind t)
+
+-- white space before `EMPTY` is that before any word
+word-fits : (w : List ℕ) → Fits wordKind (word w) w
+unfolding kindFits between tokenKind
+word-fits w bw gap = go (same w emptyWord)
+  where
+    go : (b : Bool) → kindFits bw gap wordKind ≡ kindFits bw gap (cond b emptyKind wordKind)
+    go true = refl
+    go false = refl
 
 each-fits : EachKind Fits
-unfolding kindFits between fitsAfter
-each-fits w b = (λ x y. refl, λ x y. refl, λ x y. refl, λ x y. refl, λ x y. refl, λ x y. refl, λ x y. refl, λ x y. refl, λ x y. refl, λ x y. refl, λ x y. refl)
+unfolding tokenKind markKind
+each-fits w b = (word-fits w, λ x y. refl, λ x y. refl, λ x y. refl, λ x y. refl, λ x y. refl, λ x y. refl, λ x y. refl, λ x y. refl, λ x y. refl)
 
 abbrev Worded : ℕ → Token → List ℕ → Type 0
-Worded k t w = eqb k 1 ≡ isWord t
+Worded k t w = eqb k wordKind ≡ isWord t
 
 each-worded : EachKind Worded
 unfolding isWord
-each-worded w b = (refl, refl, refl, refl, refl, refl, refl, refl, refl, refl, refl)
+each-worded w b = (refl, refl, refl, refl, refl, refl, refl, refl, refl, refl)
 
 abbrev Low : ℕ → Token → List ℕ → Type 0
-Low k t w = k ≤ 10
+Low k t w = k ≤ starKind
 
 each-low : EachKind Low
 each-low w b =
-    (omega arith, omega arith, omega arith, omega arith, omega arith, omega arith, omega arith, omega arith, omega arith, omega arith, omega arith)
+    (omega arith, omega arith, omega arith, omega arith, omega arith, omega arith, omega arith, omega arith, omega arith, omega arith)
 
 abbrev Bytes : ℕ → Token → List ℕ → Type 0
-Bytes k t w = k ≡ 1 → t ≡ word w
+Bytes k t w = k ≡ wordKind → t ≡ word w
 
 each-bytes : EachKind Bytes
-each-bytes w b = (λ e. refl, λ e. cc, λ e. cc, λ e. cc, λ e. cc, λ e. cc, λ e. cc, λ e. cc, λ e. cc, λ e. cc, λ e. cc)
+each-bytes w b = (λ e. refl, λ e. cc, λ e. cc, λ e. cc, λ e. cc, λ e. cc, λ e. cc, λ e. cc, λ e. cc, λ e. cc)
 
-abbrev Signal : ℕ → Token → List ℕ → Type 0
-Signal k t w = (k ≡ 1 → ⊥) → (getD signals k 0 ≡ signalOf t) × (goodToken t ≡ true)
+abbrev Signed : ℕ → Token → List ℕ → Type 0
+Signed k t w = (k ≡ wordKind → ⊥) → (k ≡ tokenKind t) × (passes isName t ≡ true)
 
-each-signal : EachKind Signal
-unfolding signals signalOf passes
-each-signal w b = (
+each-signed : EachKind Signed
+unfolding tokenKind markKind passes
+each-signed w b = (
   λ n. absurd (n refl),
-  λ n. (refl, refl),
   λ n. (refl, refl),
   λ n. (refl, refl),
   λ n. (refl, refl),
@@ -78,21 +89,21 @@ module _ (s : List ℕ) (kind from to : ℕ) (is : kind ≡ kindOf (nextOf (drop
   unfolding tokenAt
   here P each = rw (is, size-is) (by-place P each s from h)
 
-  pub here-fits : (bw gap : Bool) → kindFits bw gap kind ≡ fitsAfter bw gap (tokenAt s from)
+  pub here-fits : (bw gap : Bool) → kindFits bw gap kind ≡ kindFits bw gap (tokenKind (tokenAt s from))
   here-fits = here Fits each-fits
 
-  pub here-word : eqb kind 1 ≡ isWord (tokenAt s from)
+  pub here-word : eqb kind wordKind ≡ isWord (tokenAt s from)
   here-word = here Worded each-worded
 
-  pub here-kind : kind ≤ 10
+  pub here-kind : kind ≤ starKind
   here-kind = here Low each-low
 
   -- a word is made of its bytes
-  pub here-bytes : kind ≡ 1 → tokenAt s from ≡ word (take (to - from) (drop from s))
+  pub here-bytes : kind ≡ wordKind → tokenAt s from ≡ word (take (to - from) (drop from s))
   here-bytes = here Bytes each-bytes
 
-  pub here-sign : (kind ≡ 1 → ⊥) → (getD signals kind 0 ≡ signalOf (tokenAt s from)) × (goodToken (tokenAt s from) ≡ true)
-  here-sign = here Signal each-signal
+  pub here-sign : (kind ≡ wordKind → ⊥) → (kind ≡ tokenKind (tokenAt s from)) × (passes isName (tokenAt s from) ≡ true)
+  here-sign = here Signed each-signed
 
   -- a token has a byte
   pub here-on : from < to

@@ -7,9 +7,11 @@ use mathlib.Core.Bool.{Bool, true, false, cond, _&&_}
 use mathlib.Core.List.{List, [], _∷_}
 use lib.Dec.{eqb}
 use lib.ListN.{length, take, drop}
+use Rattle.name.specs.Rule.{isName}
 use Rattle.declaration_spelling.specs.Token.{Token}
-use Rattle.declaration_spelling.specs.Form.{cut}
-use Rattle.declaration_walk.specs.Walk.{signalOf, stepOf, fitsAfter, goodToken, accepts}
+use Rattle.declaration_spelling.specs.Cut.{cut}
+use Rattle.declaration_spelling.specs.Kind.{tokenKind}
+use Rattle.declaration_walk.specs.Walk.{State, nowhere, step, kindFits, passes, accepts}
 use Rattle.declaration_bytes.specs.Unread.{nextOf}
 use Rattle.declaration_scan.specs.declared.Piece.{Piece}
 use Rattle.declaration_scan.specs.Kind.{kindOf}
@@ -21,22 +23,18 @@ begins [] text = true
 begins (a ∷ as′) [] = false
 begins (a ∷ as′) (b ∷ bs) = eqb a b && begins as′ bs
 
--- The signal of each kind: a mark of any sort is 8, a byte of no use 0.
-unfoldable pub signals : List ℕ
-signals = 0 ∷ 1 ∷ 3 ∷ 4 ∷ 5 ∷ 6 ∷ 7 ∷ 8 ∷ 8 ∷ 8 ∷ 0 ∷ []
-
 -- The token that begins at a place.
 unfoldable pub tokenAt : List ℕ → ℕ → Token
 tokenAt text from = tokenOf (take (tokenLength (drop from text)) (drop from text))
 
 -- The state behind a token: nowhere if its white space does not fit or a word breaks the rule for names.
-unfoldable pub advance : ℕ → Bool → Bool → Token → ℕ
-advance state behindWord gap t = cond (fitsAfter behindWord gap t && goodToken t) (stepOf state (signalOf t)) 11
+unfoldable pub advance : State → Bool → Bool → Token → State
+advance state behindWord gap t = cond (kindFits behindWord gap (tokenKind t) && passes isName t) (step state (tokenKind t)) nowhere
 
 -- A piece of the text: its kind and its end are those of the token where it begins.
 abbrev pub Stands : List ℕ → Piece → Type 0
 Stands text p = (p .kind ≡ kindOf (nextOf (drop (p .from) text))) × (p .to ≡ wordEnd text (p .from)) × (p .to ≤ length text) × (p .from < length text)
 
 -- The walk from a place on ends well.
-unfoldable pub acceptsFrom : List ℕ → ℕ → Bool → ℕ → Bool
+unfoldable pub acceptsFrom : List ℕ → State → Bool → ℕ → Bool
 acceptsFrom text state behindWord at = accepts state behindWord (cut (drop at text) .gap) (cut (drop at text) .pieces)

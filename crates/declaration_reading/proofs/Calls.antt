@@ -18,12 +18,10 @@ use Rattle.book.specs.Layout.{readingOf}
 use Rattle.book.specs.Taken.{takenBook}
 use Rattle.book.proofs.Taken as Taken
 use Rattle.declaration_spelling.specs.House.{opening}
-use Rattle.declaration_spelling.specs.Form.{strip}
+use Rattle.declaration_spelling.specs.Cut.{strip}
 use Rattle.declaration_spelling.proofs.Tests.{strip-is}
-use Rattle.declaration_spelling.proofs.Books.{few}
 use Rattle.declaration_walk.specs.Walk.{acceptsRest, hasForm}
-use Rattle.declaration_gather.specs.Gather.{tokensAnswer, textAnswer}
-use Rattle.declaration_gather.proofs.Gathered.{text-answer}
+use Rattle.declaration_walk.specs.Gather.{tokensAnswer, textAnswer}
 use Rattle.declaration_reading.specs.declared.Declaration.{Declaration}
 use Rattle.declaration_reading.specs.Place.{tokensAt}
 use Rattle.declaration_reading.specs.Read.{readAnswer, declarationOf, ReadsDeclaration}
@@ -60,12 +58,9 @@ module _ (s text : List ℕ) (b : Reading) (read : b ≡ readingOf (takenBook s)
   stopped-book r f o e = stopped s text r f (Taken.take-refused s b read _ f o) e
 
   module _ (done : b .outcome ≡ Done) where
-    -- the answer is the walk's
     answer-is : readAnswer s text ≡ textAnswer places (namesIn s) text
     unfolding readAnswer
-    answer-is =
-        rw (Taken.taken s b read done, ← Taken.names-taken s b read done)
-        (sym (text-answer places (namesIn s) (omega arith) (omega arith) (few s (b .layout) (Taken.laid s b read done)) text))
+    answer-is = rw (Taken.taken s b read done, ← Taken.names-taken s b read done)
 
     pub stopped-form : (r : Declaration) (t : Bool) → t ≡ hasForm text → t ≡ false → r ≡ declarationOf (refused NotADeclaration) → ReadsDeclaration s text r
     unfolding textAnswer

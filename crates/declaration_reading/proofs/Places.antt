@@ -16,7 +16,8 @@ use borrow.Author.Tests.{ne-eqb, lt-ltb}
 use Rattle.refusal.specs.declared.Refusal.the-variants.{NotADeclaration, UnknownName}
 use Rattle.refusal.specs.Answer.{Answer, refused, refuseIf}
 use Rattle.declaration_spelling.specs.Token.{isSpace, Token}
-use Rattle.declaration_spelling.specs.Form.{Cut, atFront, cut, tokens}
+use Rattle.declaration_spelling.specs.Cut.{Cut, atFront, cut, tokens}
+use Rattle.declaration_spelling.specs.Kind.{otherKind, wordKind, commaKind}
 use Rattle.declaration_spelling.specs.Read.{known, numberFor, Declared}
 use Rattle.declaration_walk.specs.Walk.{isWord, passes, allPass}
 use Rattle.declaration_bytes.specs.Unread.{nextOf, runOf}
@@ -25,13 +26,13 @@ use Rattle.declaration_scan.specs.Piece.{tokenLength, wordEnd, spaceEnd, pieceA
 use Rattle.declaration_scan.proofs.Signs.{end-kind}
 use Rattle.declaration_scan.proofs.Pieces.{piece-over, piece-first}
 use Rattle.declaration_scan.proofs.ByKind.{EachKind, front, token-some, by-kind}
-use Rattle.declaration_gather.specs.Gather.{knownToken, knownTokens, Rows, isFree, withName, nextFactor, withMode, takeToken, andThen, gatherFrom, beginsWithWord, contentAnswer, tokensAnswer}
+use Rattle.declaration_walk.specs.Gather.{knownTokens, Rows, isFree, withName, nextFactor, withMode, takeToken, andThen, gatherFrom, beginsWithWord, contentAnswer, tokensAnswer}
 use Rattle.declaration_reading.specs.Place.{tokensAt, partOf, knownKind, kindMode, takeKind, freeAt, freeKind, factorAfter, modeAfter, indexAfter}
 
 -- nothing is left, or a token and what stands behind it
 abbrev Next : List ℕ → ℕ → Type 0
 Next s at =
-    ((pieceAt s at .kind ≡ 0) × (tokensAt s at ≡ []) × (tokensAt s (pieceAt s at .to) ≡ []))
+    ((pieceAt s at .kind ≡ otherKind) × (tokensAt s at ≡ []) × (tokensAt s (pieceAt s at .to) ≡ []))
     ⊎ ((b : ℕ) × (bs : List ℕ) × (pieceAt s at .kind ≡ kindOf b) × (tokensAt s at ≡ tokenOf (front (b ∷ bs)) ∷ tokensAt s (pieceAt s at .to))
     × (partOf s (pieceAt s at .from) (pieceAt s at .to) ≡ front (b ∷ bs)))
 
@@ -39,7 +40,7 @@ pub tokens-over : (s : List ℕ) (at : ℕ) → length s ≤ at → tokensAt s a
 unfolding tokensAt cut tokens
 tokens-over s at h = rw (drop-of-length-le s h)
 
-at-end : (s : List ℕ) (at : ℕ) → drop (spaceEnd s at) s ≡ [] → (pieceAt s at .kind ≡ 0) × (tokensAt s at ≡ []) × (tokensAt s (pieceAt s at .to) ≡ [])
+at-end : (s : List ℕ) (at : ℕ) → drop (spaceEnd s at) s ≡ [] → (pieceAt s at .kind ≡ otherKind) × (tokensAt s at ≡ []) × (tokensAt s (pieceAt s at .to) ≡ [])
 unfolding pieceAt nextOf wordEnd tokenLength tokensAt cut tokens
 at-end s at e = (
   rw e (sym end-kind),
@@ -85,19 +86,19 @@ Agree f F = EachKind (λ kind t w. f t ≡ F kind w)
 token-kind : {X : Type 0} (f : Token → X) (F : ℕ → List ℕ → X) → Agree f F → (b : ℕ) (bs : List ℕ) → f (tokenOf (front (b ∷ bs))) ≡ F (kindOf b) (front (b ∷ bs))
 token-kind f F agree = by-kind (λ kind t w. f t ≡ F kind w) agree
 
-known-agrees : (names : List (List ℕ)) → Agree (knownToken names) (knownKind names)
+known-agrees : (names : List (List ℕ)) → Agree (passes (known names)) (knownKind names)
 unfolding passes knownKind
-known-agrees names w b = (refl, refl, refl, refl, refl, refl, refl, refl, refl, refl, refl)
+known-agrees names w b = (refl, refl, refl, refl, refl, refl, refl, refl, refl, refl)
 
 take-agrees : (size : ℕ) (names : List (List ℕ)) (g : Rows) → Agree (λ t. takeToken size names t g) (λ kind w. takeKind size kind (numberFor names w) g)
 unfolding takeToken takeKind kindMode withMode
-take-agrees size names g w b = (refl, refl, refl, refl, refl, refl, refl, refl, refl, refl, refl)
+take-agrees size names g w b = (refl, refl, refl, refl, refl, refl, refl, refl, refl, refl)
 
-word-agrees : Agree isWord (λ kind w. eqb kind 1)
+word-agrees : Agree isWord (λ kind w. eqb kind wordKind)
 unfolding isWord
-word-agrees w b = (refl, refl, refl, refl, refl, refl, refl, refl, refl, refl, refl)
+word-agrees w b = (refl, refl, refl, refl, refl, refl, refl, refl, refl, refl)
 
-known-end : (names : List (List ℕ)) (w : List ℕ) → true ≡ (knownKind names 0 w && true)
+known-end : (names : List (List ℕ)) (w : List ℕ) → true ≡ (knownKind names otherKind w && true)
 unfolding knownKind
 known-end names w = refl
 
@@ -109,9 +110,9 @@ known-next names s at = go (next-is s at)
     go : Next s at → knownTokens names (tokensAt s at)
         ≡ (knownKind names (pieceAt s at .kind) (partOf s (pieceAt s at .from) (pieceAt s at .to)) && knownTokens names (tokensAt s (pieceAt s at .to)))
     go (inl (k, e, f)) = rw (k, e, f) (known-end names (partOf s (pieceAt s at .from) (pieceAt s at .to)))
-    go (inr (b, bs, k, e, f)) = rw (k, e, f) (ap (λ (c : Bool). c && knownTokens names (tokensAt s (pieceAt s at .to))) (token-kind (knownToken names) (knownKind names) (known-agrees names) b bs))
+    go (inr (b, bs, k, e, f)) = rw (k, e, f) (ap (λ (c : Bool). c && knownTokens names (tokensAt s (pieceAt s at .to))) (token-kind (passes (known names)) (knownKind names) (known-agrees names) b bs))
 
-take-end : (size x : ℕ) (g : Rows) → takeKind size 0 x g ≡ some g
+take-end : (size x : ℕ) (g : Rows) → takeKind size otherKind x g ≡ some g
 unfolding takeKind kindMode withMode
 take-end size x g = refl
 
@@ -129,21 +130,21 @@ take-next size names s at g = go (next-is s at)
         (ap (λ (o : Option Rows). andThen o (gatherFrom size names (tokensAt s (pieceAt s at .to))))
         (token-kind (λ t. takeToken size names t g) (λ kind w. takeKind size kind (numberFor names w) g) (take-agrees size names g) b bs))
 
-pub word-next : (s : List ℕ) (at : ℕ) → beginsWithWord (tokensAt s at) ≡ eqb (pieceAt s at .kind) 1
+pub word-next : (s : List ℕ) (at : ℕ) → beginsWithWord (tokensAt s at) ≡ eqb (pieceAt s at .kind) wordKind
 unfolding beginsWithWord
 word-next s at = go (next-is s at)
   where
-    go : Next s at → beginsWithWord (tokensAt s at) ≡ eqb (pieceAt s at .kind) 1
+    go : Next s at → beginsWithWord (tokensAt s at) ≡ eqb (pieceAt s at .kind) wordKind
     go (inl (k, e, f)) = rw (k, e)
-    go (inr (b, bs, k, e, f)) = rw (k, e) (token-kind isWord (λ kind w. eqb kind 1) word-agrees b bs)
+    go (inr (b, bs, k, e, f)) = rw (k, e) (token-kind isWord (λ kind w. eqb kind wordKind) word-agrees b bs)
 
 -- the answer by the first token of a declaration, its parent, and the tokens behind it
 abbrev answerBy : ℕ → List (List ℕ) → List Token → ℕ → List ℕ → Answer Declared
-answerBy size names ts kind w = cond (eqb kind 1) (refuseIf (not (known names w)) UnknownName (contentAnswer size names (numberFor names w) ts)) (refused NotADeclaration)
+answerBy size names ts kind w = cond (eqb kind wordKind) (refuseIf (not (known names w)) UnknownName (contentAnswer size names (numberFor names w) ts)) (refused NotADeclaration)
 
 answer-agrees : (size : ℕ) (names : List (List ℕ)) (ts : List Token) → Agree (λ t. tokensAnswer size names (t ∷ ts)) (answerBy size names ts)
 unfolding tokensAnswer
-answer-agrees size names ts w b = (refl, refl, refl, refl, refl, refl, refl, refl, refl, refl, refl)
+answer-agrees size names ts w b = (refl, refl, refl, refl, refl, refl, refl, refl, refl, refl)
 
 answer-end : (size : ℕ) (names : List (List ℕ)) → tokensAnswer size names [] ≡ refused NotADeclaration
 unfolding tokensAnswer
@@ -178,7 +179,7 @@ module _ (size kind x : ℕ) (g : Rows) (inside : g .index < size) where
   abbrev Named : Rows
   Named = record { index = g .index; factor = set (g .factor) x (g .index); mode = g .mode }
 
-  by-word : kind ≡ 1 → takeKind size kind x g ≡ cond Fine (some After) none
+  by-word : kind ≡ wordKind → takeKind size kind x g ≡ cond Fine (some After) none
   unfolding takeKind withName isFree kindMode freeKind freeAt factorAfter modeAfter indexAfter
   by-word e = rw (e, lt-ltb (g .index) size inside) (go (eqb (getD (g .factor) x 255) 255))
     where
@@ -186,18 +187,18 @@ module _ (size kind x : ℕ) (g : Rows) (inside : g .index < size) where
       go true = refl
       go false = refl
 
-  by-comma : kind ≡ 4 → takeKind size kind x g ≡ cond Fine (some After) none
+  by-comma : kind ≡ commaKind → takeKind size kind x g ≡ cond Fine (some After) none
   unfolding takeKind nextFactor kindMode freeKind factorAfter modeAfter indexAfter
   by-comma e = rw e refl
 
-  by-other : (kind ≡ 1 → ⊥) → (kind ≡ 4 → ⊥) → takeKind size kind x g ≡ cond Fine (some After) none
+  by-other : (kind ≡ wordKind → ⊥) → (kind ≡ commaKind → ⊥) → takeKind size kind x g ≡ cond Fine (some After) none
   unfolding takeKind freeKind factorAfter indexAfter
-  by-other d f = rw (ne-eqb kind 1 d, ne-eqb kind 4 f, lt-ltb (g .index) size inside) (ap some (mode-rows (kindMode kind) g))
+  by-other d f = rw (ne-eqb kind wordKind d, ne-eqb kind commaKind f, lt-ltb (g .index) size inside) (ap some (mode-rows (kindMode kind) g))
 
   pub take-rows : takeKind size kind x g ≡ cond Fine (some After) none
-  take-rows = go (ℕ-discrete kind 1) (ℕ-discrete kind 4)
+  take-rows = go (ℕ-discrete kind wordKind) (ℕ-discrete kind commaKind)
     where
-      go : Dec (kind ≡ 1) → Dec (kind ≡ 4) → takeKind size kind x g ≡ cond Fine (some After) none
+      go : Dec (kind ≡ wordKind) → Dec (kind ≡ commaKind) → takeKind size kind x g ≡ cond Fine (some After) none
       go (yes e) d = by-word e
       go (no d) (yes e) = by-comma e
       go (no d) (no e) = by-other d e

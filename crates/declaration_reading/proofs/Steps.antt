@@ -25,11 +25,12 @@ use Rattle.model.specs.declared.Model.{Model}
 use Rattle.model.specs.Record.{noFactor, emptyModel}
 use Rattle.declaration_scan.specs.declared.Piece.{Piece}
 use Rattle.declaration_scan.specs.Piece.{pieceAt}
+use Rattle.declaration_spelling.specs.Kind.{wordKind, commaKind}
 use Rattle.declaration_spelling.specs.Read.{known, numberFor}
 use Rattle.declaration_spelling.proofs.Names.{number-is}
 use Rattle.declaration_spelling.proofs.Books.{few}
 use Rattle.declaration_walk.specs.Walk.{allPass}
-use Rattle.declaration_gather.specs.Gather.{knownTokens, Rows, startRows, andThen, gatherFrom, modelOf, factorsAnswer, beginsWithWord, contentAnswer, tokensAnswer}
+use Rattle.declaration_walk.specs.Gather.{knownTokens, Rows, startRows, andThen, gatherFrom, modelOf, factorsAnswer, beginsWithWord, contentAnswer, tokensAnswer}
 use Rattle.declaration_reading.specs.declared.Declaration.{Declaration}
 use Rattle.declaration_reading.specs.Place.{tokensAt, partOf, knownKind, numberAt, kindMode, takeKind, freeAt, freeKind, factorAfter, modeAfter, indexAfter}
 use Rattle.declaration_reading.specs.Read.{parentDue, modelDue, declarationOf, twiceOrUnknown}
@@ -52,12 +53,12 @@ module _ (names : List (List ℕ)) (w : List ℕ) (o : Found) (is : o ≡ number
 
 -- ---- a piece by its kind
 
-pub number-sign : (names : List (List ℕ)) (kind : ℕ) (w : List ℕ) → (kind ≡ 1 → ⊥) → 0 ≡ numberAt names kind w
+pub number-sign : (names : List (List ℕ)) (kind : ℕ) (w : List ℕ) → (kind ≡ wordKind → ⊥) → 0 ≡ numberAt names kind w
 unfolding numberAt
-number-sign names kind w d = rw (ne-eqb kind 1 d)
+number-sign names kind w d = rw (ne-eqb kind wordKind d)
 
 -- a word, looked up in the book s
-module _ (s : List ℕ) (l : Layout) (laid : LaidOut s l) (kind : ℕ) (e : kind ≡ 1) (text : List ℕ) (from to : ℕ) (part : List ℕ) (p : part ≡ take (to - from) (drop from text))
+module _ (s : List ℕ) (l : Layout) (laid : LaidOut s l) (kind : ℕ) (e : kind ≡ wordKind) (text : List ℕ) (from to : ℕ) (part : List ℕ) (p : part ≡ take (to - from) (drop from text))
     (o : Found) (is : o ≡ numberIn (namesIn s) part) where
   pub number-word : (x : ℕ) → o ≡ At x → (x ≡ numberAt (namesIn s) kind (partOf text from to)) × (x ≤ places)
   unfolding numberAt partOf
@@ -74,7 +75,7 @@ module _ (s : List ℕ) (l : Layout) (laid : LaidOut s l) (kind : ℕ) (e : kind
 module _ (s : List ℕ) (l : Layout) (laid : LaidOut s l) (kind : ℕ) (w : List ℕ) (r : ℕ) (is : r ≡ numberAt (namesIn s) kind w) where
   pub unknown-kind : r ≡ places → false ≡ knownKind (namesIn s) kind w
   unfolding numberAt knownKind
-  unknown-kind e = go (eqb kind 1) (known (namesIn s) w) refl (sym e ∙ is)
+  unknown-kind e = go (eqb kind wordKind) (known (namesIn s) w) refl (sym e ∙ is)
     where
       go : (k b : Bool) → known (namesIn s) w ≡ b → places ≡ cond k (cond b (numberFor (namesIn s) w) places) 0 → false ≡ cond k b true
       go true true q v = absurd (omega (arith, number-is (namesIn s) w q .0, v, few s l laid))
@@ -84,14 +85,14 @@ module _ (s : List ℕ) (l : Layout) (laid : LaidOut s l) (kind : ℕ) (w : List
   module _ (d : r ≡ places → ⊥) where
     pub known-kind : true ≡ knownKind (namesIn s) kind w
     unfolding numberAt knownKind
-    known-kind = go (eqb kind 1) (known (namesIn s) w) is
+    known-kind = go (eqb kind wordKind) (known (namesIn s) w) is
       where
         go : (k b : Bool) → r ≡ cond k (cond b (numberFor (namesIn s) w) places) 0 → true ≡ cond k b true
         go true true v = refl
         go true false v = absurd (d v)
         go false b v = refl
 
-    pub number-same : kind ≡ 1 → r ≡ numberFor (namesIn s) w
+    pub number-same : kind ≡ wordKind → r ≡ numberFor (namesIn s) w
     unfolding numberAt
     number-same e = go (known (namesIn s) w) (is ∙ rw e refl)
       where
@@ -110,24 +111,24 @@ pub name-placed : (factor : List ℕ) (x index : ℕ) → x < length factor →
 unfolding freeAt
 name-placed factor x index h = (ap (λ (v : ℕ). eqb v noFactor) (entry-any factor x 0 noFactor h), refl, length-set factor x index)
 
-pub free-sign : (kind : ℕ) (factor : List ℕ) (x index : ℕ) → (kind ≡ 1 → ⊥) → (true ≡ freeKind kind factor x) × (factor ≡ factorAfter kind factor x index) × (length factor ≡ length factor)
+pub free-sign : (kind : ℕ) (factor : List ℕ) (x index : ℕ) → (kind ≡ wordKind → ⊥) → (true ≡ freeKind kind factor x) × (factor ≡ factorAfter kind factor x index) × (length factor ≡ length factor)
 unfolding freeKind factorAfter
-free-sign kind factor x index d = (rw (ne-eqb kind 1 d), rw (ne-eqb kind 1 d), refl)
+free-sign kind factor x index d = (rw (ne-eqb kind wordKind d), rw (ne-eqb kind wordKind d), refl)
 
-pub free-word : (kind : ℕ) (factor : List ℕ) (x index : ℕ) (r : Bool) (after : List ℕ) → kind ≡ 1 → (r ≡ freeAt factor x) × (after ≡ set factor x index) × (length after ≡ length factor) →
+pub free-word : (kind : ℕ) (factor : List ℕ) (x index : ℕ) (r : Bool) (after : List ℕ) → kind ≡ wordKind → (r ≡ freeAt factor x) × (after ≡ set factor x index) × (length after ≡ length factor) →
     (r ≡ freeKind kind factor x) × (after ≡ factorAfter kind factor x index) × (length after ≡ length factor)
 unfolding freeKind factorAfter
 free-word kind factor x index r after e (a, b, c) = (a ∙ rw e refl, b ∙ rw e refl, c)
 
 -- the number matters for a word alone
-pub placed-same : (kind : ℕ) (factor : List ℕ) (x y index : ℕ) (r : Bool) (after : List ℕ) → (kind ≡ 1 → x ≡ y) →
+pub placed-same : (kind : ℕ) (factor : List ℕ) (x y index : ℕ) (r : Bool) (after : List ℕ) → (kind ≡ wordKind → x ≡ y) →
     (r ≡ freeKind kind factor x) × (after ≡ factorAfter kind factor x index) × (length after ≡ length factor) →
     (r ≡ freeKind kind factor y) × (after ≡ factorAfter kind factor y index) × (length after ≡ length factor)
 unfolding freeKind factorAfter
-placed-same kind factor x y index r after same (a, b, c) = (a ∙ go (eqb kind 1) refl .0, b ∙ go (eqb kind 1) refl .1, c)
+placed-same kind factor x y index r after same (a, b, c) = (a ∙ go (eqb kind wordKind) refl .0, b ∙ go (eqb kind wordKind) refl .1, c)
   where
-    go : (k : Bool) → eqb kind 1 ≡ k → (cond k (freeAt factor x) true ≡ cond k (freeAt factor y) true) × (cond k (set factor x index) factor ≡ cond k (set factor y index) factor)
-    go true q = (ap (freeAt factor) (same (eqb-true kind 1 q)), ap (λ (z : ℕ). set factor z index) (same (eqb-true kind 1 q)))
+    go : (k : Bool) → eqb kind wordKind ≡ k → (cond k (freeAt factor x) true ≡ cond k (freeAt factor y) true) × (cond k (set factor x index) factor ≡ cond k (set factor y index) factor)
+    go true q = (ap (freeAt factor) (same (eqb-true kind wordKind q)), ap (λ (z : ℕ). set factor z index) (same (eqb-true kind wordKind q)))
     go false q = (refl, refl)
 
 pub mode-put : (m : ℕ) (mode : List ℕ) (index : ℕ) → (m ≡ 0 → ⊥) → (set mode index m ≡ modeAfter m mode index) × (length (set mode index m) ≡ length mode)
@@ -139,13 +140,13 @@ pub mode-kept : (m : ℕ) (mode : List ℕ) (index : ℕ) → m ≡ 0 → (mode 
 unfolding modeAfter
 mode-kept m mode index e = (rw e refl, refl)
 
-pub index-comma : (kind index : ℕ) → kind ≡ 4 → index + 1 ≡ indexAfter kind index
+pub index-comma : (kind index : ℕ) → kind ≡ commaKind → index + 1 ≡ indexAfter kind index
 unfolding indexAfter
 index-comma kind index e = rw e (omega arith)
 
-pub index-kept : (kind index : ℕ) → (kind ≡ 4 → ⊥) → index ≡ indexAfter kind index
+pub index-kept : (kind index : ℕ) → (kind ≡ commaKind → ⊥) → index ≡ indexAfter kind index
 unfolding indexAfter
-index-kept kind index d = rw (ne-eqb kind 4 d)
+index-kept kind index d = rw (ne-eqb kind commaKind d)
 
 -- ---- every word is known
 
@@ -236,30 +237,30 @@ unfolding declarationOf parentDue modelDue
 refused-is f m e = rw e
 
 module _ (names : List (List ℕ)) (s : List ℕ) (at parent : ℕ) (p : Piece) (is : p ≡ pieceAt s at) where
-  word-at : beginsWithWord (tokensAt s at) ≡ eqb (p .kind) 1
+  word-at : beginsWithWord (tokensAt s at) ≡ eqb (p .kind) wordKind
   word-at = rw is (word-next s at)
 
-  pub model-empty : (m : Model) → p .kind ≡ 1 → m ≡ emptyModel places → record { outcome = Done; parent = parent; model = m } ≡ declarationOf (contentAnswer places names parent (tokensAt s at))
+  pub model-empty : (m : Model) → p .kind ≡ wordKind → m ≡ emptyModel places → record { outcome = Done; parent = parent; model = m } ≡ declarationOf (contentAnswer places names parent (tokensAt s at))
   unfolding contentAnswer declarationOf parentDue modelDue
   model-empty m e q = rw (word-at, e, q) refl
 
-  pub model-factors : (p .kind ≡ 1 → ⊥) → (r : Declaration) → r ≡ declarationOf (factorsAnswer places names parent (tokensAt s at)) → r ≡ declarationOf (contentAnswer places names parent (tokensAt s at))
+  pub model-factors : (p .kind ≡ wordKind → ⊥) → (r : Declaration) → r ≡ declarationOf (factorsAnswer places names parent (tokensAt s at)) → r ≡ declarationOf (contentAnswer places names parent (tokensAt s at))
   unfolding contentAnswer
-  model-factors d r q = rw (word-at, ne-eqb (p .kind) 1 d) q
+  model-factors d r q = rw (word-at, ne-eqb (p .kind) wordKind d) q
 
 -- ---- the parent
 
 module _ (names : List (List ℕ)) (s : List ℕ) (at : ℕ) (p : Piece) (is : p ≡ pieceAt s at) where
   answer-at : tokensAnswer places names (tokensAt s at)
-      ≡ cond (eqb (p .kind) 1)
+      ≡ cond (eqb (p .kind) wordKind)
       (refuseIf (not (known names (partOf s (p .from) (p .to)))) UnknownName (contentAnswer places names (numberFor names (partOf s (p .from) (p .to))) (tokensAt s (p .to))))
       (refused NotADeclaration)
   answer-at = rw is (answer-next places names s at)
 
-  pub tokens-none : (r : Declaration) → (p .kind ≡ 1 → ⊥) → r ≡ declarationOf (refused NotADeclaration) → r ≡ declarationOf (tokensAnswer places names (tokensAt s at))
-  tokens-none r d q = rw (answer-at, ne-eqb (p .kind) 1 d) q
+  pub tokens-none : (r : Declaration) → (p .kind ≡ wordKind → ⊥) → r ≡ declarationOf (refused NotADeclaration) → r ≡ declarationOf (tokensAnswer places names (tokensAt s at))
+  tokens-none r d q = rw (answer-at, ne-eqb (p .kind) wordKind d) q
 
-  module _ (e : p .kind ≡ 1) (part : List ℕ) (parts : part ≡ take (p .to - p .from) (drop (p .from) s)) (o : Found) (found : o ≡ numberIn names part) where
+  module _ (e : p .kind ≡ wordKind) (part : List ℕ) (parts : part ≡ take (p .to - p .from) (drop (p .from) s)) (o : Found) (found : o ≡ numberIn names part) where
     part-is : part ≡ partOf s (p .from) (p .to)
     unfolding partOf
     part-is = parts

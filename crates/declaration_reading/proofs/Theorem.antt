@@ -2,9 +2,8 @@
 -- Assumes nothing.
 use Prim.Native.Nat.{ℕ, _≤_, _<_}
 use mathlib.Core.Path.{_≡_, refl, sym, _∙_, ap}
-use mathlib.Core.Bool.{true, false, not}
+use mathlib.Core.Bool.{true, false}
 use mathlib.Core.List.{List, List·Memᴰ}
-use mathlib.Core.Option.{Option, none, some}
 use mathlib.Core.Logic.{_↔_, _⊎_, inl, inr, ⊎-elim}
 use native.Mathlib.Omega.{arith}
 use lib.ListN.{length}
@@ -13,13 +12,13 @@ use Rattle.refusal.specs.declared.Refusal.{Refusal}
 use Rattle.refusal.specs.declared.Refusal.the-variants.{NotADeclaration, UnknownName, NameTwice}
 use Rattle.refusal.specs.declared.Outcome.the-variants.{Done, Refused}
 use Rattle.refusal.specs.Table.{ofBook}
-use Rattle.refusal.specs.Answer.{Answer, given, refused, onward, outcomeOf}
-use Rattle.refusal.proofs.Answers.{refused-same, given-refused, check-refused, outcome-refused, outcome-given}
+use Rattle.refusal.specs.Answer.{Answer, given, refused, outcomeOf}
+use Rattle.refusal.proofs.Answers.{outcome-refused, outcome-given}
 use Rattle.nameset.specs.Places.{places}
 use Rattle.book.specs.Book.{Book}
 use Rattle.book.specs.Taken.{takenBook, TakenAs}
 use Rattle.book.proofs.Taken.{taken-law, good-parent}
-use Rattle.book.proofs.Onward.{book-given, book-first, book-or-later, in-book}
+use Rattle.book.proofs.Onward.{book-given, book-later, book-first, book-or-later}
 use Rattle.model.specs.declared.Model.{Model}
 use Rattle.model.specs.Record.{IsChain, emptyModel}
 use Rattle.model.proofs.Chain.{chain-law}
@@ -27,11 +26,12 @@ use Rattle.declaration_spelling.specs.House.{declaration}
 use Rattle.declaration_spelling.specs.Length.{longestDeclaration}
 use Rattle.declaration_spelling.specs.Spelled.{Spelled}
 use Rattle.declaration_spelling.specs.Stops.{Form, modelNames, formNames, Twice, HasForm}
-use Rattle.declaration_spelling.specs.Form.{allForm, formOf}
-use Rattle.declaration_spelling.specs.Read.{known, numbered, noneTwice, Declared, declared, orRefuse, judged, readText}
-use Rattle.declaration_spelling.proofs.Refusals as Text
-use Rattle.declaration_spelling.proofs.Theorem as Spelling
+use Rattle.declaration_spelling.specs.Read.{Declared, declared}
+use Rattle.declaration_spelling.proofs.Names.{GoodNames}
 use Rattle.declaration_spelling.proofs.Books.{good-names, declaration-short}
+use Rattle.declaration_walk.specs.Gather.{textAnswer}
+use Rattle.declaration_walk.proofs.Refusals as Text
+use Rattle.declaration_walk.proofs.Theorem as Spelling
 use Rattle.declaration_writing.specs.Write.{fitted, writeIn, writeAnswer}
 use Rattle.declaration_writing.proofs.Back.{text-given}
 use Rattle.declaration_reading.specs.declared.Declaration.{Declaration}
@@ -43,18 +43,6 @@ use Rattle.declaration_reading.specs.Read.{readAnswer, parentDue, modelD
 abbrev OfText : Refusal → Type 0
 OfText f = (NotADeclaration ≡ f) ⊎ ((UnknownName ≡ f) ⊎ (NameTwice ≡ f))
 
-text-only : (names : List (List ℕ)) (text : List ℕ) (f : Refusal) → readText places names text ≡ refused f → OfText f
-unfolding readText judged
-text-only names text f e = go (formOf text) e
-  where
-    go : (o : Option Form) → onward (orRefuse NotADeclaration o) (judged places names) ≡ refused f → OfText f
-    go none q = inl (refused-same {A = Declared} NotADeclaration f q)
-    go (some d) q =
-        ⊎-elim (λ h. inr (inl (h .1)))
-        (λ h. ⊎-elim (λ k. inr (inr (k .1))) (λ k. absurd (given-refused _ f (k .1)))
-        (check-refused (not (noneTwice (length names) (numbered names (d .factors)))) NameTwice _ f (h .1)))
-        (check-refused (not (allForm (known names) d)) UnknownName _ f q)
-
 text-late : (f : Refusal) → OfText f → ofBook f ≡ false
 text-late f (inl z) = ap ofBook (sym z)
 text-late f (inr (inl z)) = ap ofBook (sym z)
@@ -62,32 +50,38 @@ text-late f (inr (inr z)) = ap ofBook (sym z)
 
 module _ (s text : List ℕ) where
   next : Book → Answer Declared
-  next b = readText places (b .names) text
+  next b = textAnswer places (b .names) text
 
   -- The bytes are taken as a book, and the condition C of its names and the text holds.
   abbrev Of : (List (List ℕ) → Type 0) → Type 0
   Of C = (b : Book) × TakenAs s b × C (b .names)
 
-  by-book : (f : Refusal) → ofBook f ≡ false → (C : List (List ℕ) → Type 0) → ((names : List (List ℕ)) → (readText places names text ≡ refused f) ↔ C names) → (readAnswer s text ≡ refused f) ↔ Of C
+  good : (b : Book) → TakenAs s b → GoodNames places (b .names)
+  good b q = good-names s b (taken-law s b .0 q)
+
+  by-book : (f : Refusal) → ofBook f ≡ false → (C : List (List ℕ) → Type 0) → ((names : List (List ℕ)) → GoodNames places names → (textAnswer places names text ≡ refused f) ↔ C names)
+      → (readAnswer s text ≡ refused f) ↔ Of C
   unfolding readAnswer next
-  by-book f l C law = in-book s next (λ b. C (b .names)) f l (λ b. law (b .names))
+  by-book f l C law =
+      let h = book-later s next f l in
+      (λ e. let (b, q, g) = h .0 e in (b, q, law (b .names) (good b q) .0 g), λ (b, q, c). h .1 (b, q, law (b .names) (good b q) .1 c))
 
   -- 1 to 7: the bytes are not taken, for this reason.
   pub text-book-refused : (f : Refusal) → ofBook f ≡ true → (readAnswer s text ≡ refused f) ↔ (takenBook s ≡ refused f)
   unfolding readAnswer next
-  text-book-refused f l = book-first s next f l (λ b e. text-late f (text-only (b .names) text f e))
+  text-book-refused f l = book-first s next f l (λ b q e. text-late f (Text.refused-only places (b .names) (good b q) text f e))
 
   -- 13: the bytes are taken as a book, and the text does not have the form of a declaration.
   pub refused-13 : (readAnswer s text ≡ refused NotADeclaration) ↔ ((b : Book) × TakenAs s b × ((d : Form) → HasForm text d → ⊥))
   unfolding next
-  refused-13 = by-book NotADeclaration refl (λ names. (d : Form) → HasForm text d → ⊥) (λ names. Text.refused-13 places names text)
+  refused-13 = by-book NotADeclaration refl (λ names. (d : Form) → HasForm text d → ⊥) (λ names G. Text.refused-13 places names G text)
 
   -- 14: it has the form, and a name in it, the parent's included, is not in the book.
   pub refused-14 : (readAnswer s text ≡ refused UnknownName)
       ↔ ((b : Book) × TakenAs s b × ((d : Form) × HasForm text d × ((x : List ℕ) × List·Memᴰ x (formNames d) × (¬ List·Memᴰ x (b .names)))))
   unfolding next
   refused-14 =
-      by-book UnknownName refl (λ names. (d : Form) × HasForm text d × ((x : List ℕ) × List·Memᴰ x (formNames d) × (¬ List·Memᴰ x names))) (λ names. Text.refused-14 places names text)
+      by-book UnknownName refl (λ names. (d : Form) × HasForm text d × ((x : List ℕ) × List·Memᴰ x (formNames d) × (¬ List·Memᴰ x names))) (λ names G. Text.refused-14 places names G text)
 
   -- 15: it has the form, all its names are in the book, and one comes twice in the model.
   pub refused-15 : (readAnswer s text ≡ refused NameTwice)
@@ -95,12 +89,12 @@ module _ (s text : List ℕ) where
   unfolding next
   refused-15 =
       by-book NameTwice refl (λ names. (d : Form) × HasForm text d × ((x : List ℕ) → List·Memᴰ x (formNames d) → List·Memᴰ x names) × Twice (modelNames (d .factors)))
-      (λ names. Text.refused-15 places names text)
+      (λ names G. Text.refused-15 places names G text)
 
   -- No refusal but 1 to 7, 13, 14 and 15 is given.
   pub refused-only : (f : Refusal) → readAnswer s text ≡ refused f → (ofBook f ≡ true) ⊎ OfText f
   unfolding readAnswer next
-  refused-only f e = ⊎-elim inl (λ (b, h). inr (text-only (b .names) text f h)) (book-or-later s next f e)
+  refused-only f e = ⊎-elim inl (λ (b, q, h). inr (Text.refused-only places (b .names) (good b q) text f h)) (book-or-later s next f e)
 
 -- ---- demand 2, declarations
 
@@ -130,8 +124,8 @@ module _ (s text : List ℕ) (r : Declaration) (call : ReadsDeclaration s text r
   unfolding readAnswer next
   read-exactly p m =
       let h = book-given s (next s text) (declared p m) in (
-        λ k. let (b, q, e) = h .0 (answered p m k) in (b, q, Spelling.read-exactly places (b .names) (good-names s b (taken-law s b .0 q)) text p m .0 e),
-        λ (b, q, S). answers p m (h .1 (b, q, Spelling.read-exactly places (b .names) (good-names s b (taken-law s b .0 q)) text p m .1 S)),
+        λ k. let (b, q, e) = h .0 (answered p m k) in (b, q, Spelling.read-exactly places (b .names) (good s text b q) text p m .0 e),
+        λ (b, q, S). answers p m (h .1 (b, q, Spelling.read-exactly places (b .names) (good s text b q) text p m .1 S)),
       )
 
   -- What was read may be written: a buffer of 2,253 bytes always has room for it.
@@ -154,8 +148,8 @@ unfolding readAnswer next
 read-written s p m room text e r call =
     let g = text-given s p m room text e in
     let b = g .book in
-    let back : readText places (b .names) text ≡ given (declared p m) =
-    ap (readText places (b .names)) (g .same) ∙ Spelling.read-written places (b .names) (good-names s b (taken-law s b .0 (g .read))) p m (g .below) (g .chain) in
+    let back : textAnswer places (b .names) text ≡ given (declared p m) =
+    ap (textAnswer places (b .names)) (g .same) ∙ Spelling.read-written places (b .names) (good s text b (g .read)) p m (g .below) (g .chain) in
     answers s text r call p m (book-given s (next s text) (declared p m) .1 (b, g .read, back))
 
 -- Reading, writing and reading again changes nothing.

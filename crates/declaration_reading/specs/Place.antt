@@ -1,4 +1,4 @@
--- A means: the walk of crate `declaration_gather` by places of the text: the tokens from a place on, and what a token
+-- A means: the traversal of crate `declaration_walk` that fills the record, by places of the text: the tokens from a place on, and what a token
 -- is by its kind and its bytes. The functions of this crate promise it.
 -- Assumes nothing.
 use Prim.Native.Nat.{ℕ, zero, suc, _-_}
@@ -10,9 +10,10 @@ use lib.ListN.{getD, set, take, drop}
 use Rattle.nameset.specs.Places.{places}
 use Rattle.model.specs.Record.{noFactor}
 use Rattle.declaration_spelling.specs.Token.{Token}
-use Rattle.declaration_spelling.specs.Form.{cut, tokens}
+use Rattle.declaration_spelling.specs.Cut.{cut, tokens}
+use Rattle.declaration_spelling.specs.Kind.{wordKind, commaKind, questionKind, plusKind, starKind}
 use Rattle.declaration_spelling.specs.Read.{known, numberFor}
-use Rattle.declaration_gather.specs.Gather.{Rows, withName, nextFactor, withMode}
+use Rattle.declaration_walk.specs.Gather.{Rows, withName, nextFactor, withMode}
 
 -- The tokens from a place on.
 unfoldable pub tokensAt : List ℕ → ℕ → List Token
@@ -22,23 +23,21 @@ tokensAt text at = tokens (cut (drop at text) .pieces)
 unfoldable pub partOf : List ℕ → ℕ → ℕ → List ℕ
 partOf text from to = take (to - from) (drop from text)
 
--- The kinds are those of crate `declaration_scan`: 1 a word, 4 a comma, 7 to 9 the marks.
-
 -- No word, or a name of the book.
 unfoldable pub knownKind : List (List ℕ) → ℕ → List ℕ → Bool
-knownKind names kind bytes = cond (eqb kind 1) (known names bytes) true
+knownKind names kind bytes = cond (eqb kind wordKind) (known names bytes) true
 
 -- The number of a word by the book, `places` where it is no name of it; 0 for what is no word.
 unfoldable pub numberAt : List (List ℕ) → ℕ → List ℕ → ℕ
-numberAt names kind bytes = cond (eqb kind 1) (cond (known names bytes) (numberFor names bytes) places) 0
+numberAt names kind bytes = cond (eqb kind wordKind) (cond (known names bytes) (numberFor names bytes) places) 0
 
 -- The mode that a mark stands for, 0 for what is no mark.
 unfoldable pub kindMode : ℕ → ℕ
-kindMode kind = cond (eqb kind 7) 1 (cond (eqb kind 8) 2 (cond (eqb kind 9) 3 0))
+kindMode kind = cond (eqb kind questionKind) 1 (cond (eqb kind plusKind) 2 (cond (eqb kind starKind) 3 0))
 
 -- One token; x is the number of a word.
 unfoldable pub takeKind : ℕ → ℕ → ℕ → Rows → Option Rows
-takeKind size kind x g = cond (eqb kind 1) (withName x g) (cond (eqb kind 4) (nextFactor size g) (some (withMode (kindMode kind) g)))
+takeKind size kind x g = cond (eqb kind wordKind) (withName x g) (cond (eqb kind commaKind) (nextFactor size g) (some (withMode (kindMode kind) g)))
 
 -- ---- one token, row by row
 
@@ -48,14 +47,14 @@ freeAt factor x = eqb (getD factor x noFactor) noFactor
 
 -- No word, or a name that no factor holds.
 unfoldable pub freeKind : ℕ → List ℕ → ℕ → Bool
-freeKind kind factor x = cond (eqb kind 1) (freeAt factor x) true
+freeKind kind factor x = cond (eqb kind wordKind) (freeAt factor x) true
 
 unfoldable pub factorAfter : ℕ → List ℕ → ℕ → ℕ → List ℕ
-factorAfter kind factor x index = cond (eqb kind 1) (set factor x index) factor
+factorAfter kind factor x index = cond (eqb kind wordKind) (set factor x index) factor
 
 unfoldable pub modeAfter : ℕ → List ℕ → ℕ → List ℕ
 modeAfter zero mode index = mode
 modeAfter (suc m) mode index = set mode index (suc m)
 
 unfoldable pub indexAfter : ℕ → ℕ → ℕ
-indexAfter kind index = cond (eqb kind 4) (suc index) index
+indexAfter kind index = cond (eqb kind commaKind) (suc index) index

@@ -15,12 +15,13 @@ use Rattle.nameset.specs.Places.{places}
 use Rattle.book.specs.Taken.{takenBook}
 use Rattle.model.specs.declared.Model.{Model}
 use Rattle.model.specs.Record.{dueModel}
-use Rattle.declaration_spelling.specs.Read.{Declared, readText}
+use Rattle.declaration_spelling.specs.Read.{Declared}
+use Rattle.declaration_walk.specs.Gather.{textAnswer}
 use Rattle.declaration_reading.specs.declared.Declaration.{Declaration}
 
 -- The answer for any bytes as the book and any text.
 unfoldable pub readAnswer : List ℕ → List ℕ → Answer Declared
-readAnswer bytes text = onward (takenBook bytes) (λ b. readText places (b .names) text)
+readAnswer bytes text = onward (takenBook bytes) (λ b. textAnswer places (b .names) text)
 
 -- The parent's number, "a length or parent number due is 0".
 unfoldable pub parentDue : Answer Declared → ℕ

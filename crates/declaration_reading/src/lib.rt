@@ -14,7 +14,7 @@ ghost use Rattle.refusal.specs.Answer.{refused};
 ghost use Rattle.nameset.specs.Places.{places};
 ghost use Rattle.book.specs.Book.{namesIn};
 ghost use Rattle.book.specs.Access.{LaidOut};
-ghost use Rattle.declaration_gather.specs.Gather.{knownTokens, factorsAnswer, contentAnswer, tokensAnswer};
+ghost use Rattle.declaration_walk.specs.Gather.{knownTokens, factorsAnswer, contentAnswer, tokensAnswer};
 ghost use Rattle.declaration_reading.specs.Place.{tokensAt};
 ghost use Rattle.declaration_reading.specs.Read.{declarationOf, twiceOrUnknown, ReadsDeclaration};
 

@@ -10,7 +10,7 @@ ghost use lib.ListN.{length};
 ghost use Rattle.nameset.specs.Places.{places};
 ghost use Rattle.book.specs.Book.{namesIn};
 ghost use Rattle.book.specs.Access.{LaidOut};
-ghost use Rattle.declaration_gather.specs.Gather.{knownTokens};
+ghost use Rattle.declaration_walk.specs.Gather.{knownTokens};
 ghost use Rattle.declaration_reading.specs.Place.{tokensAt, partOf, numberAt};
 
 // The number of a word by the book, PLACES where it is no name of it; 0 for a piece that is no word.

@@ -1,4 +1,8 @@
 // The rows of the record under way: the factor of each name, and the mode of each factor.
+use declaration_scan::COMMA;
+use declaration_scan::PLUS;
+use declaration_scan::QUESTION;
+use declaration_scan::STAR;
 use declaration_scan::WORD;
 use model::NO_FACTOR;
 use nameset::PLACES;
@@ -9,9 +13,6 @@ ghost use lib.Dec.{ltb};
 ghost use lib.ListN.{length, set};
 ghost use Rattle.nameset.specs.Places.{places};
 ghost use Rattle.declaration_reading.specs.Place.{freeAt, freeKind, factorAfter, kindMode, modeAfter, indexAfter};
-
-// The kind of a comma.
-const COMMA: u8 = 4;
 
 // The name x into the factor under way; whether no factor held it before.
 fn place_name(factor: &mut [u8], x: usize, index: usize) -> bool
@@ -39,9 +40,9 @@ pub fn mode_of(kind: u8) -> u8
     ensures { λ r. ⌜ r ≡ kindMode kind ⌝ }
 {
     match kind {
-        7 => 1,
-        8 => 2,
-        9 => 3,
+        QUESTION => 1,
+        PLUS => 2,
+        STAR => 3,
         _ => 0,
     }
 }

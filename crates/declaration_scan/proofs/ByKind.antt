@@ -10,7 +10,8 @@ use lib.ListN.{length, getD, take, drop}
 use lib.Seq.{drop-cons}
 use Rattle.name.specs.Word.{wordByte}
 use Rattle.declaration_spelling.specs.Token.{Token, word, lpar, rpar, comma, bar, end, mark, other}
-use Rattle.declaration_spelling.specs.Form.{sign}
+use Rattle.declaration_spelling.specs.Cut.{sign}
+use Rattle.declaration_spelling.specs.Kind.{otherKind, wordKind, lparKind, rparKind, commaKind, barKind, endKind, questionKind, plusKind, starKind}
 use Rattle.declaration_bytes.specs.Unread.{nextOf, runOf}
 use Rattle.declaration_scan.specs.Kind.{signKind, kindOf}
 use Rattle.declaration_scan.specs.Piece.{tokenLength, tokenOf}
@@ -37,12 +38,12 @@ token-some b bs = go (wordByte b) refl
     go true e = rw e (omega arith)
     go false e = omega arith
 
--- P holds of each kind, with a token that it stands for and the token's bytes; the kind 0 also stands for the end of
--- the text
+-- P holds of each kind, with a token that it stands for and the token's bytes
 abbrev pub EachKind : (ℕ → Token → List ℕ → Type 0) → Type 0
 EachKind P =
     (w : List ℕ) (b : ℕ) →
-    P 1 (word w) w × P 2 lpar w × P 3 rpar w × P 4 comma w × P 5 bar w × P 6 end w × P 7 (mark 0) w × P 8 (mark 1) w × P 9 (mark 2) w × P 0 (other b) w × P 10 (other b) w
+    P wordKind (word w) w × P lparKind lpar w × P rparKind rpar w × P commaKind comma w × P barKind bar w × P endKind end w
+    × P questionKind (mark 0) w × P plusKind (mark 1) w × P starKind (mark 2) w × P otherKind (other b) w
 
 module _ (P : ℕ → Token → List ℕ → Type 0) (each : EachKind P) where
   pick : (w : List ℕ) (c : Bool) (t u : Token) (j k : ℕ) → P j t w → P k u w → P (cond c j k) (cond c t u) w
@@ -54,19 +55,14 @@ module _ (P : ℕ → Token → List ℕ → Type 0) (each : EachKind P) where
   by-sign w b e =
       let p = each w b in
       rw e
-      (pick w (eqb b 40) lpar _ 2 _ (p .1)
-      (pick w (eqb b 41) rpar _ 3 _ (p .2)
-      (pick w (eqb b 44) comma _ 4 _ (p .3)
-      (pick w (eqb b 124) bar _ 5 _ (p .4)
-      (pick w (eqb b 62) end _ 6 _ (p .5)
-      (pick w (eqb b 63) (mark 0) _ 7 _ (p .6)
-      (pick w (eqb b 43) (mark 1) _ 8 _ (p .7)
-      (pick w (eqb b 42) (mark 2) (other b) 9 _ (p .8)
-      (last (eqb b 256))))))))))
-    where
-      last : (c : Bool) → P (cond c 0 10) (other b) w
-      last true = each w b .9
-      last false = each w b .10
+      (pick w (eqb b 40) lpar _ lparKind _ (p .1)
+      (pick w (eqb b 41) rpar _ rparKind _ (p .2)
+      (pick w (eqb b 44) comma _ commaKind _ (p .3)
+      (pick w (eqb b 124) bar _ barKind _ (p .4)
+      (pick w (eqb b 62) end _ endKind _ (p .5)
+      (pick w (eqb b 63) (mark 0) _ questionKind _ (p .6)
+      (pick w (eqb b 43) (mark 1) _ plusKind _ (p .7)
+      (pick w (eqb b 42) (mark 2) (other b) starKind otherKind (p .8) (p .9)))))))))
 
   -- the token that begins with the byte b
   pub by-kind : (b : ℕ) (bs : List ℕ) → P (kindOf b) (tokenOf (front (b ∷ bs))) (front (b ∷ bs))

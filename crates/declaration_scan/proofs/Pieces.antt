@@ -11,7 +11,8 @@ use lib.Seq.{drop-cons, drop-drop}
 use borrow.Author.Tests.{lt-ltb, le-ltb}
 use Rattle.name.specs.Word.{wordByte}
 use Rattle.declaration_spelling.specs.Token.{isSpace, word}
-use Rattle.declaration_spelling.specs.Form.{Cut, sign, atFront, cut}
+use Rattle.declaration_spelling.specs.Cut.{Cut, sign, atFront, cut}
+use Rattle.declaration_spelling.specs.Kind.{otherKind}
 use Rattle.declaration_bytes.specs.Unread.{nextOf, runOf}
 use Rattle.declaration_bytes.proofs.Runs.{next-here, stop, stop-is, run-there, run-over, run-some, word-end}
 use Rattle.declaration_bytes.proofs.Cuts.{some-of, cut-spaces, cut-sign, cut-word}
@@ -52,7 +53,7 @@ module _ (s : List ℕ) (from n : ℕ) (is : n ≡ nextOf (drop from s)) (e : �
       go false q = refl
 
 -- a sign begins no run of the bytes of words
-pub sign-run : (s : List ℕ) (from k : ℕ) → k ≡ signKind (nextOf (drop from s)) → (k ≡ 10 → ⊥) → from ≡ from + runOf wordByte (drop from s)
+pub sign-run : (s : List ℕ) (from k : ℕ) → k ≡ signKind (nextOf (drop from s)) → (k ≡ otherKind → ⊥) → from ≡ from + runOf wordByte (drop from s)
 sign-run s from k q d = sym (run-over wordByte word-end s from (nextOf (drop from s)) refl (sign-no-word (nextOf (drop from s)) (λ z. d (q ∙ z)))) ∙ stop-is wordByte s from
 
 pub end-over : (s : List ℕ) (from : ℕ) → length s ≤ from → from ≡ wordEnd s from

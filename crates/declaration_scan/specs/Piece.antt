@@ -8,7 +8,7 @@ use lib.Dec.{ltb}
 use lib.ListN.{drop}
 use Rattle.name.specs.Word.{wordByte}
 use Rattle.declaration_spelling.specs.Token.{isSpace, Token, word}
-use Rattle.declaration_spelling.specs.Form.{sign}
+use Rattle.declaration_spelling.specs.Cut.{sign}
 use Rattle.declaration_bytes.specs.Unread.{nextOf, runOf}
 use Rattle.declaration_scan.specs.declared.Piece.{Piece}
 use Rattle.declaration_scan.specs.Kind.{kindOf}

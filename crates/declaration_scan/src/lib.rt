@@ -9,12 +9,29 @@ ghost use Rattle.declaration_bytes.specs.Unread.{endOfText, nextOf, runOf};
 ghost use Rattle.declaration_scan.specs.Kind.{signKind};
 ghost use Rattle.declaration_scan.specs.Piece.{wordEnd, pieceFrom};
 
-// The kinds of a token: the end of the text, a word, and each sign; the marks are 7 to 9.
-const OVER: u8 = 0;
+// The kinds of tokens: a byte that is none, or the end of the text; a word, and the word `EMPTY`; ( ) , | > and the
+// marks ? + *. A piece does not say of a word whether it is `EMPTY`.
+pub const OTHER: u8 = 0;
 
 pub const WORD: u8 = 1;
 
-const OTHER: u8 = 10;
+pub const EMPTY: u8 = 2;
+
+pub const LPAR: u8 = 3;
+
+pub const RPAR: u8 = 4;
+
+pub const COMMA: u8 = 5;
+
+pub const BAR: u8 = 6;
+
+pub const END: u8 = 7;
+
+pub const QUESTION: u8 = 8;
+
+pub const PLUS: u8 = 9;
+
+pub const STAR: u8 = 10;
 
 // A token of the text: whether white space stands before it, its kind, and the places where it begins and ends.
 pub struct Piece {
@@ -29,15 +46,14 @@ fn sign_kind(next: usize) -> u8
     ensures { λ r. ⌜ r ≡ signKind next ⌝ }
 {
     match next {
-        40 => 2,
-        41 => 3,
-        44 => 4,
-        124 => 5,
-        62 => 6,
-        63 => 7,
-        43 => 8,
-        42 => 9,
-        256 => OVER,
+        40 => LPAR,
+        41 => RPAR,
+        44 => COMMA,
+        124 => BAR,
+        62 => END,
+        63 => QUESTION,
+        43 => PLUS,
+        42 => STAR,
         _ => OTHER,
     }
 }

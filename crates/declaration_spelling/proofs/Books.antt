@@ -15,8 +15,8 @@ use Rattle.model.specs.declared.Model.{Model}
 use Rattle.model.specs.Record.{IsChain}
 use Rattle.declaration_spelling.specs.House.{nameAt, declaration}
 use Rattle.declaration_spelling.specs.Length.{longestDeclaration}
+use Rattle.declaration_spelling.proofs.Names.{GoodNames}
 use Rattle.declaration_spelling.proofs.Length.{longest-declaration}
-use Rattle.declaration_spelling.proofs.Theorem.{GoodNames}
 
 module _ (s : List ℕ) (l : Layout) (laid : LaidOut s l) where
   pub few : length (namesIn s) ≤ places
@@ -25,6 +25,7 @@ module _ (s : List ℕ) (l : Layout) (laid : LaidOut s l) where
   pub book-names : GoodNames places (namesIn s)
   unfolding nameAt
   book-names = record {
+    place = omega arith;
     small = omega arith;
     few = few;
     good = λ x h. name-good [] (namesIn s) (names-rising s l laid) x h;

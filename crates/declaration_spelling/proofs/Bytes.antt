@@ -5,12 +5,13 @@ use mathlib.Core.Path.{_≡_, refl, sym, _∙_, ap}
 use mathlib.Core.Bool.{Bool, true, false, true≢false}
 use mathlib.Core.List.{List, [], _∷_}
 use native.Mathlib.Omega.{arith}
+use lib.Dec.{eqb}
 use lib.ListN.{length, getD}
 use borrow.Author.Tests.{ne-eqb}
 use Rattle.name.specs.Class.{between, startByte, laterByte}
 use Rattle.name.specs.Rule.{goodLength, allLater, goodBytes, isName}
 use Rattle.name.specs.Word.{wordByte}
-use Rattle.name.proofs.Words.{name-bytes, name-size, NoWord, no-word}
+use Rattle.name.proofs.Words.{name-bytes, name-size, NoWord, space-no-word, no-word}
 use Rattle.declaration_spelling.specs.Token.{isSpace, All}
 use Rattle.declaration_spelling.specs.House.{emptyWord}
 
@@ -27,9 +28,15 @@ pub name-word : (w : List ℕ) → isName w ≡ true → Word w
 name-word [] e = let h = name-size [] e .0 in absurd (omega arith)
 name-word (b ∷ bs) e = (b, bs, refl, all-of wordByte (b ∷ bs) (name-bytes (b ∷ bs) e))
 
+other-byte : (b k : ℕ) → wordByte b ≡ true → wordByte k ≡ false → eqb b k ≡ false
+other-byte b k e f = ne-eqb b k (λ q. true≢false (sym e ∙ ap wordByte q ∙ f))
+
+-- no white space is a byte of words
 pub word-not-space : (b : ℕ) → wordByte b ≡ true → isSpace b ≡ false
 unfolding isSpace
-word-not-space b e = ne-eqb b 32 (λ q. true≢false (sym e ∙ ap wordByte q ∙ no-word .0))
+word-not-space b e =
+    let s = space-no-word in
+    rw (other-byte b 32 e (s .0), other-byte b 9 e (s .1 .0), other-byte b 13 e (s .1 .1 .0), other-byte b 10 e (s .1 .1 .1 .0))
 
 pub space-is : isSpace 32 ≡ true
 unfolding isSpace
@@ -52,7 +59,7 @@ neither (b ∷ bs) s w = ((s .0, w .0), neither bs (s .1) (w .1))
 -- ( ) , | > ? + *
 pub signs : Neither (40 ∷ 41 ∷ 44 ∷ 124 ∷ 62 ∷ 63 ∷ 43 ∷ 42 ∷ [])
 unfolding isSpace
-signs = neither (40 ∷ 41 ∷ 44 ∷ 124 ∷ 62 ∷ 63 ∷ 43 ∷ 42 ∷ []) (refl, (refl, (refl, (refl, (refl, (refl, (refl, (refl, tt)))))))) (no-word .1 .1)
+signs = neither (40 ∷ 41 ∷ 44 ∷ 124 ∷ 62 ∷ 63 ∷ 43 ∷ 42 ∷ []) (refl, (refl, (refl, (refl, (refl, (refl, (refl, (refl, tt)))))))) (no-word .1)
 
 -- `EMPTY` is a name
 pub empty-name : isName emptyWord ≡ true

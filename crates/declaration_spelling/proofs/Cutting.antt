@@ -10,7 +10,7 @@ use lib.Dec.{eqb}
 use borrow.Author.Tests.{eqb-true, not-true}
 use Rattle.declaration_spelling.specs.Token.{isSpace, Token, word, lpar, rpar, comma, bar, end, mark, other, markByte, spell, Room, tight, apart, free, behind, room, Fits, All, Spells}
 use Rattle.name.specs.Word.{wordByte}
-use Rattle.declaration_spelling.specs.Form.{SpacedToken, Cut, sign, atFront, spaceBefore, longer, letterBefore, byteBefore, cut, fits, spaced, tokens}
+use Rattle.declaration_spelling.specs.Cut.{SpacedToken, Cut, sign, atFront, spaceBefore, longer, letterBefore, byteBefore, cut, fits, spaced, tokens}
 use Rattle.declaration_spelling.proofs.Tests.{and-is, true-or-false}
 use Rattle.declaration_spelling.proofs.Bytes.{Word, word-not-space, signs}
 
@@ -187,55 +187,3 @@ cut-complete t (u ∷ us) text a (gap, rest, e, s, f, k) = go (cut-complete u us
     go (p, q) =
         let w : cut text ≡ record { gap = filled gap; pieces = record { token = u; gap = cut rest .gap } ∷ cut rest .pieces } = ap (cut) e ∙ cut-gap gap (spell u ++ rest) _ s (cut-token u rest (a .0) q) in
         rw w (ap (λ (l : List Token). u ∷ l) p, and-is (fits (room t u) (filled gap)) _ .1 (is-fits (room t u) gap f, q))
-
--- a mark of a text is one of three
-abbrev pub Mark3 : Token → Type 0
-Mark3 (word w) = Unit {0}
-Mark3 lpar = Unit {0}
-Mark3 rpar = Unit {0}
-Mark3 comma = Unit {0}
-Mark3 bar = Unit {0}
-Mark3 end = Unit {0}
-Mark3 (mark m) = m < 3
-Mark3 (other b) = Unit {0}
-
-abbrev pub Marks : List Token → Type 0
-Marks [] = Unit {0}
-Marks (t ∷ ts) = Mark3 t × Marks ts
-
-pick-mark : (b : Bool) (t u : Token) → Mark3 t → Mark3 u → Mark3 (cond b t u)
-pick-mark true t u p q = p
-pick-mark false t u p q = q
-
-sign-mark : (b : ℕ) → Mark3 (sign b)
-unfolding sign
-sign-mark b =
-    pick-mark (eqb b 40) lpar _ tt (pick-mark (eqb b 41) rpar _ tt (pick-mark (eqb b 44) comma _ tt (pick-mark (eqb b 124) bar _ tt (pick-mark (eqb b 62) end _ tt
-    (pick-mark (eqb b 63) (mark 0) _ (omega arith) (pick-mark (eqb b 43) (mark 1) _ (omega arith) (pick-mark (eqb b 42) (mark 2) (other b) (omega arith) tt)))))))
-
-longer-mark : (b : ℕ) (t : Token) (g : Bool) (ps : List SpacedToken) → Mark3 t × Marks (tokens ps) → Marks (tokens (longer b t g ps .pieces))
-unfolding longer atFront tokens
-longer-mark b (word w) g ps h = h
-longer-mark b lpar g ps h = (tt, h)
-longer-mark b rpar g ps h = (tt, h)
-longer-mark b comma g ps h = (tt, h)
-longer-mark b bar g ps h = (tt, h)
-longer-mark b end g ps h = (tt, h)
-longer-mark b (mark m) g ps h = (tt, h)
-longer-mark b (other d) g ps h = (tt, h)
-
-letter-mark : (b : ℕ) (g : Bool) (ps : List SpacedToken) → Marks (tokens ps) → Marks (tokens (letterBefore b g ps .pieces))
-unfolding letterBefore atFront tokens
-letter-mark b true ps h = (tt, h)
-letter-mark b false [] h = (tt, tt)
-letter-mark b false (p ∷ ps) h = longer-mark b (p .token) (p .gap) ps h
-
-pub cut-marks : (text : List ℕ) → Marks (tokens (cut text .pieces))
-unfolding cut byteBefore spaceBefore atFront tokens
-cut-marks [] = tt
-cut-marks (b ∷ text) = go (isSpace b) (wordByte b) (cut-marks text)
-  where
-    go : (k l : Bool) → Marks (tokens (cut text .pieces)) → Marks (tokens (byteBefore k l b (cut text) .pieces))
-    go true l h = h
-    go false true h = letter-mark b (cut text .gap) (cut text .pieces) h
-    go false false h = (sign-mark b, h)

@@ -2,7 +2,7 @@
 -- Assumes nothing.
 use Prim.Native.Nat.{ℕ, zero, suc, _+_, _≤_, _<_}
 use mathlib.Core.Path.{_≡_, refl, sym, _∙_, ap}
-use mathlib.Core.Bool.{Bool, true, false, cond}
+use mathlib.Core.Bool.{Bool, true, false, cond, false≢true}
 use mathlib.Core.List.{List, [], _∷_, _++_}
 use mathlib.Core.Logic.{_⊎_, inl, inr}
 use native.Mathlib.Omega.{arith}
@@ -12,10 +12,12 @@ use lib.ListN.{length}
 use borrow.Author.Tests.{eq-eqb, ne-eqb}
 use Rattle.model.specs.declared.Model.{Model}
 use Rattle.model.specs.Record.{factorOf, IsChain}
-use Rattle.declaration_spelling.specs.Token.{Token, word, lpar, rpar, comma, mark, markByte, spell, behind, room, Fits, Spells}
-use Rattle.declaration_spelling.specs.House.{Factor, members, factorsFrom, factorsOf, nameAt, named, opening, markText, barsText, groupText, factorText, othersText, bodyText, houseText, declaration}
-use Rattle.declaration_spelling.specs.Spelled.{markTokens, barsTokens, groupTokens, factorTokens, othersTokens, bodyTokens, times, Reordered, Spelled}
+use Rattle.declaration_spelling.specs.Token.{Token, word, lpar, rpar, comma, end, mark, markByte, spell, behind, room, Fits, Spells}
+use Rattle.declaration_spelling.specs.House.{Factor, members, factorsFrom, factorsOf, nameAt, named, opening, emptyWord, markText, barsText, groupText, factorText, othersText, bodyText, houseText, declaration}
+use Rattle.declaration_spelling.specs.Spelled.{markTokens, barsTokens, IsFactor, AreLater, IsModel, SpelledBy, times, Reordered, Spelled}
 use Rattle.declaration_spelling.proofs.Bytes.{space-is}
+use Rattle.declaration_spelling.proofs.Shape.{Full, Small, full-named, small-named}
+use Rattle.declaration_spelling.proofs.Numbers.{order-full, order-small}
 
 -- whatever stands before, the text spells the tokens
 abbrev Anyhow : List Token → List ℕ → Type 0
@@ -31,30 +33,54 @@ unfolding barsTokens barsText spell room behind
 bars-spelled [] ts k h u = ([], k, refl, tt, tt, h rpar)
 bars-spelled (x ∷ xs) ts k h u = ([], x ++ barsText xs k, refl, tt, tt, ([], barsText xs k, refl, tt, tt, bars-spelled xs ts k h (word x)))
 
-group-spelled : (xs : List (List ℕ)) (ts : List Token) (k : List ℕ) → Anyhow ts k → (u : Token) → Fits (behind u) [] → Spells u (groupTokens xs ts) (groupText xs k)
-unfolding groupTokens groupText spell room behind
-group-spelled [] ts k h u f = ([], 41 ∷ k, refl, tt, f, ([], k, refl, tt, tt, h rpar))
-group-spelled (x ∷ []) ts k h u f = ([], k, refl, tt, f, h (word x))
-group-spelled (x ∷ y ∷ xs) ts k h u f =
-    ([], x ++ barsText (y ∷ xs) k, refl, tt, f, ([], barsText (y ∷ xs) k, refl, tt, tt, bars-spelled (y ∷ xs) ts k h (word x)))
+-- right behind a token that asks for no white space
+abbrev Behind : List Token → List ℕ → Type 0
+Behind ts k = (u : Token) → Fits (behind u) [] → Spells u ts k
 
-factor-spelled : (f : Factor (List ℕ)) (ts : List Token) (k : List ℕ) → Anyhow ts k → (u : Token) → Fits (behind u) [] → Spells u (factorTokens f ts) (factorText f k)
-unfolding factorTokens factorText
-factor-spelled f ts k h u g = group-spelled (f .names) _ _ (mark-spelled (f .mode) ts k h) u g
+factor-spelled : (f : Factor (List ℕ)) (ns : List (List ℕ)) (x : List ℕ) (xs : List (List ℕ)) → f .names ≡ ns → ns ≡ x ∷ xs → f .mode ≤ 3 →
+    (ts : List Token) (k : List ℕ) → Anyhow ts k → (us : List Token) × IsFactor f ts us × Behind us (groupText ns (markText (f .mode) k))
+unfolding groupText spell room behind
+factor-spelled f [] x xs e q l ts k h = absurd (false≢true cc)
+factor-spelled f (y ∷ []) x xs e q l ts k h = (
+  word y ∷ markTokens (f .mode) ts,
+  inl (y, e, l, refl),
+  λ u g. ([], markText (f .mode) k, refl, tt, g, mark-spelled (f .mode) ts k h (word y)),
+)
+factor-spelled f (y ∷ z ∷ zs) x xs e q l ts k h =
+    let more = bars-spelled (z ∷ zs) (markTokens (f .mode) ts) (markText (f .mode) k) (mark-spelled (f .mode) ts k h) (word y) in
+    (
+      lpar ∷ word y ∷ barsTokens (z ∷ zs) (markTokens (f .mode) ts),
+      inr (y, z ∷ zs, e, l, refl),
+      λ u g. ([], y ++ barsText (z ∷ zs) (markText (f .mode) k), refl, tt, g, ([], barsText (z ∷ zs) (markText (f .mode) k), refl, tt, tt, more)),
+    )
 
-others-spelled : (fs : List (Factor (List ℕ))) → Anyhow (othersTokens fs) (othersText fs)
-unfolding othersTokens othersText spell room behind
-others-spelled [] u = ([], 62 ∷ [], refl, tt, tt, ([], [], refl, tt, tt, refl))
-others-spelled (f ∷ fs) u = ([], factorText f (othersText fs), refl, tt, tt, factor-spelled f _ _ (others-spelled fs) comma tt)
+others-spelled : (fs : List (Factor (List ℕ))) → Full fs → Small fs → (ts : List Token) × AreLater fs ts × Anyhow ts (othersText fs)
+unfolding othersText factorText spell room behind
+others-spelled [] u s = (rpar ∷ end ∷ [], refl, λ t. ([], 62 ∷ [], refl, tt, tt, ([], [], refl, tt, tt, refl)))
+others-spelled (f ∷ fs) ((x, xs, e), u) s =
+    let (after, L, h) = others-spelled fs u (s .1) in
+    let (us, F, g) = factor-spelled f (f .names) x xs refl e (s .0) after (othersText fs) h in
+    (comma ∷ us, (us, after, refl, F, L), λ t. ([], factorText f (othersText fs), refl, tt, tt, g comma tt))
 
-body-spelled : (w : List ℕ) (fs : List (Factor (List ℕ))) → Spells (word w) (bodyTokens fs) (32 ∷ bodyText fs)
-unfolding bodyTokens bodyText spell room behind
-body-spelled w [] = (32 ∷ [], 62 ∷ [], refl, (space-is, tt), (32, [], refl), ([], [], refl, tt, tt, refl))
-body-spelled w (f ∷ fs) = (32 ∷ [], factorText f (othersText fs), refl, (space-is, tt), (32, [], refl), factor-spelled f _ _ (others-spelled fs) lpar tt)
+body-spelled : (w : List ℕ) (fs : List (Factor (List ℕ))) → Full fs → Small fs → (ts : List Token) × IsModel fs ts × Spells (word w) ts (32 ∷ bodyText fs)
+unfolding bodyText factorText spell room behind
+body-spelled w [] u s = (word emptyWord ∷ end ∷ [], refl, (32 ∷ [], 62 ∷ [], refl, (space-is, tt), (32, [], refl), ([], [], refl, tt, tt, refl)))
+body-spelled w (f ∷ fs) ((x, xs, e), u) s =
+    let (after, L, h) = others-spelled fs u (s .1) in
+    let (us, F, g) = factor-spelled f (f .names) x xs refl e (s .0) after (othersText fs) h in
+    (lpar ∷ us, inl (us, after, refl, F, L), (32 ∷ [], factorText f (othersText fs), refl, (space-is, tt), (32, [], refl), g lpar tt))
 
-head-spelled : (w : List ℕ) (fs : List (Factor (List ℕ))) → Spells (word opening) (word w ∷ bodyTokens fs) (32 ∷ (w ++ (32 ∷ bodyText fs)))
-unfolding spell room behind
-head-spelled w fs = (32 ∷ [], 32 ∷ bodyText fs, refl, (space-is, tt), (32, [], refl), body-spelled w fs)
+head-spelled : (w : List ℕ) (fs : List (Factor (List ℕ))) → Full fs → Small fs → SpelledBy w fs (houseText w fs)
+unfolding houseText spell room behind
+head-spelled w fs u s =
+    let (ts, M, h) = body-spelled w fs u s in
+    record {
+      rest = 32 ∷ (w ++ (32 ∷ bodyText fs));
+      opens = refl;
+      tokens = ts;
+      model = M;
+      spaced = (32 ∷ [], 32 ∷ bodyText fs, refl, (space-is, tt), (32, [], refl), h);
+    }
 
 -- the members of a factor are its names, each once
 members-out : (m : Model) (i x r k : ℕ) → (x < k) ⊎ (k + r ≤ x) → times x (members m i k r) ≡ 0
@@ -109,15 +135,15 @@ module _ (size n : ℕ) (fits : size ≤ 255) (m : Model) (c : IsChain size n m)
 
 -- the house spelling of a chain is a spelling of it
 pub house-spelled : (size : ℕ) (names : List (List ℕ)) (p : ℕ) (m : Model) → size ≤ 255 → p < length names → IsChain size (length names) m → Spelled size names (declaration names p m) p m
-unfolding declaration houseText factorsOf
-house-spelled size names p m fits l c = record {
-  parent = l;
-  chain = c;
-  factors = factorsFrom m (length names) 0 (m .count);
-  order = house-order size (length names) fits m c (m .count) 0 (omega arith);
-  spelled = record {
-    rest = 32 ∷ (nameAt names p ++ (32 ∷ bodyText (named names (factorsFrom m (length names) 0 (m .count)))));
-    opens = refl;
-    spaced = head-spelled (nameAt names p) (named names (factorsFrom m (length names) 0 (m .count)));
-  };
-}
+unfolding declaration factorsOf
+house-spelled size names p m fits l c =
+    let n = length names in
+    let fs = factorsFrom m n 0 (m .count) in
+    let o = house-order size n fits m c (m .count) 0 (omega arith) in
+    record {
+      parent = l;
+      chain = c;
+      factors = fs;
+      order = o;
+      spelled = head-spelled (nameAt names p) (named names fs) (full-named names fs (order-full size n fits m c 0 fs o)) (small-named names fs (order-small size n fits m c 0 fs o));
+    }

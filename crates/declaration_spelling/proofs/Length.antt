@@ -14,9 +14,9 @@ use Rattle.model.specs.declared.Model.{Model}
 use Rattle.model.specs.Record.{factorOf, IsChain}
 use Rattle.declaration_spelling.specs.House.{Factor, members, factorsFrom, factorsOf, nameAt, namesAt, named, opening, emptyWord, markText, barsText, groupText, factorText, othersText, bodyText, houseText, declaration}
 use Rattle.declaration_spelling.specs.Length.{longestDeclaration, markLength, namesLength, groupLength, factorsLength, bodyLength, declarationLength}
-use Rattle.declaration_spelling.specs.Stops.{Full}
 use Rattle.name.proofs.Words.{name-size}
 use Rattle.declaration_spelling.proofs.Names.{Below, AllBelow}
+use Rattle.declaration_spelling.proofs.Shape.{Full}
 use Rattle.declaration_spelling.proofs.House.{house-order}
 use Rattle.declaration_spelling.proofs.Numbers.{order-below, order-full}
 

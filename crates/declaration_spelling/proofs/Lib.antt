@@ -1,14 +1,11 @@
 pub mod Tests
 pub mod Bytes
 pub mod Cutting
-pub mod Form
-pub mod House
+pub mod Record
 pub mod Names
 pub mod Named
+pub mod Shape
 pub mod Numbers
-pub mod Tree
+pub mod House
 pub mod Length
-pub mod Theorem
-pub mod Refusals
-pub mod Texts
 pub mod Books

@@ -16,8 +16,8 @@ use Rattle.book.specs.Access.{numberFrom, numberIn}
 use Rattle.declaration_spelling.specs.House.{Factor, nameAt}
 use Rattle.declaration_spelling.specs.Spelled.{times}
 use Rattle.declaration_spelling.specs.Stops.{Form, modelNames, formNames, Twice}
-use Rattle.declaration_spelling.specs.Form.{allNames, allFactors, allForm}
-use Rattle.declaration_spelling.specs.Read.{isFound, known, numberFor, numbersFor, numbered, total}
+use Rattle.declaration_spelling.specs.Read.{isFound, known, numberFor}
+use Rattle.declaration_spelling.proofs.Record.{numbersFor, numbered, allNames, allFactors, allForm, total}
 use Rattle.declaration_spelling.proofs.Tests.{and-is}
 use Rattle.declaration_spelling.proofs.Names.{is-same, number-is}
 

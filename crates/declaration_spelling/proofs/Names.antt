@@ -1,6 +1,6 @@
 -- Names and their numbers.
 -- Assumes nothing.
-use Prim.Native.Nat.{ℕ, zero, suc, _+_, _<_}
+use Prim.Native.Nat.{ℕ, zero, suc, _+_, _≤_, _<_}
 use mathlib.Core.Path.{_≡_, refl, _∙_, ap, ap₂, subst}
 use mathlib.Core.Bool.{Bool, true, false, cond, false≢true}
 use mathlib.Core.List.{List, [], _∷_}
@@ -8,6 +8,7 @@ use mathlib.Core.Logic.{_↔_}
 use native.Mathlib.Omega.{arith}
 use native.Mathlib.Nat.{le-of-suc-le-suc}
 use lib.ListN.{length}
+use Rattle.name.specs.Rule.{isName}
 use Rattle.name_order.specs.declared.Order.{Order}
 use Rattle.name_order.specs.declared.Order.the-variants.{Below as Lower, Same, Above}
 use Rattle.name_order.specs.Order.{orderOf, isSame}
@@ -16,8 +17,8 @@ use Rattle.book.specs.declared.Found.{Found}
 use Rattle.book.specs.declared.Found.the-variants.{At, Nothing}
 use Rattle.book.specs.Access.{numberFrom, numberIn}
 use Rattle.declaration_spelling.specs.House.{Factor, nameAt, namesAt, named}
-use Rattle.declaration_spelling.specs.Form.{allNames, allFactors}
-use Rattle.declaration_spelling.specs.Read.{isFound, foundOr, known, numberFor, numbersFor, numbered}
+use Rattle.declaration_spelling.specs.Read.{isFound, foundOr, known, numberFor}
+use Rattle.declaration_spelling.proofs.Record.{numbersFor, numbered, allNames, allFactors}
 use Rattle.declaration_spelling.proofs.Tests.{and-is}
 
 -- only numbers below n
@@ -70,6 +71,14 @@ found-is names w k e = go (found-from names 0 w k e)
 -- no name twice
 abbrev pub Distinct : List (List ℕ) → Type 0
 Distinct names = (x y : ℕ) → x < length names → y < length names → nameAt names x ≡ nameAt names y → x ≡ y
+
+-- names of a book: at most as many as a record has places, 1 to 255, each by the rule, no two equal
+pub record GoodNames (size : ℕ) (names : List (List ℕ)) : Type 0 where
+  pub place : 0 < size
+  pub small : size ≤ 255
+  pub few : length names ≤ size
+  pub good : (x : ℕ) → x < length names → isName (nameAt names x) ≡ true
+  pub distinct : Distinct names
 
 pub number-found : (names : List (List ℕ)) → Distinct names → (x : ℕ) → x < length names → numberIn names (nameAt names x) ≡ At x
 unfolding numberIn

@@ -15,10 +15,10 @@ use Rattle.model.specs.declared.Model.{Model}
 use Rattle.model.specs.Record.{factorOf, modeOf, IsChain}
 use Rattle.declaration_spelling.specs.House.{Factor}
 use Rattle.declaration_spelling.specs.Spelled.{times, Reordered}
-use Rattle.declaration_spelling.specs.Read.{total, noneTwice, valuesFrom, placeFrom, modeAt, recordOf}
-use Rattle.declaration_spelling.specs.Stops.{Full, Small}
+use Rattle.declaration_spelling.proofs.Record.{total, noneTwice, valuesFrom, placeFrom, modeAt, recordOf}
 use Rattle.declaration_spelling.proofs.Tests.{and-is}
 use Rattle.declaration_spelling.proofs.Names.{Below, AllBelow}
+use Rattle.declaration_spelling.proofs.Shape.{Full, Small}
 
 -- how often
 pub times-more : (x y : ℕ) (ys : List ℕ) → times x ys ≤ times x (y ∷ ys)
@@ -78,7 +78,7 @@ unfolding valuesFrom
 values-length i zero f = refl
 values-length i (suc n) f = ap suc (values-length (suc i) n f)
 
-values-from : (i n k : ℕ) (f : ℕ → ℕ) (d : ℕ) → k < n → getD (valuesFrom i n f) k d ≡ f (i + k)
+pub values-from : (i n k : ℕ) (f : ℕ → ℕ) (d : ℕ) → k < n → getD (valuesFrom i n f) k d ≡ f (i + k)
 unfolding valuesFrom
 values-from i zero k f d h = absurd (omega arith)
 values-from i (suc n) zero f d h = rw add-zero

@@ -8,7 +8,7 @@ use mathlib.Core.Option.{none, some}
 use mathlib.Core.Logic.{_⊎_, inl, inr, _↔_}
 use lib.Dec.{eqb}
 use borrow.Author.Tests.{eq-eqb, eqb-true}
-use Rattle.declaration_spelling.specs.Form.{same, strip}
+use Rattle.declaration_spelling.specs.Cut.{same, strip}
 
 pub and-is : (a b : Bool) → ((a && b) ≡ true) ↔ ((a ≡ true) × (b ≡ true))
 and-is true b = (λ e. (refl, e), λ p. p .1)

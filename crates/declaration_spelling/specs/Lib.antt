@@ -3,7 +3,7 @@ pub mod Token
 pub mod House
 pub mod Length
 pub mod Spelled
-pub mod Form
+pub mod Cut
+pub mod Kind
 pub mod Stops
 pub mod Read
-pub mod Texts

@@ -1,11 +1,12 @@
--- To be believed: what a spelling of a record is: the tokens of its declaration, the names of each group in any order,
--- with a choice of white space. Stated without the function that reads; `read-exactly` in proofs/Theorem.antt says that
--- the two agree.
+-- To be believed: what a spelling of a record is: its factors with the names of each group in any order, with a choice
+-- of brackets and of white space (paper 01, "The declaration"; paper 02, U1). Stated without the function that reads;
+-- `read-exactly` in crates/declaration_walk/proofs/Theorem.antt says that the two agree.
 -- Assumes nothing.
-use Prim.Native.Nat.{ℕ, zero, suc, _<_}
+use Prim.Native.Nat.{ℕ, zero, suc, _≤_, _<_}
 use mathlib.Core.Path.{_≡_}
 use mathlib.Core.Bool.{cond}
 use mathlib.Core.List.{List, [], _∷_, _++_}
+use mathlib.Core.Logic.{_⊎_}
 use lib.Dec.{eqb}
 use lib.ListN.{length}
 use Rattle.model.specs.declared.Model.{Model}
@@ -13,38 +14,50 @@ use Rattle.model.specs.Record.{factorOf, modeOf, IsChain}
 use Rattle.declaration_spelling.specs.Token.{Token, word, lpar, rpar, comma, bar, end, mark, Spells}
 use Rattle.declaration_spelling.specs.House.{Factor, nameAt, named, opening, emptyWord}
 
--- The tokens of a declaration, one function for each text of the canonical form; each has what follows it as its last
--- argument.
+-- The tokens of a declaration. What follows a part is the last argument of a function, or `after` in a relation.
 
+-- A mark: none for mode 0.
 unfoldable pub markTokens : ℕ → List Token → List Token
 markTokens zero after = after
 markTokens (suc m) after = mark m ∷ after
 
+-- The later names of a group, each behind `|`, and `)`.
 unfoldable pub barsTokens : List (List ℕ) → List Token → List Token
 barsTokens [] after = rpar ∷ after
 barsTokens (x ∷ xs) after = bar ∷ word x ∷ barsTokens xs after
 
-unfoldable pub groupTokens : List (List ℕ) → List Token → List Token
-groupTokens [] after = lpar ∷ rpar ∷ after
-groupTokens (x ∷ []) after = word x ∷ after
-groupTokens (x ∷ y ∷ xs) after = lpar ∷ word x ∷ barsTokens (y ∷ xs) after
+-- A group of one or more names and its mark: `(`, the names joined by `|`, `)`, and one of the four modes.
+abbrev pub IsGroup : Factor (List ℕ) → List Token → List Token → Type 0
+IsGroup f after ts =
+    (x : List ℕ) × (xs : List (List ℕ)) × (f .names ≡ x ∷ xs) × (f .mode ≤ 3) × (ts ≡ lpar ∷ word x ∷ barsTokens xs (markTokens (f .mode) after))
 
-unfoldable pub factorTokens : Factor (List ℕ) → List Token → List Token
-factorTokens f after = groupTokens (f .names) (markTokens (f .mode) after)
+-- One name without brackets, and its mark.
+abbrev pub IsBare : Factor (List ℕ) → List Token → List Token → Type 0
+IsBare f after ts = (x : List ℕ) × (f .names ≡ x ∷ []) × (f .mode ≤ 3) × (ts ≡ word x ∷ markTokens (f .mode) after)
 
-unfoldable pub othersTokens : List (Factor (List ℕ)) → List Token
-othersTokens [] = rpar ∷ end ∷ []
-othersTokens (f ∷ fs) = comma ∷ factorTokens f (othersTokens fs)
+-- A factor: a group, or one name "in its own brackets" or without.
+abbrev pub IsFactor : Factor (List ℕ) → List Token → List Token → Type 0
+IsFactor f after ts = IsBare f after ts ⊎ IsGroup f after ts
 
-unfoldable pub bodyTokens : List (Factor (List ℕ)) → List Token
-bodyTokens [] = word emptyWord ∷ end ∷ []
-bodyTokens (f ∷ fs) = lpar ∷ factorTokens f (othersTokens fs)
+-- The later factors, each behind `,`; then `)` and `>`.
+abbrev pub AreLater : List (Factor (List ℕ)) → List Token → Type 0
+AreLater [] ts = ts ≡ rpar ∷ end ∷ []
+AreLater (f ∷ fs) ts = (us : List Token) × (after : List Token) × (ts ≡ comma ∷ us) × IsFactor f after us × AreLater fs after
+
+-- A model and `>`: `EMPTY`; the factors in brackets; or, for one factor, its group and mark as "a whole model".
+abbrev pub IsModel : List (Factor (List ℕ)) → List Token → Type 0
+IsModel [] ts = ts ≡ word emptyWord ∷ end ∷ []
+IsModel (f ∷ fs) ts =
+    ((us : List Token) × (after : List Token) × (ts ≡ lpar ∷ us) × IsFactor f after us × AreLater fs after)
+    ⊎ ((fs ≡ []) × IsGroup f (end ∷ []) ts)
 
 -- The text is `<!ELEMENT`, the parent and the model, by the bytes of their names, with fitting white space.
 pub record SpelledBy (parent : List ℕ) (factors : List (Factor (List ℕ))) (text : List ℕ) : Type 0 where
   pub rest : List ℕ
   pub opens : text ≡ opening ++ rest
-  pub spaced : Spells (word opening) (word parent ∷ bodyTokens factors) rest
+  pub tokens : List Token
+  pub model : IsModel factors tokens
+  pub spaced : Spells (word opening) (word parent ∷ tokens) rest
 
 -- How often x stands in a list.
 unfoldable pub times : ℕ → List ℕ → ℕ

@@ -1,8 +1,8 @@
 -- To be believed: which texts have the form of a declaration, the condition of refusal 13, and the names that 14 and 15
--- speak of. Stated without the function that reads; `form-sound` and `form-complete` in proofs/Theorem.antt say that
--- the two agree.
+-- speak of. Stated without the function that reads; `form-sound` and `form-complete` in
+-- crates/declaration_walk/proofs/Formed.antt say that the two agree.
 -- Assumes nothing.
-use Prim.Native.Nat.{ℕ, _≤_}
+use Prim.Native.Nat.{ℕ}
 use mathlib.Core.Path.{_≡_}
 use mathlib.Core.Bool.{true}
 use mathlib.Core.List.{List, [], _∷_, _++_, List·Memᴰ}
@@ -30,19 +30,7 @@ abbrev pub Twice : List (List ℕ) → Type 0
 Twice [] = ⊥
 Twice (x ∷ xs) = List·Memᴰ x xs ⊎ Twice xs
 
--- Every factor has a name.
-abbrev pub Full : {A : Type 0} → List (Factor A) → Type 0
-Full [] = Unit {0}
-Full {A} (f ∷ fs) = ((x : A) × (xs : List A) × (f .names ≡ x ∷ xs)) × Full fs
-
--- Every mode is 0 to 3.
-abbrev pub Small : {A : Type 0} → List (Factor A) → Type 0
-Small [] = Unit {0}
-Small (f ∷ fs) = (f .mode ≤ 3) × Small fs
-
 -- The text is spelled with the names of d, each by the rule for names.
 pub record HasForm (text : List ℕ) (d : Form) : Type 0 where
-  pub full : Full (d .factors)
-  pub small : Small (d .factors)
   pub good : (x : List ℕ) → List·Memᴰ x (formNames d) → isName x ≡ true
   pub spelled : SpelledBy (d .parent) (d .factors) text

@@ -1,15 +1,15 @@
 -- To be believed: the tokens of a declaration, the bytes of each, and the white space that may be between two of them
--- (paper 01, "The declaration").
+-- (paper 01, "The declaration"; paper 02, U1).
 -- Assumes nothing.
 use Prim.Native.Nat.{ℕ, zero, suc}
 use mathlib.Core.Path.{_≡_}
-use mathlib.Core.Bool.{Bool, true}
+use mathlib.Core.Bool.{Bool, true, _||_}
 use mathlib.Core.List.{List, [], _∷_, _++_}
 use lib.Dec.{eqb}
 
--- White space: the space.
+-- White space "as XML 1.0 production 3 has it (space, tab, CR, LF)".
 unfoldable pub isSpace : ℕ → Bool
-isSpace byte = eqb byte 32
+isSpace byte = eqb byte 32 || (eqb byte 9 || (eqb byte 13 || eqb byte 10))
 
 -- A run of bytes that may be in a name; ( ) , | > ; the mark of mode m + 1; any other byte.
 pub data Token : Type 0 where
@@ -34,11 +34,11 @@ spell end = 62 ∷ []
 spell (mark m) = markByte m ∷ []
 spell (other b) = b ∷ []
 
--- Between two tokens: no space, one or more, any number.
+-- Between two tokens: no white space, one byte or more of it, any number.
 pub data Room : Type 0 where
   tight apart free : Room
 
--- The spaces before a word or `(`: at least one after a word, any number after anything else.
+-- The white space before a word or `(`: some after a word, any after anything else.
 unfoldable pub behind : Token → Room
 behind (word w) = apart
 behind lpar = free
@@ -50,7 +50,7 @@ behind (mark m) = free
 behind (other b) = free
 
 -- "one or more spaces in place of each space, and spaces before `>`, after and before any bracket, comma or bar, but
--- none before a mark"
+-- none before a mark"; since U1 any white space "wherever spaces were allowed"
 unfoldable pub room : Token → Token → Room
 room t (word w) = behind t
 room t lpar = behind t

@@ -7,7 +7,7 @@ use native.Mathlib.Omega.{arith}
 use lib.Dec.{leb}
 use borrow.Author.Tests.{le-leb, lt-leb}
 use Rattle.name.specs.Class.{between}
-use Rattle.declaration_states.specs.Space.{kindFits}
+use Rattle.declaration_walk.specs.Walk.{kindFits}
 
 between-in : (low high k : ℕ) → low ≤ k → k ≤ high → between low high k ≡ true
 unfolding between
@@ -28,20 +28,20 @@ between-over low high k h = go (leb low k) (lt-leb k high h)
 module _ (bw gap : Bool) (k : ℕ) where
   pub fits-none : k ≡ 0 → true ≡ kindFits bw gap k
   unfolding kindFits
-  fits-none e = rw (between-under 1 2 k (omega arith), between-under 7 9 k (omega arith))
+  fits-none e = rw (between-under 1 3 k (omega arith), between-under 8 10 k (omega arith))
 
-  pub fits-apart : (k ≡ 0 → ⊥) → k < 3 → cond bw gap true ≡ kindFits bw gap k
+  pub fits-apart : (k ≡ 0 → ⊥) → k < 4 → cond bw gap true ≡ kindFits bw gap k
   unfolding kindFits
-  fits-apart n l = rw (between-in 1 2 k (omega arith) (omega arith))
+  fits-apart n l = rw (between-in 1 3 k (omega arith) (omega arith))
 
-  pub fits-free : 3 ≤ k → k < 7 → true ≡ kindFits bw gap k
+  pub fits-free : 4 ≤ k → k < 8 → true ≡ kindFits bw gap k
   unfolding kindFits
-  fits-free h l = rw (between-over 1 2 k h, between-under 7 9 k (omega arith))
+  fits-free h l = rw (between-over 1 3 k h, between-under 8 10 k (omega arith))
 
-  pub fits-mark : 7 ≤ k → k < 10 → not gap ≡ kindFits bw gap k
+  pub fits-mark : 8 ≤ k → k < 11 → not gap ≡ kindFits bw gap k
   unfolding kindFits
-  fits-mark h l = rw (between-over 1 2 k (omega arith), between-in 7 9 k h (omega arith))
+  fits-mark h l = rw (between-over 1 3 k (omega arith), between-in 8 10 k h (omega arith))
 
-  pub fits-rest : 10 ≤ k → true ≡ kindFits bw gap k
+  pub fits-rest : 11 ≤ k → true ≡ kindFits bw gap k
   unfolding kindFits
-  fits-rest h = rw (between-over 1 2 k (omega arith), between-over 7 9 k h)
+  fits-rest h = rw (between-over 1 3 k (omega arith), between-over 8 10 k h)

@@ -1,37 +1,77 @@
--- The table of states: each entry is a state.
+-- The table of states has the number of each step.
 -- Assumes nothing.
 use Prim.Native.Nat.{ℕ, zero, suc, _+_, _*_, _≤_, _<_}
-use mathlib.Core.Path.{_≡_, refl}
-use mathlib.Core.Bool.{Bool, true, _&&_}
-use mathlib.Core.List.{List, [], _∷_}
+use mathlib.Core.Path.{_≡_, refl, sym, _∙_, ap}
+use mathlib.Core.List.{List, [], _∷_, _++_, map}
 use native.Mathlib.Omega.{arith}
-use native.Mathlib.Nat.{le-of-suc-le-suc}
-use lib.Dec.{leb}
-use lib.ListN.{length, getD}
-use borrow.Author.Tests.{leb-true}
-use Rattle.declaration_spelling.proofs.Tests.{and-is}
-use Rattle.declaration_walk.specs.Walk.{table, stepOf}
+use native.Mathlib.Nat.{le-of-suc-le-suc, zero-add}
+use lib.ListN.{length, getD, List·getD-map}
+use Rattle.declaration_spelling.proofs.Record.{valuesFrom}
+use Rattle.declaration_spelling.proofs.Numbers.{values-from}
+use Rattle.declaration_walk.specs.Walk.{State, beforeParent, beforeModel, behindBracket, behindFirst, wholeBar, wholeName, wholeGroup, beforeFactor, inGroup, groupName, behindNames, behindMark, beforeEnd, behindEnd, nowhere, step, numberOf}
+use Rattle.declaration_states.specs.Table.{kinds, states, stateOf, rowOf, rowsOf, table}
 
-default : (xs : List ℕ) (k c d : ℕ) → k < length xs → getD xs k c ≡ getD xs k d
-default [] k c d h = absurd (omega arith)
-default (x ∷ xs) zero c d h = refl
-default (x ∷ xs) (suc k) c d h = default xs k c d (le-of-suc-le-suc h)
+-- a state has its number
+pub state-number : (s : State) → (stateOf (numberOf s) ≡ s) × (numberOf s ≤ 14)
+unfolding stateOf states numberOf
+state-number beforeParent = (refl, omega arith)
+state-number beforeModel = (refl, omega arith)
+state-number behindBracket = (refl, omega arith)
+state-number behindFirst = (refl, omega arith)
+state-number wholeBar = (refl, omega arith)
+state-number wholeName = (refl, omega arith)
+state-number wholeGroup = (refl, omega arith)
+state-number beforeFactor = (refl, omega arith)
+state-number inGroup = (refl, omega arith)
+state-number groupName = (refl, omega arith)
+state-number behindNames = (refl, omega arith)
+state-number behindMark = (refl, omega arith)
+state-number beforeEnd = (refl, omega arith)
+state-number behindEnd = (refl, omega arith)
+state-number nowhere = (refl, omega arith)
 
--- no entry is above m
-unfoldable pub upTo : ℕ → List ℕ → Bool
-upTo m [] = true
-upTo m (x ∷ xs) = leb x m && upTo m xs
+-- and each number up to 14 is that of its state
+pub number-state : (n : ℕ) → n ≤ 14 → numberOf (stateOf n) ≡ n
+unfolding stateOf states numberOf valuesFrom
+number-state n h = sym (List·getD-map numberOf states n nowhere) ∙ values-from 0 15 n (λ k. k) 14 (omega arith) ∙ zero-add n
 
-pub entry-up : (m : ℕ) (xs : List ℕ) (k d : ℕ) → upTo m xs ≡ true → d ≤ m → getD xs k d ≤ m
-unfolding upTo
-entry-up m [] k d e h = h
-entry-up m (x ∷ xs) zero d e h = leb-true x m (and-is (leb x m) (upTo m xs) .0 e .0)
-entry-up m (x ∷ xs) (suc k) d e h = entry-up m xs k d (and-is (leb x m) (upTo m xs) .0 e .1) h
+pub nowhere-number : (n : ℕ) → n ≡ 14 → stateOf n ≡ nowhere
+unfolding stateOf states
+nowhere-number n e = ap stateOf e
 
-pub state-entry : (k : ℕ) → getD table k 0 ≤ 11
-unfolding upTo table
-state-entry k = entry-up 11 table k 0 refl (omega arith)
+-- ---- an entry of the table
 
-pub state-is : (state signal : ℕ) → state ≤ 11 → signal ≤ 8 → getD table (9 * state + signal) 0 ≡ stepOf state signal
-unfolding table stepOf
-state-is state signal h k = default table (9 * state + signal) 0 11 (omega arith)
+in-front : (l r : List ℕ) (k c d : ℕ) → k < length l → getD (l ++ r) k c ≡ getD l k d
+in-front [] r k c d h = absurd (omega arith)
+in-front (x ∷ l) r zero c d h = refl
+in-front (x ∷ l) r (suc k) c d h = in-front l r k c d (le-of-suc-le-suc h)
+
+behind : (l r : List ℕ) (k d : ℕ) → getD (l ++ r) (length l + k) d ≡ getD r k d
+behind [] r k d = ap (λ (j : ℕ). getD r j d) (zero-add k)
+behind (x ∷ l) r k d = let e : suc (length l) + k ≡ suc (length l + k) = omega arith in ap (λ (j : ℕ). getD (x ∷ (l ++ r)) j d) e ∙ behind l r k d
+
+kind-at : (k : ℕ) → k ≤ 10 → getD kinds k 0 ≡ k
+unfolding kinds valuesFrom
+kind-at k h = values-from 0 11 k (λ j. j) 0 (omega arith) ∙ zero-add k
+
+in-row : (s : State) (k : ℕ) (l : List ℕ) → k ≤ 10 → getD (rowOf s ++ l) k 0 ≡ numberOf (step s k)
+unfolding rowOf kinds
+in-row s k l h =
+    let f : ℕ → ℕ = λ kind. numberOf (step s kind) in
+    in-front (map f kinds) l k 0 (f 0) (omega arith) ∙ List·getD-map f kinds k 0 ∙ ap f (kind-at k h)
+
+behind-row : (s : State) (k : ℕ) (l : List ℕ) → getD (rowOf s ++ l) (11 + k) 0 ≡ getD l k 0
+unfolding rowOf kinds
+behind-row s k l = behind (map (λ kind. numberOf (step s kind)) kinds) l k 0
+
+rows-at : (ss : List State) (i k : ℕ) → i < length ss → k ≤ 10 → getD (rowsOf ss) (11 * i + k) 0 ≡ numberOf (step (getD ss i nowhere) k)
+unfolding rowsOf
+rows-at [] i k l h = absurd (omega arith)
+rows-at (s ∷ ss) zero k l h = let e : 11 * 0 + k ≡ k = omega arith in ap (λ (j : ℕ). getD (rowOf s ++ rowsOf ss) j 0) e ∙ in-row s k (rowsOf ss) h
+rows-at (s ∷ ss) (suc i) k l h =
+    let e : 11 * suc i + k ≡ 11 + (11 * i + k) = omega arith in
+    ap (λ (j : ℕ). getD (rowOf s ++ rowsOf ss) j 0) e ∙ behind-row s (11 * i + k) (rowsOf ss) ∙ rows-at ss i k (le-of-suc-le-suc l) h
+
+pub table-at : (state kind : ℕ) → state ≤ 14 → kind ≤ 10 → getD table (11 * state + kind) 0 ≡ numberOf (step (stateOf state) kind)
+unfolding table stateOf states
+table-at state kind h k = rows-at states state kind (omega arith) k

@@ -1,1 +1,1 @@
-pub mod Space
+pub mod Table

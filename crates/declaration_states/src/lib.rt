@@ -1,28 +1,45 @@
 // What the walk along a text asks of one token: the next state by the table, white space before it, a word's bytes.
+use declaration_scan::END;
+use declaration_scan::LPAR;
+use declaration_scan::OTHER;
+use declaration_scan::QUESTION;
+use declaration_scan::RPAR;
+use declaration_scan::STAR;
+use declaration_scan::WORD;
 ghost use mathlib.Core.Path.{_≡_};
 ghost use mathlib.Core.Bool.{true, cond};
 ghost use Prim.Native.Nat.{_-_, _≤_};
 ghost use lib.ListN.{length, take, drop};
 ghost use Rattle.name.specs.Class.{classTable};
 ghost use Rattle.name.specs.Rule.{isName};
-ghost use Rattle.declaration_walk.specs.Walk.{stepOf};
-ghost use Rattle.declaration_states.specs.Space.{kindFits};
+ghost use Rattle.declaration_walk.specs.Walk.{step, kindFits};
+ghost use Rattle.declaration_states.specs.Table.{stateOf};
 
-// The next state for each signal, a row for each state. The signals: 0 any other byte, 1 a word, 2 the word `EMPTY`,
-// 3 `(`, 4 `)`, 5 `,`, 6 `|`, 7 `>`, 8 a mark.
-const STATES: [u8; 108] = [
-    11, 1, 1, 11, 11, 11, 11, 11, 11, // 0 before the parent
-    11, 11, 9, 2, 11, 11, 11, 11, 11, // 1 before the model
-    11, 7, 7, 3, 11, 11, 11, 11, 11, // 2 before a factor
-    11, 4, 4, 11, 11, 11, 11, 11, 11, // 3 behind a group's bracket
-    11, 11, 11, 11, 11, 11, 5, 11, 11, // 4 behind its first name
-    11, 6, 6, 11, 11, 11, 11, 11, 11, // 5 behind a bar
-    11, 11, 11, 11, 7, 11, 5, 11, 11, // 6 behind a later name
-    11, 11, 11, 11, 9, 2, 11, 11, 8, // 7 behind a factor's names
-    11, 11, 11, 11, 9, 2, 11, 11, 11, // 8 behind its mark
-    11, 11, 11, 11, 11, 11, 11, 10, 11, // 9 before `>`
-    11, 11, 11, 11, 11, 11, 11, 11, 11, // 10 behind `>`
-    11, 11, 11, 11, 11, 11, 11, 11, 11, // 11 nowhere
+// Three of the states; the table has them all. They are numbered as in crates/declaration_walk/specs/Walk.antt.
+pub const BEFORE_PARENT: u8 = 0;
+
+pub const BEHIND_END: u8 = 13;
+
+pub const NOWHERE: u8 = 14;
+
+// The next state: a row for each state, a column for each kind of token.
+const STATES: [u8; 165] = [
+    // other, word, EMPTY, ( ) , | > ? + *
+    14, 1, 1, 14, 14, 14, 14, 14, 14, 14, 14, // 0 before the parent
+    14, 14, 12, 2, 14, 14, 14, 14, 14, 14, 14, // 1 before the model
+    14, 3, 3, 8, 14, 14, 14, 14, 14, 14, 14, // 2 behind its bracket
+    14, 14, 14, 14, 6, 7, 4, 14, 11, 11, 11, // 3 behind a name there
+    14, 5, 5, 14, 14, 14, 14, 14, 14, 14, 14, // 4 behind a bar of a group that is the whole model
+    14, 14, 14, 14, 6, 14, 4, 14, 14, 14, 14, // 5 behind a later name of it
+    14, 14, 14, 14, 14, 14, 14, 13, 12, 12, 12, // 6 behind this group
+    14, 10, 10, 8, 14, 14, 14, 14, 14, 14, 14, // 7 before a later factor
+    14, 9, 9, 14, 14, 14, 14, 14, 14, 14, 14, // 8 before a name of a factor's group
+    14, 14, 14, 14, 10, 14, 8, 14, 14, 14, 14, // 9 behind a name of it
+    14, 14, 14, 14, 12, 7, 14, 14, 11, 11, 11, // 10 behind a factor's names
+    14, 14, 14, 14, 12, 7, 14, 14, 14, 14, 14, // 11 behind its mark
+    14, 14, 14, 14, 14, 14, 14, 13, 14, 14, 14, // 12 before `>`
+    14, 14, 14, 14, 14, 14, 14, 14, 14, 14, 14, // 13 behind `>`
+    14, 14, 14, 14, 14, 14, 14, 14, 14, 14, 14, // 14 nowhere
 ];
 
 // Whether a word is a name, by the table of classes.
@@ -40,23 +57,23 @@ fn apart(behind: bool, gap: bool) -> bool
     if behind { gap } else { true }
 }
 
-// Whether the white space before a token of this kind may stand there. The kinds are those of `declaration_scan`.
+// Whether the white space before a token of this kind may stand there.
 pub fn fits(behind: bool, gap: bool, kind: u8) -> bool
     ensures { λ r. ⌜ r ≡ kindFits behind gap kind ⌝ }
 {
     match kind {
-        0 => true,
-        1..=2 => apart(behind, gap),
-        3..=6 => true,
-        7..=9 => !gap,
-        10..=255 => true,
+        OTHER => true,
+        WORD..=LPAR => apart(behind, gap),
+        RPAR..=END => true,
+        QUESTION..=STAR => !gap,
+        11..=255 => true,
     }
 }
 
-// The next state.
-pub fn next_state(state: u8, signal: u8) -> u8
-    requires { ⌜ (state ≤ 11) × (signal ≤ 8) ⌝ }
-    ensures { λ r. ⌜ (r ≡ stepOf state signal) × (r ≤ 11) ⌝ }
+// The next state, by numbers.
+pub fn next_state(state: u8, kind: u8) -> u8
+    requires { ⌜ (state ≤ 14) × (kind ≤ 10) ⌝ }
+    ensures { λ r. ⌜ (stateOf r ≡ step (stateOf state) kind) × (r ≤ 14) ⌝ }
 {
-    STATES[9 * state as usize + signal as usize]
+    STATES[11 * state as usize + kind as usize]
 }

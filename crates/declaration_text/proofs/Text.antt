@@ -13,7 +13,7 @@ use Rattle.model.specs.declared.Model.{Model}
 use Rattle.model.specs.Record.{modeOf, IsChain}
 use Rattle.declaration_spelling.specs.Token.{markByte}
 use Rattle.declaration_spelling.specs.House.{members, factorsFrom, factorsOf, nameAt, namesAt, named, opening, emptyWord, markText, barsText, groupText, factorText, othersText, bodyText, houseText, declaration}
-use Rattle.declaration_spelling.specs.Stops.{Full}
+use Rattle.declaration_spelling.proofs.Shape.{Full}
 use Rattle.declaration_spelling.proofs.House.{house-order}
 use Rattle.declaration_spelling.proofs.Numbers.{order-full}
 use Rattle.byte_buffer.specs.Put.{shown}

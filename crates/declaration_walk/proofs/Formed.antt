@@ -1,20 +1,51 @@
--- A text has the form of a declaration exactly when its walk ends well.
+-- A text has the form of a declaration exactly when the walk says so.
 -- Assumes nothing.
-use Prim.Native.Nat.{ℕ}
-use mathlib.Core.Path.{_≡_, refl, sym, _∙_, ap, ap₂}
-use mathlib.Core.Bool.{Bool, true, false, cond, _&&_}
-use mathlib.Core.List.{List, [], _∷_}
+use Prim.Native.Nat.{ℕ, zero, suc, _<_}
+use mathlib.Core.Path.{_≡_, refl, sym, _∙_, ap, ap₂, subst}
+use mathlib.Core.Bool.{Bool, true, false, cond, not, _&&_, false≢true}
+use mathlib.Core.List.{List, [], _∷_, _++_}
 use mathlib.Core.Option.{Option, none, some}
+use mathlib.Core.Logic.{_⊎_, inl, inr}
+use lib.ListN.{drop}
+use Rattle.name.specs.Class.{between}
 use Rattle.name.specs.Rule.{isName}
-use Rattle.declaration_spelling.specs.Token.{Token, word, lpar, rpar, comma, bar, end, mark, other, behind, room}
-use Rattle.declaration_spelling.specs.House.{opening}
-use Rattle.declaration_spelling.specs.Form.{strip, SpacedToken, Cut, cut, fits, spaced, tokens, parse, allForm, keptIf, formCut, formRest, formOf}
-use Rattle.declaration_spelling.specs.Stops.{Form}
-use Rattle.declaration_spelling.proofs.Form.{parse-sound}
-use Rattle.declaration_spelling.proofs.Bytes.{empty-name}
-use Rattle.declaration_walk.specs.Walk.{signalOf, stepOf, walk, isWord, fitsAfter, allPass, goodToken, accepts, acceptsRest, hasForm}
-use Rattle.declaration_walk.proofs.Runs.{found, found-cond, lost, parse-walk}
+use Rattle.declaration_spelling.specs.Token.{Token, word, lpar, rpar, comma, bar, end, mark, other, behind, room, Spells}
+use Rattle.declaration_spelling.specs.House.{Factor, opening, emptyWord}
+use Rattle.declaration_spelling.specs.Spelled.{IsModel}
+use Rattle.declaration_spelling.specs.Cut.{same, strip, SpacedToken, cut, fits, spaced, tokens}
+use Rattle.declaration_spelling.specs.Kind.{otherKind, wordKind, emptyKind, markKind, tokenKind}
+use Rattle.declaration_spelling.specs.Stops.{Form, HasForm}
+use Rattle.declaration_spelling.proofs.Record.{allForm}
+use Rattle.declaration_spelling.proofs.Tests.{and-is, strip-join, strip-is}
+use Rattle.declaration_spelling.proofs.Bytes.{name-word, empty-name}
+use Rattle.declaration_spelling.proofs.Cutting.{Proper, AllProper, cut-sound, cut-complete}
+use Rattle.declaration_spelling.proofs.Named.{all-law}
+use Rattle.declaration_walk.specs.Walk.{State, beforeParent, beforeModel, behindBracket, behindFirst, wholeBar, wholeName, wholeGroup, beforeFactor, inGroup, groupName, behindNames, behindMark, beforeEnd, behindEnd, nowhere, arrows, along, step, walk, isWord, kindFits, passes, allPass, accepts, acceptsRest, hasForm}
+use Rattle.declaration_walk.proofs.Arrows.{lost, MarkKind, mark-kind}
+use Rattle.declaration_walk.proofs.Sound.{walk-sound}
+use Rattle.declaration_walk.proofs.Complete.{walk-complete}
 use Rattle.declaration_walk.proofs.Words.{form-pass}
+
+-- ---- white space, names and form in one walk or one after the other
+
+-- a byte that is no token leads nowhere
+other-lost : (s : State) → step s otherKind ≡ nowhere
+unfolding step arrows along
+other-lost beforeParent = refl
+other-lost beforeModel = refl
+other-lost behindBracket = refl
+other-lost behindFirst = refl
+other-lost wholeBar = refl
+other-lost wholeName = refl
+other-lost wholeGroup = refl
+other-lost beforeFactor = refl
+other-lost inGroup = refl
+other-lost groupName = refl
+other-lost behindNames = refl
+other-lost behindMark = refl
+other-lost beforeEnd = refl
+other-lost behindEnd = refl
+other-lost nowhere = refl
 
 behind-fits : (t : Token) (gap : Bool) → fits (behind t) gap ≡ cond (isWord t) gap true
 unfolding fits behind isWord
@@ -27,16 +58,29 @@ behind-fits end gap = refl
 behind-fits (mark m) gap = refl
 behind-fits (other b) gap = refl
 
-fits-after : (t u : Token) (gap : Bool) → fits (room t u) gap ≡ fitsAfter (isWord t) gap u
-unfolding fits room fitsAfter
-fits-after t (word x) gap = behind-fits t gap
-fits-after t lpar gap = behind-fits t gap
-fits-after t rpar gap = refl
-fits-after t comma gap = refl
-fits-after t bar gap = refl
-fits-after t end gap = refl
-fits-after t (mark m) gap = refl
-fits-after t (other b) gap = refl
+-- white space by the kind of a token
+kind-fits : (t u : Token) (gap : Bool) → (tokenKind u ≡ otherKind) ⊎ (fits (room t u) gap ≡ kindFits (isWord t) gap (tokenKind u))
+unfolding fits room kindFits between tokenKind markKind
+kind-fits t (word x) gap = inr (go (same x emptyWord))
+  where
+    go : (b : Bool) → fits (behind t) gap ≡ kindFits (isWord t) gap (cond b emptyKind wordKind)
+    go true = behind-fits t gap
+    go false = behind-fits t gap
+kind-fits t lpar gap = inr (behind-fits t gap)
+kind-fits t rpar gap = inr refl
+kind-fits t comma gap = inr refl
+kind-fits t bar gap = inr refl
+kind-fits t end gap = inr refl
+kind-fits t (mark zero) gap = inr refl
+kind-fits t (mark (suc zero)) gap = inr refl
+kind-fits t (mark (suc (suc zero))) gap = inr refl
+kind-fits t (mark (suc (suc (suc m)))) gap = inl refl
+kind-fits t (other b) gap = inl refl
+
+and-false : (a b c : Bool) → c ≡ false → (a && (b && c)) ≡ false
+and-false true true c e = e
+and-false true false c e = refl
+and-false false b c e = refl
 
 shuffle : (a g b h c : Bool) → (a && (g && (b && (h && c)))) ≡ ((a && b) && ((g && h) && c))
 shuffle false g b h c = refl
@@ -44,66 +88,112 @@ shuffle true true b h c = refl
 shuffle true false true h c = refl
 shuffle true false false h c = refl
 
-accepts-is : (s : ℕ) (t : Token) (gap : Bool) (ps : List SpacedToken) → accepts s (isWord t) gap ps ≡ (spaced t gap ps && (allPass isName (tokens ps) && walk s (tokens ps)))
+accepts-is : (s : State) (t : Token) (gap : Bool) (ps : List SpacedToken) → accepts s (isWord t) gap ps ≡ (spaced t gap ps && (allPass isName (tokens ps) && walk s (tokens ps)))
 unfolding accepts spaced tokens allPass walk
 accepts-is s t gap [] = refl
-accepts-is s t gap (p ∷ ps) =
-    ap₂ (λ (a b : Bool). a && (goodToken (p .token) && b)) (sym (fits-after t (p .token) gap)) (accepts-is (stepOf s (signalOf (p .token))) (p .token) (p .gap) ps)
-    ∙ shuffle (fits (room t (p .token)) gap) (goodToken (p .token)) (spaced (p .token) (p .gap) ps) (allPass isName (tokens ps)) (walk (stepOf s (signalOf (p .token))) (tokens ps))
+accepts-is s t gap (p ∷ ps) = go (kind-fits t (p .token) gap) (accepts-is (step s (tokenKind (p .token))) (p .token) (p .gap) ps)
+  where
+    next : State
+    next = step s (tokenKind (p .token))
 
-and-true : (a : Bool) → (a && true) ≡ a
-and-true true = refl
-and-true false = refl
+    go : (tokenKind (p .token) ≡ otherKind) ⊎ (fits (room t (p .token)) gap ≡ kindFits (isWord t) gap (tokenKind (p .token)))
+        → accepts next (isWord (p .token)) (p .gap) ps ≡ (spaced (p .token) (p .gap) ps && (allPass isName (tokens ps) && walk next (tokens ps)))
+        → (kindFits (isWord t) gap (tokenKind (p .token)) && (passes isName (p .token) && accepts next (isWord (p .token)) (p .gap) ps))
+        ≡ ((fits (room t (p .token)) gap && spaced (p .token) (p .gap) ps) && ((passes isName (p .token) && allPass isName (tokens ps)) && walk next (tokens ps)))
+    go (inl k) ih =
+        let w : walk next (tokens ps) ≡ false = ap (λ (r : State). walk r (tokens ps)) (ap (step s) k ∙ other-lost s) ∙ lost (tokens ps) in
+        and-false (kindFits (isWord t) gap (tokenKind (p .token))) (passes isName (p .token)) _ (ih ∙ and-false (spaced (p .token) (p .gap) ps) (allPass isName (tokens ps)) _ w)
+        ∙ sym (and-false (fits (room t (p .token)) gap && spaced (p .token) (p .gap) ps) (passes isName (p .token) && allPass isName (tokens ps)) _ w)
+    go (inr f) ih =
+        ap₂ (λ (a b : Bool). a && (passes isName (p .token) && b)) (sym f) ih
+        ∙ shuffle (fits (room t (p .token)) gap) (passes isName (p .token)) (spaced (p .token) (p .gap) ps) (allPass isName (tokens ps)) (walk next (tokens ps))
 
-and-false : (a : Bool) → (a && false) ≡ false
-and-false true = refl
-and-false false = refl
-
-lost-behind : (t : Token) (gap : Bool) (ps : List SpacedToken) → accepts 11 (isWord t) gap ps ≡ false
-lost-behind t gap ps = accepts-is 11 t gap ps ∙ rw (← lost (tokens ps), and-false (allPass isName (tokens ps))) (and-false (spaced t gap ps))
+lost-behind : (t : Token) (gap : Bool) (ps : List SpacedToken) → accepts nowhere (isWord t) gap ps ≡ false
+lost-behind t gap ps = accepts-is nowhere t gap ps ∙ and-false (spaced t gap ps) (allPass isName (tokens ps)) _ (lost (tokens ps))
 
 -- from nowhere nothing is accepted
-pub accepts-lost : (behindWord gap : Bool) (ps : List SpacedToken) → accepts 11 behindWord gap ps ≡ false
+pub accepts-lost : (behindWord gap : Bool) (ps : List SpacedToken) → accepts nowhere behindWord gap ps ≡ false
 unfolding isWord
 accepts-lost true gap ps = lost-behind (word []) gap ps
 accepts-lost false gap ps = lost-behind lpar gap ps
 
-kept-found : (ts : List Token) (o : Option Form) → parse ts ≡ o → found (keptIf (allForm isName) o) ≡ (allPass isName ts && found o)
-unfolding found keptIf
-kept-found ts none q = sym (and-false (allPass isName ts))
-kept-found ts (some d) q =
-    found-cond (allForm isName d) d
-    ∙ sym (form-pass isName empty-name d)
-    ∙ ap (allPass isName) (sym (parse-sound ts d q .0))
-    ∙ sym (and-true (allPass isName ts))
+-- ---- what is taken has the form
 
-none-found : found {A = Form} none ≡ false
-unfolding found
-none-found = refl
+abbrev Formed : List ℕ → Type 0
+Formed text = (d : Form) × HasForm text d
 
-cut-found : (c : Cut) → found (formCut c) ≡ accepts 0 true (c .gap) (c .pieces)
-unfolding formCut isWord
-cut-found c = go (spaced (word opening) (c .gap) (c .pieces)) refl ∙ sym (accepts-is 0 (word opening) (c .gap) (c .pieces))
+cut-formed : (text t : List ℕ) → text ≡ opening ++ t → accepts beforeParent true (cut t .gap) (cut t .pieces) ≡ true → Formed text
+unfolding isWord
+cut-formed text t o e =
+    let ts = tokens (cut t .pieces) in
+    let a = and-is (spaced (word opening) (cut t .gap) (cut t .pieces)) _ .0 (sym (accepts-is beforeParent (word opening) (cut t .gap) (cut t .pieces)) ∙ e) in
+    let b = and-is (allPass isName ts) (walk beforeParent ts) .0 (a .1) in
+    go (walk-sound ts (b .1)) (cut-sound (word opening) t (a .0)) (b .0)
   where
-    go : (b : Bool) → spaced (word opening) (c .gap) (c .pieces) ≡ b →
-        found (cond (spaced (word opening) (c .gap) (c .pieces)) (keptIf (allForm isName) (parse (tokens (c .pieces)))) none)
-        ≡ (spaced (word opening) (c .gap) (c .pieces) && (allPass isName (tokens (c .pieces)) && walk 0 (tokens (c .pieces))))
-    go true q = rw (q, ← parse-walk (tokens (c .pieces))) (kept-found (tokens (c .pieces)) (parse (tokens (c .pieces))) refl)
-    go false q = rw q none-found
+    go : ((p : List ℕ) × (us : List Token) × (fs : List (Factor (List ℕ))) × (tokens (cut t .pieces) ≡ word p ∷ us) × IsModel fs us)
+        → Spells (word opening) (tokens (cut t .pieces)) t → allPass isName (tokens (cut t .pieces)) ≡ true → Formed text
+    go (p, us, fs, q, M) s w =
+        let d : Form = record { parent = p; factors = fs } in
+        (d,
+          record {
+            good = all-law isName d .0 (sym (form-pass isName empty-name d us M) ∙ ap (allPass isName) (sym q) ∙ w);
+            spelled = record { rest = t; opens = o; tokens = us; model = M; spaced = subst (λ (l : List Token). Spells (word opening) l t) q s };
+          })
 
-rest-none : found (formRest none) ≡ acceptsRest none
-unfolding found formRest acceptsRest
-rest-none = refl
-
-rest-some : (t : List ℕ) → found (formRest (some t)) ≡ acceptsRest (some t)
-unfolding formRest acceptsRest
-rest-some t = cut-found (cut t)
-
--- 13 is answered exactly when this test fails
-pub form-found : (text : List ℕ) → found (formOf text) ≡ hasForm text
-unfolding formOf hasForm
-form-found text = go (strip opening text)
+pub form-sound : (text : List ℕ) → hasForm text ≡ true → Formed text
+unfolding hasForm acceptsRest
+form-sound text e = go (strip opening text) refl e
   where
-    go : (o : Option (List ℕ)) → found (formRest o) ≡ acceptsRest o
-    go none = rest-none
-    go (some t) = rest-some t
+    go : (o : Option (List ℕ)) → strip opening text ≡ o → acceptsRest o ≡ true → Formed text
+    go none q f = absurd (false≢true f)
+    go (some t) q f = cut-formed text t (strip-is opening text t q) f
+
+-- ---- what has the form is taken
+
+proper-token : (t : Token) → passes isName t ≡ true → (tokenKind t ≡ otherKind → ⊥) → Proper t
+unfolding passes tokenKind
+proper-token (word w) e h = name-word w e
+proper-token lpar e h = tt
+proper-token rpar e h = tt
+proper-token comma e h = tt
+proper-token bar e h = tt
+proper-token end e h = tt
+proper-token (mark m) e h = go (mark-kind m)
+  where
+    go : MarkKind m → m < 3
+    go (inl k) = absurd (h k)
+    go (inr k) = k .1
+proper-token (other b) e h = absurd (h refl)
+
+proper-walk : (s : State) (ts : List Token) → allPass isName ts ≡ true → walk s ts ≡ true → AllProper ts
+unfolding allPass walk
+proper-walk s [] a w = tt
+proper-walk s (t ∷ ts) a w =
+    let b = and-is (passes isName t) (allPass isName ts) .0 a in
+    (proper-token t (b .0) (λ k. false≢true (sym (ap (λ (r : State). walk r ts) (ap (step s) k ∙ other-lost s) ∙ lost ts) ∙ w)), proper-walk (step s (tokenKind t)) ts (b .1) w)
+
+module _ (text : List ℕ) (d : Form) (F : HasForm text d) where
+  abbrev all : List Token
+  all = word (d .parent) ∷ F .spelled .tokens
+
+  words : allPass isName all ≡ true
+  words = form-pass isName empty-name d (F .spelled .tokens) (F .spelled .model) ∙ all-law isName d .1 (F .good)
+
+  walked : walk beforeParent all ≡ true
+  walked = walk-complete (d .parent) (d .factors) (F .spelled .tokens) (F .spelled .model)
+
+  cut-is : (tokens (cut (F .spelled .rest) .pieces) ≡ all) × (spaced (word opening) (cut (F .spelled .rest) .gap) (cut (F .spelled .rest) .pieces) ≡ true)
+  cut-is = cut-complete (word opening) all (F .spelled .rest) (proper-walk beforeParent all words walked) (F .spelled .spaced)
+
+  pub form-complete : hasForm text ≡ true
+  unfolding hasForm acceptsRest isWord
+  form-complete =
+      let s : strip opening text ≡ some (F .spelled .rest) = ap (strip opening) (F .spelled .opens) ∙ strip-join opening (F .spelled .rest) in
+      rw s
+      (accepts-is beforeParent (word opening) (cut (F .spelled .rest) .gap) (cut (F .spelled .rest) .pieces)
+      ∙ rw (cut-is .1, cut-is .0, words) walked)
+
+  -- its tokens are those behind the nine bytes of `<!ELEMENT`
+  pub form-tokens : tokens (cut (drop 9 text) .pieces) ≡ word (d .parent) ∷ F .spelled .tokens
+  unfolding opening
+  form-tokens = ap (λ (s : List ℕ). tokens (cut (drop 9 s) .pieces)) (F .spelled .opens) ∙ cut-is .0

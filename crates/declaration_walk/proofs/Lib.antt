@@ -1,3 +1,12 @@
-pub mod Runs
+pub mod Texts
+pub mod Arrows
+pub mod Sound
+pub mod Complete
 pub mod Words
 pub mod Formed
+pub mod Rows
+pub mod Factors
+pub mod Tokens
+pub mod Answer
+pub mod Theorem
+pub mod Refusals

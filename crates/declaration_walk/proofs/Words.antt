@@ -1,14 +1,15 @@
--- Every word of a declaration's tokens passes a test, exactly when every name of its form does.
+-- Every word of a model's tokens passes a test exactly when every name of its factors does.
 -- Assumes nothing.
 use Prim.Native.Nat.{ℕ, zero, suc}
 use mathlib.Core.Path.{_≡_, refl, _∙_, ap}
 use mathlib.Core.Bool.{Bool, true, false, _&&_}
 use mathlib.Core.List.{List, [], _∷_}
-use Rattle.declaration_spelling.specs.Token.{Token, word, lpar}
+use mathlib.Core.Logic.{inl, inr}
+use Rattle.declaration_spelling.specs.Token.{Token, word, lpar, end}
 use Rattle.declaration_spelling.specs.House.{Factor, emptyWord}
-use Rattle.declaration_spelling.specs.Spelled.{markTokens, barsTokens, groupTokens, factorTokens, othersTokens, bodyTokens}
-use Rattle.declaration_spelling.specs.Form.{allNames, allFactors, allForm}
+use Rattle.declaration_spelling.specs.Spelled.{markTokens, barsTokens, IsGroup, IsFactor, AreLater, IsModel}
 use Rattle.declaration_spelling.specs.Stops.{Form}
+use Rattle.declaration_spelling.proofs.Record.{allNames, allFactors, allForm}
 use Rattle.declaration_walk.specs.Walk.{passes, allPass}
 
 and-assoc : (a b c : Bool) → (a && (b && c)) ≡ ((a && b) && c)
@@ -16,46 +17,47 @@ and-assoc true b c = refl
 and-assoc false b c = refl
 
 module _ (test : List ℕ → Bool) where
-  mark-pass : (m : ℕ) (k : List Token) → allPass test (markTokens m k) ≡ allPass test k
+  mark-pass : (m : ℕ) (ts : List Token) → allPass test (markTokens m ts) ≡ allPass test ts
   unfolding allPass passes markTokens
-  mark-pass zero k = refl
-  mark-pass (suc m) k = refl
+  mark-pass zero ts = refl
+  mark-pass (suc m) ts = refl
 
-  bars-pass : (xs : List (List ℕ)) (k : List Token) → allPass test (barsTokens xs k) ≡ (allNames test xs && allPass test k)
+  bars-pass : (xs : List (List ℕ)) (ts : List Token) → allPass test (barsTokens xs ts) ≡ (allNames test xs && allPass test ts)
   unfolding allPass passes barsTokens allNames
-  bars-pass [] k = refl
-  bars-pass (x ∷ xs) k = ap (λ (b : Bool). test x && b) (bars-pass xs k) ∙ and-assoc (test x) (allNames test xs) (allPass test k)
+  bars-pass [] ts = refl
+  bars-pass (x ∷ xs) ts = ap (λ (b : Bool). test x && b) (bars-pass xs ts) ∙ and-assoc (test x) (allNames test xs) (allPass test ts)
 
-  group-pass : (xs : List (List ℕ)) (k : List Token) → allPass test (groupTokens xs k) ≡ (allNames test xs && allPass test k)
-  unfolding allPass passes groupTokens allNames
-  group-pass [] k = refl
-  group-pass (x ∷ []) k = and-assoc (test x) true (allPass test k)
-  group-pass (x ∷ y ∷ xs) k = ap (λ (b : Bool). test x && b) (bars-pass (y ∷ xs) k) ∙ and-assoc (test x) (test y && allNames test xs) (allPass test k)
+  group-pass : (f : Factor (List ℕ)) (after ts : List Token) → IsGroup f after ts → allPass test ts ≡ (allNames test (f .names) && allPass test after)
+  unfolding allPass passes allNames
+  group-pass f after ts (x, xs, e, l, q) =
+      rw (q, e, bars-pass xs (markTokens (f .mode) after), mark-pass (f .mode) after) (and-assoc (test x) (allNames test xs) (allPass test after))
 
-  factor-pass : (f : Factor (List ℕ)) (k : List Token) → allPass test (factorTokens f k) ≡ (allNames test (f .names) && allPass test k)
-  unfolding factorTokens
-  factor-pass f k = group-pass (f .names) (markTokens (f .mode) k) ∙ ap (λ (b : Bool). allNames test (f .names) && b) (mark-pass (f .mode) k)
+  factor-pass : (f : Factor (List ℕ)) (after ts : List Token) → IsFactor f after ts → allPass test ts ≡ (allNames test (f .names) && allPass test after)
+  unfolding allPass passes allNames
+  factor-pass f after ts (inl (x, e, l, q)) = rw (q, e, mark-pass (f .mode) after) (and-assoc (test x) true (allPass test after))
+  factor-pass f after ts (inr G) = group-pass f after ts G
 
-  others-pass : (fs : List (Factor (List ℕ))) → allPass test (othersTokens fs) ≡ allFactors test fs
-  unfolding allPass passes othersTokens allFactors
-  others-pass [] = refl
-  others-pass (f ∷ fs) = factor-pass f (othersTokens fs) ∙ ap (λ (b : Bool). allNames test (f .names) && b) (others-pass fs)
-
-  -- a model in its brackets
-  pub model-pass : (f : Factor (List ℕ)) (fs : List (Factor (List ℕ))) → allPass test (lpar ∷ factorTokens f (othersTokens fs)) ≡ allFactors test (f ∷ fs)
+  later-pass : (fs : List (Factor (List ℕ))) (ts : List Token) → AreLater fs ts → allPass test ts ≡ allFactors test fs
   unfolding allPass passes allFactors
-  model-pass f fs = factor-pass f (othersTokens fs) ∙ ap (λ (b : Bool). allNames test (f .names) && b) (others-pass fs)
+  later-pass [] ts e = rw e
+  later-pass (f ∷ fs) ts (us, after, e, F, L) = rw e (factor-pass f after us F ∙ ap (λ (b : Bool). allNames test (f .names) && b) (later-pass fs after L))
 
-  empty-pass : test emptyWord ≡ true → allPass test (bodyTokens []) ≡ allFactors test []
-  unfolding allPass passes bodyTokens allFactors
-  empty-pass e = rw e
+  end-pass : allPass test (end ∷ []) ≡ allFactors test []
+  unfolding allPass passes allFactors
+  end-pass = refl
 
-  body-pass : test emptyWord ≡ true → (fs : List (Factor (List ℕ))) → allPass test (bodyTokens fs) ≡ allFactors test fs
-  unfolding bodyTokens
-  body-pass e [] = empty-pass e
-  body-pass e (f ∷ fs) = model-pass f fs
+  -- a model with a factor
+  pub model-pass : (f : Factor (List ℕ)) (fs : List (Factor (List ℕ))) (ts : List Token) → IsModel (f ∷ fs) ts → allPass test ts ≡ allFactors test (f ∷ fs)
+  unfolding allPass passes allFactors
+  model-pass f fs ts (inl (us, after, e, F, L)) = rw e (factor-pass f after us F ∙ ap (λ (b : Bool). allNames test (f .names) && b) (later-pass fs after L))
+  model-pass f fs ts (inr (e, G)) = rw e (group-pass f (end ∷ []) ts G ∙ ap (λ (b : Bool). allNames test (f .names) && b) end-pass)
+
+  content-pass : test emptyWord ≡ true → (fs : List (Factor (List ℕ))) (ts : List Token) → IsModel fs ts → allPass test ts ≡ allFactors test fs
+  unfolding allPass passes allFactors
+  content-pass e [] ts q = rw (q, e)
+  content-pass e (f ∷ fs) ts M = model-pass f fs ts M
 
   -- the whole, where `EMPTY` passes
-  pub form-pass : test emptyWord ≡ true → (d : Form) → allPass test (word (d .parent) ∷ bodyTokens (d .factors)) ≡ allForm test d
+  pub form-pass : test emptyWord ≡ true → (d : Form) (ts : List Token) → IsModel (d .factors) ts → allPass test (word (d .parent) ∷ ts) ≡ allForm test d
   unfolding allPass passes allForm
-  form-pass e d = ap (λ (b : Bool). test (d .parent) && b) (body-pass e (d .factors))
+  form-pass e d ts M = ap (λ (b : Bool). test (d .parent) && b) (content-pass e (d .factors) ts M)

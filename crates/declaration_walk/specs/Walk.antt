@@ -1,56 +1,102 @@
--- A means: the form of a declaration as a walk along its tokens: a state, a token, the next state; `form-found` in
--- proofs/Formed.antt joins it to `formOf`.
+-- A means: the form of a declaration as a walk along its tokens: a state, the kind of a token, the next state.
+-- `walk-sound` and `walk-complete` in proofs/ join it to `IsModel`, `form-sound` and `form-complete` in
+-- proofs/Formed.antt to `HasForm`.
 -- Assumes nothing.
-use Prim.Native.Nat.{ℕ, _+_, _*_}
+use Prim.Native.Nat.{ℕ}
 use mathlib.Core.Bool.{Bool, true, false, cond, not, _&&_}
 use mathlib.Core.List.{List, [], _∷_}
 use mathlib.Core.Option.{Option, none, some}
 use lib.Dec.{eqb}
-use lib.ListN.{getD}
+use Rattle.name.specs.Class.{between}
 use Rattle.name.specs.Rule.{isName}
 use Rattle.declaration_spelling.specs.Token.{Token, word, lpar, rpar, comma, bar, end, mark, other}
-use Rattle.declaration_spelling.specs.House.{opening, emptyWord}
-use Rattle.declaration_spelling.specs.Form.{same, strip, SpacedToken, cut}
+use Rattle.declaration_spelling.specs.House.{opening}
+use Rattle.declaration_spelling.specs.Cut.{strip, SpacedToken, cut}
+use Rattle.declaration_spelling.specs.Kind.{wordKind, emptyKind, lparKind, rparKind, commaKind, barKind, endKind, questionKind, plusKind, starKind, tokenKind}
 
--- What a token is to the walk: 0 any other byte, 1 a word, 2 the word `EMPTY`, 3 `(`, 4 `)`, 5 `,`, 6 `|`, 7 `>`, 8 a
--- mark.
-unfoldable pub signalOf : Token → ℕ
-signalOf (word x) = cond (same x emptyWord) 2 1
-signalOf lpar = 3
-signalOf rpar = 4
-signalOf comma = 5
-signalOf bar = 6
-signalOf end = 7
-signalOf (mark m) = 8
-signalOf (other b) = 0
+-- ---- the states
 
--- The next state for each signal, a row for each state: 0 before the parent; 1 before the model; 2 before a factor; 3
--- behind a group's bracket;
--- 4 behind its first name; 5 behind a bar; 6 behind a later name; 7 behind a factor's names; 8 behind its mark; 9
--- before `>`; 10 behind `>`; 11 nowhere.
-unfoldable pub table : List ℕ
-table =
-    11 ∷ 1 ∷ 1 ∷ 11 ∷ 11 ∷ 11 ∷ 11 ∷ 11 ∷ 11 ∷
-    11 ∷ 11 ∷ 9 ∷ 2 ∷ 11 ∷ 11 ∷ 11 ∷ 11 ∷ 11 ∷
-    11 ∷ 7 ∷ 7 ∷ 3 ∷ 11 ∷ 11 ∷ 11 ∷ 11 ∷ 11 ∷
-    11 ∷ 4 ∷ 4 ∷ 11 ∷ 11 ∷ 11 ∷ 11 ∷ 11 ∷ 11 ∷
-    11 ∷ 11 ∷ 11 ∷ 11 ∷ 11 ∷ 11 ∷ 5 ∷ 11 ∷ 11 ∷
-    11 ∷ 6 ∷ 6 ∷ 11 ∷ 11 ∷ 11 ∷ 11 ∷ 11 ∷ 11 ∷
-    11 ∷ 11 ∷ 11 ∷ 11 ∷ 7 ∷ 11 ∷ 5 ∷ 11 ∷ 11 ∷
-    11 ∷ 11 ∷ 11 ∷ 11 ∷ 9 ∷ 2 ∷ 11 ∷ 11 ∷ 8 ∷
-    11 ∷ 11 ∷ 11 ∷ 11 ∷ 9 ∷ 2 ∷ 11 ∷ 11 ∷ 11 ∷
-    11 ∷ 11 ∷ 11 ∷ 11 ∷ 11 ∷ 11 ∷ 11 ∷ 10 ∷ 11 ∷
-    11 ∷ 11 ∷ 11 ∷ 11 ∷ 11 ∷ 11 ∷ 11 ∷ 11 ∷ 11 ∷
-    11 ∷ 11 ∷ 11 ∷ 11 ∷ 11 ∷ 11 ∷ 11 ∷ 11 ∷ 11 ∷ []
+-- Where the walk stands. A name behind the model's bracket may be the first factor, or the first name of a group that
+-- is the whole model; what follows decides.
+pub data State : Type 0 where
+  beforeParent : State
+  beforeModel : State
+  behindBracket : State
+  behindFirst : State
+  wholeBar wholeName wholeGroup : State
+  beforeFactor : State
+  inGroup groupName : State
+  behindNames behindMark : State
+  beforeEnd behindEnd : State
+  nowhere : State
 
-unfoldable pub stepOf : ℕ → ℕ → ℕ
-stepOf state signal = getD table (9 * state + signal) 11
+-- An arrow: the kind of a token, and the state behind it.
+pub record Arrow : Type 0 where
+  pub kind : ℕ
+  pub to : State
+
+abbrev pub by : ℕ → State → Arrow
+by kind to = record { kind = kind; to = to }
+
+-- By any word, `EMPTY` included; by any mark.
+abbrev pub byWord : State → List Arrow
+byWord to = by wordKind to ∷ by emptyKind to ∷ []
+
+abbrev pub byMark : State → List Arrow
+byMark to = by questionKind to ∷ by plusKind to ∷ by starKind to ∷ []
+
+-- The arrows from each state; every other token leads nowhere.
+unfoldable pub arrows : State → List Arrow
+arrows beforeParent = byWord beforeModel
+arrows beforeModel = by emptyKind beforeEnd ∷ by lparKind behindBracket ∷ []
+arrows behindBracket = by lparKind inGroup ∷ byWord behindFirst
+arrows behindFirst = by rparKind wholeGroup ∷ by barKind wholeBar ∷ by commaKind beforeFactor ∷ byMark behindMark
+arrows wholeBar = byWord wholeName
+arrows wholeName = by rparKind wholeGroup ∷ by barKind wholeBar ∷ []
+arrows wholeGroup = by endKind behindEnd ∷ byMark beforeEnd
+arrows beforeFactor = by lparKind inGroup ∷ byWord behindNames
+arrows inGroup = byWord groupName
+arrows groupName = by rparKind behindNames ∷ by barKind inGroup ∷ []
+arrows behindNames = by rparKind beforeEnd ∷ by commaKind beforeFactor ∷ byMark behindMark
+arrows behindMark = by rparKind beforeEnd ∷ by commaKind beforeFactor ∷ []
+arrows beforeEnd = by endKind behindEnd ∷ []
+arrows behindEnd = []
+arrows nowhere = []
+
+-- The state behind a token of this kind.
+unfoldable pub along : List Arrow → ℕ → State
+along [] kind = nowhere
+along (a ∷ as′) kind = cond (eqb kind (a .kind)) (a .to) (along as′ kind)
+
+unfoldable pub step : State → ℕ → State
+step state kind = along (arrows state) kind
+
+-- The number of each state, as in the code (crates/declaration_states/src/lib.rt).
+unfoldable pub numberOf : State → ℕ
+numberOf beforeParent = 0
+numberOf beforeModel = 1
+numberOf behindBracket = 2
+numberOf behindFirst = 3
+numberOf wholeBar = 4
+numberOf wholeName = 5
+numberOf wholeGroup = 6
+numberOf beforeFactor = 7
+numberOf inGroup = 8
+numberOf groupName = 9
+numberOf behindNames = 10
+numberOf behindMark = 11
+numberOf beforeEnd = 12
+numberOf behindEnd = 13
+numberOf nowhere = 14
 
 -- The walk ends behind `>`.
-unfoldable pub walk : ℕ → List Token → Bool
-walk state [] = eqb state 10
-walk state (t ∷ ts) = walk (stepOf state (signalOf t)) ts
+unfoldable pub walk : State → List Token → Bool
+walk state [] = eqb (numberOf state) 13
+walk state (t ∷ ts) = walk (step state (tokenKind t)) ts
 
+-- ---- white space and names
+
+-- The token is a word.
 unfoldable pub isWord : Token → Bool
 isWord (word x) = true
 isWord lpar = false
@@ -61,17 +107,10 @@ isWord end = false
 isWord (mark m) = false
 isWord (other b) = false
 
--- White space before a token, behind a word or not: a word or a bracket needs it behind a word, a mark has none before
--- it.
-unfoldable pub fitsAfter : Bool → Bool → Token → Bool
-fitsAfter behindWord gap (word x) = cond behindWord gap true
-fitsAfter behindWord gap lpar = cond behindWord gap true
-fitsAfter behindWord gap rpar = true
-fitsAfter behindWord gap comma = true
-fitsAfter behindWord gap bar = true
-fitsAfter behindWord gap end = true
-fitsAfter behindWord gap (mark m) = not gap
-fitsAfter behindWord gap (other b) = true
+-- White space before a token of this kind, behind a word or not: a word or `(` behind a word needs it, a mark has none.
+unfoldable pub kindFits : Bool → Bool → ℕ → Bool
+unfolding between
+kindFits behindWord gap kind = cond (between wordKind lparKind kind) (cond behindWord gap true) (cond (between questionKind starKind kind) (not gap) true)
 
 -- The token is no word, or a word that passes the test.
 unfoldable pub passes : (List ℕ → Bool) → Token → Bool
@@ -89,20 +128,19 @@ unfoldable pub allPass : (List ℕ → Bool) → List Token → Bool
 allPass test [] = true
 allPass test (t ∷ ts) = passes test t && allPass test ts
 
--- A word keeps the rule for names, as `EMPTY` does.
-abbrev pub goodToken : Token → Bool
-goodToken t = passes isName t
+-- ---- the whole
 
--- One walk for white space, names and form, from a state on.
-unfoldable pub accepts : ℕ → Bool → Bool → List SpacedToken → Bool
-accepts state behindWord gap [] = not gap && eqb state 10
+-- One walk for white space, names and form, from a state on. A word keeps the rule for names, as `EMPTY` does.
+unfoldable pub accepts : State → Bool → Bool → List SpacedToken → Bool
+accepts state behindWord gap [] = not gap && walk state []
 accepts state behindWord gap (p ∷ ps) =
-    fitsAfter behindWord gap (p .token) && (goodToken (p .token) && accepts (stepOf state (signalOf (p .token))) (isWord (p .token)) (p .gap) ps)
+    kindFits behindWord gap (tokenKind (p .token))
+    && (passes isName (p .token) && accepts (step state (tokenKind (p .token))) (isWord (p .token)) (p .gap) ps)
 
 -- The text behind `<!ELEMENT`.
 unfoldable pub acceptsRest : Option (List ℕ) → Bool
 acceptsRest none = false
-acceptsRest (some text) = accepts 0 true (cut text .gap) (cut text .pieces)
+acceptsRest (some text) = accepts beforeParent true (cut text .gap) (cut text .pieces)
 
 -- The text has the form of a declaration.
 unfoldable pub hasForm : List ℕ → Bool

@@ -42,7 +42,7 @@ use Rattle.declaration_spelling.specs.Length.{longestDeclaration}
 use Rattle.declaration_spelling.specs.Spelled.{Spelled}
 use Rattle.declaration_spelling.proofs.House.{house-spelled}
 use Rattle.declaration_spelling.proofs.Books.{good-names}
-use Rattle.declaration_spelling.proofs.Theorem as Spelling
+use Rattle.declaration_walk.proofs.Theorem as Spelling
 use Rattle.declaration_writing.specs.declared.Written.{Written}
 use Rattle.declaration_writing.specs.Write.{written, WritesDeclaration}
 use Rattle.declaration_reading.specs.declared.Declaration.{Declaration}

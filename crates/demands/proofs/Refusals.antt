@@ -30,9 +30,10 @@ use Rattle.model.specs.Run.{accepts}
 use Rattle.model.proofs.Chain.{chain-law}
 use Rattle.declaration_spelling.specs.House.{declaration}
 use Rattle.declaration_spelling.specs.Spelled.{Spelled}
-use Rattle.declaration_spelling.specs.Read.{Declared, declared, readText}
+use Rattle.declaration_spelling.specs.Read.{Declared, declared}
+use Rattle.declaration_walk.specs.Gather.{textAnswer}
 use Rattle.declaration_spelling.proofs.Books.{good-names}
-use Rattle.declaration_spelling.proofs.Theorem as Spelling
+use Rattle.declaration_walk.proofs.Theorem as Spelling
 use Rattle.declaration_writing.specs.Write.{fitted, writeIn, writeAnswer}
 use Rattle.declaration_reading.specs.Read.{readAnswer}
 use Rattle.declaration_reading.proofs.Theorem as Reading
@@ -143,7 +144,7 @@ no-other : {A : Type 0} (P : ℕ → Type 0) (bytes : List ℕ) (next : Book →
     (answerNumber (onward (takenBook bytes) next) ≡ 0) ⊎ (OfBook (answerNumber (onward (takenBook bytes) next)) ⊎ P (answerNumber (onward (takenBook bytes) next)))
 no-other P bytes next each =
     number-only (λ k. (k ≡ 0) ⊎ (OfBook k ⊎ P k)) (onward (takenBook bytes) next) (inl refl)
-    (λ f e. inr (⊎-elim (λ l. inl (f, l, refl)) (λ (b, q). inr (each b f q)) (book-or-later bytes next f e)))
+    (λ f e. inr (⊎-elim (λ l. inl (f, l, refl)) (λ (b, k, q). inr (each b f q)) (book-or-later bytes next f e)))
 
 -- ---- the model of a parent
 
@@ -166,7 +167,7 @@ module _ (bytes : List ℕ) (parent : ℕ) where
       let a = modelAnswer bytes parent in
       let next : Book → Answer Model = λ b. modelIn b parent in
       record {
-        book = book-rows bytes a (λ f l. book-first bytes next f l (λ b. model-each (λ r. ofBook r ≡ false) refl refl b f));
+        book = book-rows bytes a (λ f l. book-first bytes next f l (λ b k. model-each (λ r. ofBook r ≡ false) refl refl b f));
         eight =
             row a BadParent (in-book bytes next (λ b. length (b .names) ≤ parent) BadParent refl
             (λ b. own-check (badParent b parent) BadParent (a₁ b) (bad-parent b parent) (avoids (t₂ b) NoBlock _ BadParent (other NoBlock BadParent refl) (given-refused _ _))));
@@ -231,7 +232,7 @@ module _ (bytes : List ℕ) (parent room : ℕ) (r : Refusal) (late : ofBook r �
     writing-rows =
         let a = onward (takenBook bytes) next in
         record {
-          book = book-rows bytes a (λ f l. book-first bytes next f l (λ b. each (λ q. ofBook q ≡ false) refl late refl b f));
+          book = book-rows bytes a (λ f l. book-first bytes next f l (λ b k. each (λ q. ofBook q ≡ false) refl late refl b f));
           eight =
               row a BadParent (in-book bytes next (λ b. length (b .names) ≤ parent) BadParent refl
               (λ b. by-row b (refused BadParent) (own-check (badParent b parent) BadParent (behind b) (bad-parent b parent)
@@ -284,13 +285,13 @@ sample-conditions bytes parent room =
 module _ (bytes text : List ℕ) where
   read-given : ((x : Declared) × (readAnswer bytes text ≡ given x)) ↔ ((b : Book) × TakenAs bytes b × ((p : ℕ) × (m : Model) × Spelled places (b .names) text p m))
   unfolding readAnswer
-  read-given = in-given bytes (λ b. readText places (b .names) text) (λ b. (p : ℕ) × (m : Model) × Spelled places (b .names) text p m) spelled
+  read-given = in-given bytes (λ b. textAnswer places (b .names) text) (λ b. (p : ℕ) × (m : Model) × Spelled places (b .names) text p m) spelled
     where
-      spelled : (b : Book) → TakenAs bytes b → ((x : Declared) × (readText places (b .names) text ≡ given x)) ↔ ((p : ℕ) × (m : Model) × Spelled places (b .names) text p m)
+      spelled : (b : Book) → TakenAs bytes b → ((x : Declared) × (textAnswer places (b .names) text ≡ given x)) ↔ ((p : ℕ) × (m : Model) × Spelled places (b .names) text p m)
       spelled b q =
           let good = good-names bytes b (taken-law bytes b .0 q) in (
-            λ (x, g). (x .parent, x .model, Spelling.read-sound places (b .names) good text (x .parent) (x .model) g),
-            λ (p, m, S). (declared p m, Spelling.read-complete places (b .names) good text p m S),
+            λ (x, g). (x .parent, x .model, Spelling.read-exactly places (b .names) good text (x .parent) (x .model) .0 g),
+            λ (p, m, S). (declared p m, Spelling.read-exactly places (b .names) good text p m .1 S),
           )
 
   read-only : (f : Refusal) → readAnswer bytes text ≡ refused f → OfBook (numberOf f) ⊎ ((numberOf f ≡ 13) ⊎ ((numberOf f ≡ 14) ⊎ (numberOf f ≡ 15)))

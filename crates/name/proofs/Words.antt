@@ -64,7 +64,12 @@ abbrev pub NoWord : List ℕ → Type 0
 NoWord [] = Unit {0}
 NoWord (b ∷ bs) = (wordByte b ≡ false) × NoWord bs
 
--- space, what stands for the end of a text, and ( ) , | > ? + *
-pub no-word : NoWord (32 ∷ 256 ∷ 40 ∷ 41 ∷ 44 ∷ 124 ∷ 62 ∷ 63 ∷ 43 ∷ 42 ∷ [])
+-- white space: space, tab, CR, LF
+pub space-no-word : NoWord (32 ∷ 9 ∷ 13 ∷ 10 ∷ [])
 unfolding wordByte laterByte startByte between
-no-word = (refl, (refl, (refl, (refl, (refl, (refl, (refl, (refl, (refl, (refl, tt))))))))))
+space-no-word = (refl, (refl, (refl, (refl, tt))))
+
+-- what stands for the end of a text, and ( ) , | > ? + *
+pub no-word : NoWord (256 ∷ 40 ∷ 41 ∷ 44 ∷ 124 ∷ 62 ∷ 63 ∷ 43 ∷ 42 ∷ [])
+unfolding wordByte laterByte startByte between
+no-word = (refl, (refl, (refl, (refl, (refl, (refl, (refl, (refl, (refl, tt)))))))))

@@ -1,10 +1,11 @@
 // Texts that have the form of a declaration, and texts that have not: two with line feeds, then each line of standard
 // input. Each line of output has the answer, and the text between `[` and `]`. In this order: house spelling; names of
-// a group in any order, a name twice, which is 15 and not 13, and `EMPTY` as a name; the forms that paper 01 names as
-// 13, and their like; brackets within brackets, and marks within groups or one after the other; commas, bars and
-// brackets that lack a neighbour; texts that end early; other words where the model stands; the rule for names; spaces
-// in each place where they may stand; spaces where none may stand, or where one is missing; other white space, and
-// bytes behind `>`; the longest declaration, and the same with a name of 33 bytes.
+// a group in any order, a name twice, which is 15 and not 13, and `EMPTY` as a name; one name in brackets and a group
+// as the whole model; marks behind other brackets and behind `EMPTY`; brackets within brackets, marks within groups,
+// commas beside bars, and marks one after the other; commas, bars and brackets that lack a neighbour; texts that end
+// early; other words where the model stands; the rule for names; spaces in each place where they may stand; spaces
+// where none may stand, or where one is missing; tabs and carriage returns in these places; bytes that are no white
+// space; bytes behind `>`; the longest declaration, and the same with a name of 33 bytes.
 
 // One line.
 fn tell(text: &[u8]) {

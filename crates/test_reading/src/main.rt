@@ -1,11 +1,14 @@
 // Declarations read by a book of five names: one line with a book that is cut short, then each line of standard input
-// with the whole book. Each line of output has the refusal's number, the parent's number, the count of factors, the
-// factor of each of the five names, the mode of each of the first five factors, and the text between `[` and `]`.
-// `tests/reading_cases.py` has the texts and what is due of each.
+// with the whole book. In a line the byte 1F stands for a line feed. Each line of output has the refusal's number, the
+// parent's number, the count of factors, the factor of each of the five names, the mode of each of the first five
+// factors, and the text between `[` and `]`. `tests/reading_cases.py` has the texts and what is due of each.
 use declaration_reading::Declaration;
 
 // How many names the book has.
 const NAMES: usize = 5;
+
+// What stands for a line feed in a line of standard input.
+const FEED: u8 = 0x1f;
 
 // The names EMPTY, a, b, c and d, and no block.
 fn small_book() -> [u8; 18] {
@@ -35,16 +38,34 @@ fn tell_cut(text: &[u8]) {
     tell(declaration_reading::read_declaration(&book, text), text);
 }
 
-fn tell_text(text: &[u8]) {
-    let book = small_book();
-    tell(declaration_reading::read_declaration(&book, text), text);
+fn instead(byte: u8, old: u8, new: u8) -> u8 {
+    if byte == old { new } else { byte }
 }
 
-fn tell_lines(text: &[u8]) {
+// One byte for another, wherever it stands.
+fn replace(line: &mut [u8], old: u8, new: u8) {
+    let mut i = 0;
+    while i < line.len() {
+        line[i] = instead(line[i], old, new);
+        i += 1;
+    }
+}
+
+// A line: read with line feeds, printed as it came.
+fn tell_line(line: &mut [u8]) {
+    let book = small_book();
+    replace(line, FEED, b'\n');
+    let read = declaration_reading::read_declaration(&book, line);
+    replace(line, b'\n', FEED);
+    tell(read, line);
+}
+
+fn tell_lines(text: &mut [u8]) {
     let mut i = 0;
     while i < text.len() {
-        tell_text(test_lines::line_at(text, i));
-        i = test_lines::next_line(text, i);
+        let next = test_lines::next_line(text, i);
+        tell_line(&mut text[i..next - 1]);
+        i = next;
     }
 }
 
@@ -53,5 +74,5 @@ fn main() {
     let mut space = io::large_buffer();
     let got = libc::read(0, &mut space);
     let n = io::count(got, &space);
-    tell_lines(&space[..n]);
+    tell_lines(&mut space[..n]);
 }

@@ -1,8 +1,9 @@
 -- `step` meets its contract.
 -- Assumes nothing.
-use mathlib.Core.Path.{sym, _∙_}
+use mathlib.Core.Path.{refl, sym, _∙_}
 use native.Mathlib.Omega.{arith}
 use borrow.Author.Tests.{not-true, not-false}
+use Rattle.declaration_states.proofs.Table.{nowhere-number}
 use Rattle.declaration_form.proofs.Tokens.{here-kind, here-on}
 use Rattle.declaration_form.proofs.Steps.{step-unfit, step-sign, step-bad, step-word}
 use borrow.Author.Needs.{needs}
@@ -13,21 +14,21 @@ returns : tie.Need-returns
 returns c =
     let start = c .before .before .before in
     let p = start .pre .0 in
-    (step-unfit (start .args .text .now) _ _ _ (p .0) (p .1) (p .3) _ _ _ (sym (c .before .fits2 .ensures) ∙ not-true _ (c .if1 .taken)), omega arith)
+    (nowhere-number 14 refl ∙ step-unfit (start .args .text .now) _ _ _ (p .0) (p .1) (p .3) _ _ _ (sym (c .before .fits2 .ensures) ∙ not-true _ (c .if1 .taken)), omega arith)
 
-sign-signal-requires : tie.Need-sign-signal-requires
-sign-signal-requires c κs =
+next-state-requires : tie.Need-next-state-requires
+next-state-requires c κs =
     let start = c .before .before .before .before .before in
     let p = start .pre .0 in
-    here-kind (start .args .text .now) _ _ _ (p .0) (p .1) (p .3)
+    (start .pre .1, here-kind (start .args .text .now) _ _ _ (p .0) (p .1) (p .3))
 
 returns-2 : tie.Need-returns-2
 returns-2 c =
-    let fitted = c .before .before .before .before in
+    let fitted = c .before .before .before in
     let start = fitted .before .before .before in
     let p = start .pre .0 in
     let fit = sym (fitted .before .fits2 .ensures) ∙ not-false _ (fitted .if1 .left) in
-    (c .next-state .ensures .0 ∙ step-sign (start .args .text .now) _ _ _ (p .0) (p .1) (p .3) _ _ _ fit _ (c .before .sign-signal .ensures .0) (c .before .before .if2 .taken), c .next-state .ensures .1)
+    (c .next-state .ensures .0 ∙ step-sign (start .args .text .now) _ _ _ (p .0) (p .1) (p .3) _ _ _ fit (c .before .if2 .taken), c .next-state .ensures .1)
 
 good-word-requires : tie.Need-good-word-requires
 good-word-requires c κs =
@@ -40,10 +41,10 @@ returns-3 : tie.Need-returns-3
 returns-3 c =
     let start = c .before .before .before .before .before .before .before in
     let p = start .pre .0 in
-    (step-bad (start .args .text .now) _ _ _ (p .0) (p .1) (p .3) _ _ _ (c .before .before .if2 .left) (sym (c .before .good-word .ensures) ∙ not-true _ (c .if3 .taken)), omega arith)
+    (nowhere-number 14 refl ∙ step-bad (start .args .text .now) _ _ _ (p .0) (p .1) (p .3) _ _ _ (c .before .before .if2 .left) (sym (c .before .good-word .ensures) ∙ not-true _ (c .if3 .taken)), omega arith)
 
-word-signal-requires : tie.Need-word-signal-requires
-word-signal-requires c κs =
+word-kind-requires : tie.Need-word-kind-requires
+word-kind-requires c κs =
     let start = c .before .before .before .before .before .before .before in
     let p = start .pre .0 in
     let h = here-on (start .args .text .now) _ _ _ (p .0) (p .1) (p .3) in
@@ -57,10 +58,10 @@ returns-4 c =
     let p = start .pre .0 in
     let fit = sym (fitted .before .fits2 .ensures) ∙ not-false _ (fitted .if1 .left) in
     let good = sym (judged .good-word .ensures) ∙ not-false _ (c .before .before .if3 .left) in
-    (c .next-state2 .ensures .0 ∙ step-word (start .args .text .now) _ _ _ (p .0) (p .1) (p .3) _ _ _ fit _ (c .before .word-signal .ensures .0) (judged .before .if2 .left) good, c .next-state2 .ensures .1)
+    (c .next-state2 .ensures .0 ∙ step-word (start .args .text .now) _ _ _ (p .0) (p .1) (p .3) _ _ _ fit _ (c .before .word-kind .ensures .0) (judged .before .if2 .left) good, c .next-state2 .ensures .1)
 
 pub step-spec : {M : Type 1} → statement M
 step-spec =
     tie.close
-    (tie.spec (λ c κs. search needs) returns sign-signal-requires (λ c κs. search needs) returns-2 good-word-requires
-    returns-3 word-signal-requires (λ c κs. search needs) returns-4)
+    (tie.spec (λ c κs. search needs) returns next-state-requires returns-2 good-word-requires
+    returns-3 word-kind-requires (λ c κs. search needs) returns-4)

@@ -1,11 +1,15 @@
 -- `walks` meets its contract: what is left is the walk from i on.
 -- Assumes nothing.
-use Prim.Native.Nat.{_-_, _≤_}
-use mathlib.Core.Path.{_≡_, refl, sym, _∙_}
+use Prim.Native.Nat.{ℕ, _-_, _≤_}
+use mathlib.Core.Path.{_≡_, refl, sym, _∙_, ap}
 use mathlib.Core.Bool.{true}
 use native.Mathlib.Omega.{arith}
+use lib.Dec.{eqb}
 use lib.ListN.{length}
 use Rattle.name.specs.Class.{classTable}
+use Rattle.declaration_walk.specs.Walk.{beforeParent}
+use Rattle.declaration_states.specs.Table.{states, stateOf}
+use Rattle.declaration_states.proofs.Table.{number-state, nowhere-number}
 use Rattle.declaration_form.specs.Step.{acceptsFrom}
 use Rattle.declaration_form.proofs.Places.{piece-told, piece-on, walk-done, walk-over, walk-next, walk-lost}
 use Rattle.declaration_form.proofs.walks.Statement.{statement}
@@ -13,7 +17,7 @@ use Rattle.declaration_form.proofs.walks.Tie as tie
 
 abbrev Inv-loop : tie.InvT-loop
 Inv-loop text at classes i₀ state₀ behind₀ i state behind =
-    (i ≤ length text) × (state ≤ 11) × (acceptsFrom text 0 true at ≡ acceptsFrom text state behind i) × (classes ≡ classTable)
+    (i ≤ length text) × (state ≤ 14) × (acceptsFrom text beforeParent true at ≡ acceptsFrom text (stateOf state) behind i) × (classes ≡ classTable)
 
 abbrev μ-loop : tie.MeasureT-loop
 μ-loop text at classes i₀ state₀ behind₀ i state behind = length text - i
@@ -22,6 +26,7 @@ class-table-requires : tie.Need-class-table-requires Inv-loop μ-loop
 class-table-requires c κs = tt
 
 loop-holds : tie.Need-loop-holds Inv-loop μ-loop
+unfolding stateOf states
 loop-holds c = (omega arith, omega arith, refl, c .class-table .ensures)
 
 returns : tie.Need-returns Inv-loop μ-loop
@@ -41,7 +46,7 @@ returns-2 : tie.Need-returns-2 Inv-loop μ-loop
 returns-2 c =
     let there = c .before .before .before in
     let head = there .before .before .before .before in
-    sym (head .loop .inv .2 ∙ walk-next _ _ _ _ _ (there .before .before .piece-at .ensures .0) (there .if1 .left) _ (c .before .step .ensures .0) ∙ walk-lost _ _ _ _ (c .if2 .taken))
+    sym (head .loop .inv .2 ∙ walk-next _ _ _ _ _ (there .before .before .piece-at .ensures .0) (there .if1 .left) _ (c .before .step .ensures .0) ∙ walk-lost _ _ _ _ (nowhere-number _ (c .if2 .taken)))
 
 loop-less : tie.Need-loop-less Inv-loop μ-loop
 loop-less c =
@@ -60,7 +65,9 @@ loop-again c =
     (piece .1, c .before .before .step .ensures .1, head .loop .inv .2 ∙ next, head .loop .inv .3)
 
 returns-3 : tie.Need-returns-3 Inv-loop μ-loop
-returns-3 c = sym (c .before .loop .inv .2 ∙ walk-done _ _ _ _ (c .loop-test .left))
+returns-3 c =
+    let l = c .before .loop in
+    sym (l .inv .2 ∙ walk-done _ _ _ _ (c .loop-test .left) ∙ ap (λ (n : ℕ). eqb n 13) (number-state _ (l .inv .1)))
 
 pub walks-spec : {M : Type 1} → statement M
 walks-spec =

@@ -9,7 +9,7 @@ use lib.ListN.{length}
 use borrow.Author.Tests.{not-true, not-false}
 use Rattle.nameset.specs.Places.{places}
 use Rattle.book.specs.Book.{namesIn}
-use Rattle.declaration_gather.specs.Gather.{knownTokens, startRows, gatherFrom}
+use Rattle.declaration_walk.specs.Gather.{knownTokens, startRows, gatherFrom}
 use Rattle.declaration_reading.specs.Place.{tokensAt}
 use Rattle.declaration_reading.proofs.Steps.{in-order, onward-to, unknown-kind, known-kind, number-same, known-stop, known-on, placed-same, left, left-start, left-on, left-stop, inside-on, factors-done, factors-unknown, factors-twice}
 use borrow.Author.Needs.{needs}

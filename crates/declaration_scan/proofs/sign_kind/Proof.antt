@@ -1,6 +1,6 @@
 -- `sign_kind` meets its contract.
 -- Assumes nothing.
-use Rattle.declaration_scan.proofs.Signs.{sign-kinds, end-sign-kind, kind-at, kind-other}
+use Rattle.declaration_scan.proofs.Signs.{sign-kinds, kind-at, kind-other}
 use Rattle.declaration_scan.proofs.sign_kind.Statement.{statement}
 use Rattle.declaration_scan.proofs.sign_kind.Tie as tie
 
@@ -29,12 +29,7 @@ returns-8 : tie.Need-returns-8
 returns-8 c = kind-at _ _ _ (c .match .keys8) (sign-kinds .1 .1 .1 .1 .1 .1 .1 .0)
 
 returns-9 : tie.Need-returns-9
-returns-9 c = kind-at _ _ _ (c .match .keys9) end-sign-kind
-
-returns-10 : tie.Need-returns-10
-returns-10 c = kind-other _ (c .match .rest .0 .0 .0 .0 .0 .0 .0 .0 .1) (c .match .rest .0 .0 .0 .0 .0 .0 .0 .1) (c .match .rest .0 .0 .0 .0 .0 .0 .1) (c .match .rest .0 .0 .0 .0 .0 .1) (c .match .rest .0 .0 .0 .0 .1) (c .match .rest .0 .0 .0 .1) (c .match .rest .0 .0 .1) (c .match .rest .0 .1) (c .match .rest .1)
+returns-9 c = kind-other _ (c .match .rest .0 .0 .0 .0 .0 .0 .0 .1) (c .match .rest .0 .0 .0 .0 .0 .0 .1) (c .match .rest .0 .0 .0 .0 .0 .1) (c .match .rest .0 .0 .0 .0 .1) (c .match .rest .0 .0 .0 .1) (c .match .rest .0 .0 .1) (c .match .rest .0 .1) (c .match .rest .1)
 
 pub sign-kind-spec : {M : Type 1} → statement M
-sign-kind-spec =
-    tie.close
-    (tie.spec returns returns-2 returns-3 returns-4 returns-5 returns-6 returns-7 returns-8 returns-9 returns-10)
+sign-kind-spec = tie.close (tie.spec returns returns-2 returns-3 returns-4 returns-5 returns-6 returns-7 returns-8 returns-9)

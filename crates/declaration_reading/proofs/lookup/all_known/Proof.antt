@@ -5,7 +5,7 @@ use mathlib.Core.Path.{_≡_, refl, sym, _∙_}
 use native.Mathlib.Omega.{arith}
 use lib.ListN.{length}
 use Rattle.book.specs.Book.{namesIn}
-use Rattle.declaration_gather.specs.Gather.{knownTokens}
+use Rattle.declaration_walk.specs.Gather.{knownTokens}
 use Rattle.declaration_reading.specs.Place.{tokensAt}
 use Rattle.declaration_reading.proofs.Steps.{in-order, onward-to, unknown-kind, known-kind, known-stop, known-on, known-over}
 use Rattle.declaration_reading.proofs.lookup.all_known.Statement.{statement}

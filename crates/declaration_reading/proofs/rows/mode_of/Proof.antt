@@ -3,20 +3,21 @@
 use Prim.Native.Nat.{ℕ}
 use mathlib.Core.Path.{_≡_, refl}
 use borrow.Author.Tests.{ne-eqb}
+use Rattle.declaration_spelling.specs.Kind.{questionKind, plusKind, starKind}
 use Rattle.declaration_reading.specs.Place.{kindMode}
 use Rattle.declaration_reading.proofs.rows.mode_of.Statement.{statement}
 use Rattle.declaration_reading.proofs.rows.mode_of.Tie as tie
 
-modes : (1 ≡ kindMode 7) × (2 ≡ kindMode 8) × (3 ≡ kindMode 9)
+modes : (1 ≡ kindMode questionKind) × (2 ≡ kindMode plusKind) × (3 ≡ kindMode starKind)
 unfolding kindMode
 modes = (refl, refl, refl)
 
 mode-at : (kind k m : ℕ) → kind ≡ k → m ≡ kindMode k → m ≡ kindMode kind
 mode-at kind k m e q = rw e q
 
-mode-none : (kind : ℕ) → (kind ≡ 7 → ⊥) → (kind ≡ 8 → ⊥) → (kind ≡ 9 → ⊥) → 0 ≡ kindMode kind
+mode-none : (kind : ℕ) → (kind ≡ questionKind → ⊥) → (kind ≡ plusKind → ⊥) → (kind ≡ starKind → ⊥) → 0 ≡ kindMode kind
 unfolding kindMode
-mode-none kind a b d = rw (ne-eqb kind 7 a, ne-eqb kind 8 b, ne-eqb kind 9 d)
+mode-none kind a b d = rw (ne-eqb kind questionKind a, ne-eqb kind plusKind b, ne-eqb kind starKind d)
 
 returns : tie.Need-returns
 returns c = mode-at _ _ _ (c .match .keys1) (modes .0)

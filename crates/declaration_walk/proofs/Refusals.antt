@@ -4,21 +4,26 @@ use Prim.Native.Nat.{ℕ, zero, suc, _<_}
 use mathlib.Core.Path.{_≡_, refl, sym, _∙_, subst}
 use mathlib.Core.Bool.{Bool, true, false, not, _&&_, true≢false, false≢true}
 use mathlib.Core.List.{List, List·Memᴰ, List·Memᴰ·tail}
-use mathlib.Core.Option.{Option, none, some}
-use mathlib.Core.Logic.{_↔_}
+use mathlib.Core.Logic.{_↔_, _⊎_, inl, inr, ⊎-elim}
 use native.Mathlib.Omega.{arith}
 use native.Mathlib.Decide.{ℕ-discrete}
 use lib.Dec.{leb}
 use lib.ListN.{length}
-use borrow.Author.Tests.{leb-false, lt-leb}
+use borrow.Author.Tests.{leb-false, lt-leb, not-false}
+use Rattle.refusal.specs.declared.Refusal.{Refusal}
 use Rattle.refusal.specs.declared.Refusal.the-variants.{NotADeclaration, UnknownName, NameTwice}
-use Rattle.refusal.specs.Answer.{given, refused, onward, refuseIf}
+use Rattle.refusal.specs.Answer.{given, refused, refuseIf}
+use Rattle.refusal.proofs.Answers.{check-refused, given-refused}
 use Rattle.declaration_spelling.specs.House.{Factor}
-use Rattle.declaration_spelling.specs.Form.{allForm, formOf}
 use Rattle.declaration_spelling.specs.Stops.{Form, modelNames, formNames, Twice, HasForm}
-use Rattle.declaration_spelling.specs.Read.{known, numbered, total, noneTwice, Declared, orRefuse, judged, readText}
+use Rattle.declaration_spelling.specs.Read.{known, Declared}
+use Rattle.declaration_spelling.proofs.Record.{numbered, allForm, total, noneTwice}
+use Rattle.declaration_spelling.proofs.Names.{GoodNames}
 use Rattle.declaration_spelling.proofs.Named.{all-law, some-law, known-in, unknown-in, twice-names}
-use Rattle.declaration_spelling.proofs.Theorem.{form-sound, form-complete}
+use Rattle.declaration_walk.specs.Gather.{textAnswer}
+use Rattle.declaration_walk.specs.Walk.{hasForm}
+use Rattle.declaration_walk.proofs.Formed.{form-sound}
+use Rattle.declaration_walk.proofs.Answer.{judged, formed-answer, unformed-answer, answer-formed}
 
 -- the three ends of a text that has the form
 unknown-is : (a b : Bool) (x : Declared) → (refuseIf (not a) UnknownName (refuseIf (not b) NameTwice (given x)) ≡ refused UnknownName) → a ≡ false
@@ -63,35 +68,32 @@ twice-law (suc n) fs = (λ e. to (leb (total n fs) 1) refl e (twice-law n fs .0)
         go (yes q) = at-top x q t
         go (no q) = and-false (leb (total n fs) 1) (noneTwice n fs) (ih (x, omega arith, t))
 
-module _ (size : ℕ) (names : List (List ℕ)) where
-  -- once the form is there, names and then repeats decide
-  formed : (text : List ℕ) (d : Form) → HasForm text d → readText size names text ≡ judged size names d
-  unfolding readText
-  formed text d F = rw (form-complete text d F)
-
-  -- a text that is not refused by 13 has the form
-  has-form : (text : List ℕ) → (readText size names text ≡ refused NotADeclaration → ⊥) → (d : Form) × HasForm text d
-  unfolding readText
-  has-form text h = go (formOf text) refl h
-    where
-      go : (o : Option Form) → formOf text ≡ o → (onward (orRefuse NotADeclaration o) (judged size names) ≡ refused NotADeclaration → ⊥) → (d : Form) × HasForm text d
-      go none q h = absurd (h refl)
-      go (some d) q h = (d, form-sound text d q)
+module _ (size : ℕ) (names : List (List ℕ)) (G : GoodNames size names) where
+  formed : (text : List ℕ) (d : Form) → HasForm text d → textAnswer size names text ≡ judged size names d
+  formed = formed-answer size names (G .small) (G .place) (G .few)
 
   -- 13: the text has not the form
-  pub refused-13 : (text : List ℕ) → (readText size names text ≡ refused NotADeclaration) ↔ ((d : Form) → HasForm text d → ⊥)
-  unfolding judged readText
-  refused-13 text = (to, from)
+  pub refused-13 : (text : List ℕ) → (textAnswer size names text ≡ refused NotADeclaration) ↔ ((d : Form) → HasForm text d → ⊥)
+  unfolding judged
+  refused-13 text = (
+    λ e d F. not-13 (allForm (known names) d) (noneTwice (length names) (numbered names (d .factors))) _ (sym (formed text d F) ∙ e),
+    unformed-answer size names text,
+  )
+
+  -- no text is refused by another number than 13, 14 and 15
+  pub refused-only : (text : List ℕ) (f : Refusal) → textAnswer size names text ≡ refused f → (NotADeclaration ≡ f) ⊎ ((UnknownName ≡ f) ⊎ (NameTwice ≡ f))
+  unfolding textAnswer judged
+  refused-only text f e =
+      ⊎-elim (λ h. inl (h .1))
+      (λ h. let (d, F) = form-sound text (not-false _ (h .0)) in by-names d (sym (formed text d F) ∙ e))
+      (check-refused (not (hasForm text)) NotADeclaration _ f e)
     where
-      to : readText size names text ≡ refused NotADeclaration → (d : Form) → HasForm text d → ⊥
-      to e d F = not-13 (allForm (known names) d) (noneTwice (length names) (numbered names (d .factors))) _ (sym (formed text d F) ∙ e)
-
-      at : (o : Option Form) → formOf text ≡ o → ((d : Form) → HasForm text d → ⊥) → onward (orRefuse NotADeclaration o) (judged size names) ≡ refused NotADeclaration
-      at none q h = refl
-      at (some d) q h = absurd (h d (form-sound text d q))
-
-      from : ((d : Form) → HasForm text d → ⊥) → readText size names text ≡ refused NotADeclaration
-      from h = at (formOf text) refl h
+      by-names : (d : Form) → judged size names d ≡ refused f → (NotADeclaration ≡ f) ⊎ ((UnknownName ≡ f) ⊎ (NameTwice ≡ f))
+      by-names d q =
+          ⊎-elim (λ h. inr (inl (h .1)))
+          (λ h. ⊎-elim (λ k. inr (inr (k .1))) (λ k. absurd (given-refused _ f (k .1)))
+          (check-refused (not (noneTwice (length names) (numbered names (d .factors)))) NameTwice _ f (h .1)))
+          (check-refused (not (allForm (known names) d)) UnknownName _ f q)
 
   -- the names of a form that the book has
   unknown-form : (d : Form) → (allForm (known names) d ≡ false) ↔ ((x : List ℕ) × List·Memᴰ x (formNames d) × (¬ List·Memᴰ x names))
@@ -106,20 +108,20 @@ module _ (size : ℕ) (names : List (List ℕ)) where
 
   -- 14: it has the form, and a name of it is not in the book
   pub refused-14 : (text : List ℕ) →
-      (readText size names text ≡ refused UnknownName) ↔ ((d : Form) × HasForm text d × ((x : List ℕ) × List·Memᴰ x (formNames d) × (¬ List·Memᴰ x names)))
+      (textAnswer size names text ≡ refused UnknownName) ↔ ((d : Form) × HasForm text d × ((x : List ℕ) × List·Memᴰ x (formNames d) × (¬ List·Memᴰ x names)))
   unfolding judged
-  refused-14 text = (λ e. to e (has-form text (λ q. false≢true cc)), λ (d, F, u). formed text d F ∙ rw (unknown-form d .1 u))
+  refused-14 text = (λ e. to e (answer-formed size names text (λ q. false≢true cc)), λ (d, F, u). formed text d F ∙ rw (unknown-form d .1 u))
     where
-      to : readText size names text ≡ refused UnknownName → ((d : Form) × HasForm text d) →
+      to : textAnswer size names text ≡ refused UnknownName → ((d : Form) × HasForm text d) →
           (d : Form) × HasForm text d × ((x : List ℕ) × List·Memᴰ x (formNames d) × (¬ List·Memᴰ x names))
       to e (d, F) =
           (d, F, unknown-form d .0 (unknown-is (allForm (known names) d) (noneTwice (length names) (numbered names (d .factors))) _ (sym (formed text d F) ∙ e)))
 
   -- 15: it has the form, all its names are in the book, and one comes twice in the model
-  pub refused-15 : (text : List ℕ) → (readText size names text ≡ refused NameTwice)
+  pub refused-15 : (text : List ℕ) → (textAnswer size names text ≡ refused NameTwice)
       ↔ ((d : Form) × HasForm text d × ((x : List ℕ) → List·Memᴰ x (formNames d) → List·Memᴰ x names) × Twice (modelNames (d .factors)))
   unfolding judged formNames
-  refused-15 text = (λ e. to e (has-form text (λ q. false≢true cc)), from)
+  refused-15 text = (λ e. to e (answer-formed size names text (λ q. false≢true cc)), from)
     where
       twice-form : (d : Form) → ((x : List ℕ) → List·Memᴰ x (formNames d) → List·Memᴰ x names) → (noneTwice (length names) (numbered names (d .factors)) ≡ false) ↔ Twice (modelNames (d .factors))
       twice-form d k =
@@ -127,12 +129,12 @@ module _ (size : ℕ) (names : List (List ℕ)) where
           let t = twice-names names (d .factors) (λ x m. known-in names x .1 (k x (List·Memᴰ·tail m))) in
           (λ e. t .0 (n .0 e), λ w. n .1 (t .1 w))
 
-      to : readText size names text ≡ refused NameTwice → ((d : Form) × HasForm text d) →
+      to : textAnswer size names text ≡ refused NameTwice → ((d : Form) × HasForm text d) →
           (d : Form) × HasForm text d × ((x : List ℕ) → List·Memᴰ x (formNames d) → List·Memᴰ x names) × Twice (modelNames (d .factors))
       to e (d, F) =
           let p = twice-is (allForm (known names) d) (noneTwice (length names) (numbered names (d .factors))) _ (sym (formed text d F) ∙ e) in
           let k = known-form d .0 (p .0) in
           (d, F, k, twice-form d k .0 (p .1))
 
-      from : ((d : Form) × HasForm text d × ((x : List ℕ) → List·Memᴰ x (formNames d) → List·Memᴰ x names) × Twice (modelNames (d .factors))) → readText size names text ≡ refused NameTwice
+      from : ((d : Form) × HasForm text d × ((x : List ℕ) → List·Memᴰ x (formNames d) → List·Memᴰ x names) × Twice (modelNames (d .factors))) → textAnswer size names text ≡ refused NameTwice
       from (d, F, k, t) = formed text d F ∙ rw (known-form d .1 k, twice-form d k .1 t)

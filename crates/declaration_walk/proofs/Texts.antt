@@ -1,5 +1,4 @@
--- The texts of crate `declaration_spelling` with their answers, by the walk: one equation over the whole list, proved
--- by computing both sides.
+-- Texts that are read or refused: one equation over the whole list, proved by computing both sides.
 -- Assumes nothing.
 use mathlib.Core.Path.{_≡_, refl}
 use mathlib.Core.List.{map}
@@ -12,11 +11,12 @@ use Rattle.model.specs.Record.{emptyModel}
 use Rattle.declaration_spelling.specs.Text.{bytes}
 use Rattle.declaration_spelling.specs.Token.{isSpace}
 use Rattle.declaration_spelling.specs.House.{opening, emptyWord}
-use Rattle.declaration_spelling.specs.Form.{same, strip, sign, atFront, spaceBefore, longer, letterBefore, byteBefore, cut, tokens}
+use Rattle.declaration_spelling.specs.Cut.{same, strip, sign, atFront, spaceBefore, longer, letterBefore, byteBefore, cut, tokens}
+use Rattle.declaration_spelling.specs.Kind.{markKind, tokenKind}
 use Rattle.declaration_spelling.specs.Read.{known, numberFor}
-use Rattle.declaration_spelling.specs.Texts.{Line, lineNames, lines}
-use Rattle.declaration_walk.specs.Walk.{signalOf, table, stepOf, isWord, fitsAfter, passes, allPass, accepts, acceptsRest, hasForm}
-use Rattle.declaration_gather.specs.Gather.{startRows, isFree, withName, nextFactor, withMode, takeToken, andThen, gatherFrom, modelOf, factorsAnswer, beginsWithWord, contentAnswer, tokensAnswer, textAnswer}
+use Rattle.declaration_walk.specs.Texts.{Line, lineNames, lines}
+use Rattle.declaration_walk.specs.Walk.{arrows, along, step, numberOf, walk, isWord, kindFits, passes, allPass, accepts, acceptsRest, hasForm}
+use Rattle.declaration_walk.specs.Gather.{startRows, isFree, withName, nextFactor, withMode, takeToken, andThen, gatherFrom, modelOf, factorsAnswer, beginsWithWord, contentAnswer, tokensAnswer, textAnswer}
 
 -- Line by line, the answer to the text is the one that the list has.
 pub answered : map (λ (l : Line). textAnswer 5 (lineNames l) (bytes (l .text))) lines ≡ map (λ (l : Line). l .answer) lines
@@ -29,7 +29,7 @@ unfolding
     -- the text in tokens
     isSpace opening emptyWord same strip sign atFront spaceBefore longer letterBefore byteBefore cut tokens
     -- the walk
-    signalOf table stepOf isWord fitsAfter passes allPass accepts acceptsRest hasForm
+    markKind tokenKind arrows along step numberOf walk isWord kindFits passes allPass accepts acceptsRest hasForm
     -- the record filled
     emptyModel startRows isFree withName nextFactor withMode takeToken andThen gatherFrom modelOf
     -- the answer

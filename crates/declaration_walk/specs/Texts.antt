@@ -42,32 +42,66 @@ lines =
     ∷ abcd "<!ELEMENT b EMPTY  >" (read 1 0 (255 ∷ 255 ∷ 255 ∷ 255 ∷ 255 ∷ []) (0 ∷ 0 ∷ 0 ∷ 0 ∷ 0 ∷ []))
     ∷ emptyNamed "<!ELEMENT EMPTY EMPTY>" (read 0 0 (255 ∷ 255 ∷ 255 ∷ 255 ∷ 255 ∷ []) (0 ∷ 0 ∷ 0 ∷ 0 ∷ 0 ∷ []))
     ∷ emptyNamed "<!ELEMENT EMPTY (EMPTY)>" (read 0 1 (0 ∷ 255 ∷ 255 ∷ 255 ∷ 255 ∷ []) (0 ∷ 0 ∷ 0 ∷ 0 ∷ 0 ∷ []))
+    -- paper 02, U1: white space, one group as the whole model, one name in its own brackets
+    ∷ abcd "<!ELEMENT\ta\r\n(b)>" (read 0 1 (255 ∷ 0 ∷ 255 ∷ 255 ∷ 255 ∷ []) (0 ∷ 0 ∷ 0 ∷ 0 ∷ 0 ∷ []))
+    ∷ abcd "<!ELEMENT b EMPTY\n>" (read 1 0 (255 ∷ 255 ∷ 255 ∷ 255 ∷ 255 ∷ []) (0 ∷ 0 ∷ 0 ∷ 0 ∷ 0 ∷ []))
+    ∷ abcd "<!ELEMENT c ( a\n|\tb )+>" (read 2 1 (0 ∷ 0 ∷ 255 ∷ 255 ∷ 255 ∷ []) (2 ∷ 0 ∷ 0 ∷ 0 ∷ 0 ∷ []))
+    ∷ abcd "<!ELEMENT c (a)?>" (read 2 1 (0 ∷ 255 ∷ 255 ∷ 255 ∷ 255 ∷ []) (1 ∷ 0 ∷ 0 ∷ 0 ∷ 0 ∷ []))
+    ∷ abcd "<!ELEMENT c (a )*>" (read 2 1 (0 ∷ 255 ∷ 255 ∷ 255 ∷ 255 ∷ []) (3 ∷ 0 ∷ 0 ∷ 0 ∷ 0 ∷ []))
+    ∷ abcd "<!ELEMENT c (b|a)>" (read 2 1 (0 ∷ 0 ∷ 255 ∷ 255 ∷ 255 ∷ []) (0 ∷ 0 ∷ 0 ∷ 0 ∷ 0 ∷ []))
+    ∷ abcd "<!ELEMENT c (a|b)*>" (read 2 1 (0 ∷ 0 ∷ 255 ∷ 255 ∷ 255 ∷ []) (3 ∷ 0 ∷ 0 ∷ 0 ∷ 0 ∷ []))
+    ∷ abcd "<!ELEMENT c ((a))>" (read 2 1 (0 ∷ 255 ∷ 255 ∷ 255 ∷ 255 ∷ []) (0 ∷ 0 ∷ 0 ∷ 0 ∷ 0 ∷ []))
+    ∷ abcd "<!ELEMENT c ( (a) )>" (read 2 1 (0 ∷ 255 ∷ 255 ∷ 255 ∷ 255 ∷ []) (0 ∷ 0 ∷ 0 ∷ 0 ∷ 0 ∷ []))
+    ∷ abcd "<!ELEMENT c ((a)*)>" (read 2 1 (0 ∷ 255 ∷ 255 ∷ 255 ∷ 255 ∷ []) (3 ∷ 0 ∷ 0 ∷ 0 ∷ 0 ∷ []))
+    ∷ abcd "<!ELEMENT c ((a)?,b)>" (read 2 2 (0 ∷ 1 ∷ 255 ∷ 255 ∷ 255 ∷ []) (1 ∷ 0 ∷ 0 ∷ 0 ∷ 0 ∷ []))
+    ∷ abcd "<!ELEMENT c (b,(a)+)>" (read 2 2 (1 ∷ 0 ∷ 255 ∷ 255 ∷ 255 ∷ []) (0 ∷ 2 ∷ 0 ∷ 0 ∷ 0 ∷ []))
+    ∷ emptyNamed "<!ELEMENT EMPTY (EMPTY)*>" (read 0 1 (0 ∷ 255 ∷ 255 ∷ 255 ∷ 255 ∷ []) (3 ∷ 0 ∷ 0 ∷ 0 ∷ 0 ∷ []))
+    -- 13
     ∷ abcd "<!ELEMENTa (b)>" (refused NotADeclaration)
     ∷ abcd "<!ELEMENT a(b)>" (refused NotADeclaration)
     ∷ abcd "<!ELEMENT a (b ?)>" (refused NotADeclaration)
     ∷ abcd "<!ELEMENT a (b)> " (refused NotADeclaration)
     ∷ abcd "<!ELEMENT a (b)>\n" (refused NotADeclaration)
-    ∷ abcd "<!ELEMENT a ((b),c)>" (refused NotADeclaration)
-    ∷ abcd "<!ELEMENT a (b|c)>" (refused NotADeclaration)
-    ∷ abcd "<!ELEMENT a (b)*>" (refused NotADeclaration)
-    ∷ abcd "<!ELEMENT a (b,c)+>" (refused NotADeclaration)
+    ∷ abcd "\n<!ELEMENT a (b)>" (refused NotADeclaration)
     ∷ abcd "<!ELEMENT a ()>" (refused NotADeclaration)
     ∷ abcd "<!ELEMENT a (b,)>" (refused NotADeclaration)
+    ∷ abcd "<!ELEMENT a (b|c,d)>" (refused NotADeclaration)
     ∷ abcd "<!ELEMENT a ANY>" (refused NotADeclaration)
     ∷ abcd "<!ELEMENT a EMPTYx>" (refused NotADeclaration)
+    ∷ abcd "<!ELEMENT a EMPTY*>" (refused NotADeclaration)
     ∷ abcd "<!ELEMENT a empty>" (refused NotADeclaration)
     ∷ abcd "<!ELEMENT a (1b)>" (refused NotADeclaration)
     ∷ abcd "<!ELEMENT a ((b|c) *)>" (refused NotADeclaration)
     ∷ abcd "<!ELEMENT a (xxxxxxxxxxxxxxxxxxxxxxxxxxxxxxxxx)>" (refused NotADeclaration)
     ∷ abcd " <!ELEMENT a (b)>" (refused NotADeclaration)
     ∷ abcd "<!element a (b)>" (refused NotADeclaration)
+    -- 13, on the other side of U1's border
+    ∷ abcd "<!ELEMENT c ((a|b))*>" (refused NotADeclaration)
+    ∷ abcd "<!ELEMENT c ((a))?>" (refused NotADeclaration)
+    ∷ abcd "<!ELEMENT c ((a))*>" (refused NotADeclaration)
+    ∷ abcd "<!ELEMENT c (a) *>" (refused NotADeclaration)
+    ∷ abcd "<!ELEMENT c (a)\n?>" (refused NotADeclaration)
+    ∷ abcd "<!ELEMENT c (a|b) *>" (refused NotADeclaration)
+    ∷ abcd "<!ELEMENT c ((a?),b)>" (refused NotADeclaration)
+    ∷ abcd "<!ELEMENT c ((a)|b)>" (refused NotADeclaration)
+    ∷ abcd "<!ELEMENT c (((a)))>" (refused NotADeclaration)
+    ∷ abcd "<!ELEMENT c (a,b)+>" (refused NotADeclaration)
+    ∷ abcd "<!ELEMENT c (a?)*>" (refused NotADeclaration)
+    ∷ abcd "<!ELEMENT c (a)**>" (refused NotADeclaration)
+    -- 14 and 15
     ∷ abcd "<!ELEMENT a (z)>" (refused UnknownName)
     ∷ abcd "<!ELEMENT a (z,z)>" (refused UnknownName)
     ∷ abcd "<!ELEMENT a (b,b,z)>" (refused UnknownName)
+    ∷ abcd "<!ELEMENT a (z)?>" (refused UnknownName)
+    ∷ abcd "<!ELEMENT a (b|b|z)*>" (refused UnknownName)
+    ∷ abcd "<!ELEMENT a ((z),b,b)>" (refused UnknownName)
     ∷ abcd "<!ELEMENT z (b,b)>" (refused UnknownName)
     ∷ abcd "<!ELEMENT a (xxxxxxxxxxxxxxxxxxxxxxxxxxxxxxxx)>" (refused UnknownName)
     ∷ abcd "<!ELEMENT a (b,b)>" (refused NameTwice)
     ∷ abcd "<!ELEMENT a ((b|b))>" (refused NameTwice)
+    ∷ abcd "<!ELEMENT a (a|a)>" (refused NameTwice)
+    ∷ abcd "<!ELEMENT a (b|c|b)+>" (refused NameTwice)
+    ∷ abcd "<!ELEMENT a ((b),b)>" (refused NameTwice)
     ∷ abcd "<!ELEMENT a (b,(c|b)*)>" (refused NameTwice)
     ∷ abcd "<!ELEMENT a ((b|c|b)*)>" (refused NameTwice)
     ∷ abcd "<!ELEMENT a (b,c,b?)>" (refused NameTwice)

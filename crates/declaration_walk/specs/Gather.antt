@@ -1,5 +1,6 @@
 -- A means: a text that has the form of a declaration, read token by token: every name looked up (14), then the record
--- filled, a name twice (15); `text-answer` in proofs/Gathered.antt says that it is what the reader answers.
+-- filled, a name twice (15). `read-exactly` in proofs/Theorem.antt joins it to `Spelled`, proofs/Refusals.antt to the
+-- conditions of 13, 14 and 15.
 -- Assumes nothing.
 use Prim.Native.Nat.{ℕ, zero, suc}
 use mathlib.Core.Bool.{Bool, false, cond, not}
@@ -12,14 +13,11 @@ use Rattle.refusal.specs.Answer.{Answer, given, refused, onward, refuseIf}
 use Rattle.model.specs.declared.Model.{Model}
 use Rattle.model.specs.Record.{noFactor, emptyModel}
 use Rattle.declaration_spelling.specs.Token.{Token, word, lpar, rpar, comma, bar, end, mark, other}
-use Rattle.declaration_spelling.specs.Form.{cut, tokens}
+use Rattle.declaration_spelling.specs.Cut.{cut, tokens}
 use Rattle.declaration_spelling.specs.Read.{known, numberFor, Declared, declared, orRefuse}
-use Rattle.declaration_walk.specs.Walk.{isWord, passes, allPass, hasForm}
+use Rattle.declaration_walk.specs.Walk.{isWord, allPass, hasForm}
 
 -- ---- every name is in the book
-
-abbrev pub knownToken : List (List ℕ) → Token → Bool
-knownToken names t = passes (known names) t
 
 abbrev pub knownTokens : List (List ℕ) → List Token → Bool
 knownTokens names ts = allPass (known names) ts

@@ -17,7 +17,7 @@ use Rattle.declaration_spelling.specs.Spelled.{times}
 use Rattle.declaration_spelling.proofs.Tests.{none-some, some-injective}
 use Rattle.declaration_spelling.proofs.Names.{Below}
 use Rattle.declaration_spelling.proofs.Numbers.{times-more, times-first}
-use Rattle.declaration_gather.specs.Gather.{Rows, isFree, withName, nextFactor, withMode, andThen}
+use Rattle.declaration_walk.specs.Gather.{Rows, isFree, withName, nextFactor, withMode, andThen}
 
 -- ---- by numbers
 

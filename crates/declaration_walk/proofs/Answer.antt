@@ -1,41 +1,45 @@
--- The walk's answer is the reader's: for a text that has the form, and then for every text.
+-- What is answered to a text: 13 without the form, else by its names and its repeats.
 -- Assumes nothing.
 use Prim.Native.Nat.{ℕ, zero, suc, _+_, _≤_, _<_}
 use mathlib.Core.Path.{_≡_, refl, sym, _∙_, ap}
 use mathlib.Core.Bool.{Bool, true, false, not, _&&_, true≢false, false≢true}
-use mathlib.Core.List.{List, [], _∷_, _++_}
+use mathlib.Core.List.{List, [], _∷_}
 use mathlib.Core.Option.{Option, none, some}
+use mathlib.Core.Logic.{inl, inr}
 use native.Mathlib.Omega.{arith}
 use native.Mathlib.Nat.{zero-add}
 use lib.ListN.{length, replicate, length-replicate, drop}
 use Rattle.refusal.specs.declared.Refusal.the-variants.{NotADeclaration, UnknownName, NameTwice}
-use Rattle.refusal.specs.Answer.{Answer, given, onward, refuseIf}
-use Rattle.name.specs.Rule.{isName}
+use Rattle.refusal.specs.Answer.{Answer, given, refused, onward, refuseIf}
 use Rattle.model.specs.declared.Model.{Model}
 use Rattle.model.specs.Record.{noFactor, emptyModel}
 use Rattle.model.proofs.Empty.{replicate-at}
-use Rattle.declaration_spelling.specs.Token.{word, lpar}
-use Rattle.declaration_spelling.specs.House.{Factor, opening}
-use Rattle.declaration_spelling.specs.Spelled.{factorTokens, othersTokens, bodyTokens}
-use Rattle.declaration_spelling.specs.Form.{cut, tokens, allFactors, allForm, formOf}
-use Rattle.declaration_spelling.specs.Read.{known, numberFor, numbered, total, noneTwice, valuesFrom, placeFrom, modeAt, recordOf, Declared, declared, orRefuse, judged, readText}
-use Rattle.declaration_spelling.specs.Stops.{Form, Full, Small, HasForm}
-use Rattle.declaration_spelling.proofs.Tests.{and-is}
-use Rattle.declaration_spelling.proofs.Named.{all-law}
-use Rattle.declaration_spelling.proofs.Bytes.{name-word}
-use Rattle.declaration_spelling.proofs.Cutting.{cut-complete}
-use Rattle.declaration_spelling.proofs.Tree.{proper-body, full-numbered, small-numbered}
+use Rattle.declaration_spelling.specs.Token.{Token, word}
+use Rattle.declaration_spelling.specs.House.{Factor}
+use Rattle.declaration_spelling.specs.Spelled.{IsModel}
+use Rattle.declaration_spelling.specs.Cut.{cut, tokens}
+use Rattle.declaration_spelling.specs.Stops.{Form, HasForm}
+use Rattle.declaration_spelling.specs.Read.{known, numberFor, Declared, declared, orRefuse}
+use Rattle.declaration_spelling.proofs.Record.{numbered, allFactors, allForm, total, noneTwice, valuesFrom, placeFrom, modeAt, recordOf}
 use Rattle.declaration_spelling.proofs.Names.{AllBelow, factors-known}
+use Rattle.declaration_spelling.proofs.Shape.{Full, Small, model-shape, full-numbered, small-numbered}
 use Rattle.declaration_spelling.proofs.Numbers.{once-all, values-is, place-none, total-le, few-factors}
-use Rattle.declaration_spelling.proofs.Theorem.{form-sound}
-use Rattle.declaration_walk.specs.Walk.{isWord}
-use Rattle.declaration_walk.proofs.Runs.{found}
-use Rattle.declaration_walk.proofs.Formed.{form-found}
+use Rattle.declaration_walk.specs.Walk.{isWord, hasForm}
+use Rattle.declaration_walk.specs.Gather.{Rows, startRows, andThen, modelOf, factorsAnswer, beginsWithWord, contentAnswer, tokensAnswer, textAnswer}
 use Rattle.declaration_walk.proofs.Words.{model-pass}
-use Rattle.declaration_gather.specs.Gather.{Rows, startRows, andThen, modelOf, factorsAnswer, beginsWithWord, contentAnswer, tokensAnswer, textAnswer}
-use Rattle.declaration_gather.proofs.Rows.{placeFactor, placeOthers, row}
-use Rattle.declaration_gather.proofs.Factors.{mark, Filled, all-filled, all-place}
-use Rattle.declaration_gather.proofs.Tokens.{byNumber, model-taken}
+use Rattle.declaration_walk.proofs.Formed.{form-sound, form-complete, form-tokens}
+use Rattle.declaration_walk.proofs.Rows.{placeFactor, placeOthers, row}
+use Rattle.declaration_walk.proofs.Factors.{mark, Filled, all-filled, all-place}
+use Rattle.declaration_walk.proofs.Tokens.{byNumber, model-taken}
+
+-- ---- what is answered to a text that has the form
+
+-- 14, then 15, else the parent and the record
+unfoldable pub judged : ℕ → List (List ℕ) → Form → Answer Declared
+judged size names d =
+    refuseIf (not (allForm (known names) d)) UnknownName
+    (refuseIf (not (noneTwice (length names) (numbered names (d .factors)))) NameTwice
+    (given (declared (numberFor names (d .parent)) (recordOf size (numbered names (d .factors))))))
 
 -- ---- the record that is filled
 
@@ -116,57 +120,64 @@ module _ (size : ℕ) (names : List (List ℕ)) (fits : size ≤ 255) (some-plac
       placed-answer size (length names) fits some-place few (byNumber size names f) (numbered names fs)
       (full-numbered names (f ∷ fs) full) (factors-known names (f ∷ fs) e .1) (small-numbered names (f ∷ fs) small) p
 
-  factors-answer : (p : ℕ) (f : Factor (List ℕ)) (fs : List (Factor (List ℕ))) → Full (f ∷ fs) → Small (f ∷ fs) →
-      factorsAnswer size names p (lpar ∷ factorTokens f (othersTokens fs)) ≡ refuseIf (not (allFactors (known names) (f ∷ fs))) UnknownName (Single p (f ∷ fs))
-  unfolding factorsAnswer
-  factors-answer p f fs full small = rw (model-pass (known names) f fs, model-taken size names f fs (startRows size)) (go (allFactors (known names) (f ∷ fs)) refl)
+  -- a model with a factor begins with a bracket
+  no-word : (f : Factor (List ℕ)) (fs : List (Factor (List ℕ))) (ts : List Token) → IsModel (f ∷ fs) ts → beginsWithWord ts ≡ false
+  unfolding beginsWithWord isWord
+  no-word f fs ts (inl (us, after, e, F, L)) = rw e
+  no-word f fs ts (inr (e, (x, xs, q, l, r))) = rw r
+
+  factors-answer : (p : ℕ) (f : Factor (List ℕ)) (fs : List (Factor (List ℕ))) (ts : List Token) → IsModel (f ∷ fs) ts →
+      contentAnswer size names p ts ≡ refuseIf (not (allFactors (known names) (f ∷ fs))) UnknownName (Single p (f ∷ fs))
+  unfolding contentAnswer factorsAnswer
+  factors-answer p f fs ts M =
+      let (full, small) = model-shape (f ∷ fs) ts M in
+      rw (no-word f fs ts M, model-pass (known names) f fs ts M, model-taken size names f fs ts (startRows size) M) (go full small (allFactors (known names) (f ∷ fs)) refl)
     where
-      go : (b : Bool) → allFactors (known names) (f ∷ fs) ≡ b → refuseIf (not b) UnknownName (Walked p f fs) ≡ refuseIf (not b) UnknownName (Single p (f ∷ fs))
-      go true e = walked p f fs full small e
-      go false e = refl
+      go : Full (f ∷ fs) → Small (f ∷ fs) → (b : Bool) → allFactors (known names) (f ∷ fs) ≡ b → refuseIf (not b) UnknownName (Walked p f fs) ≡ refuseIf (not b) UnknownName (Single p (f ∷ fs))
+      go full small true e = walked p f fs full small e
+      go full small false e = refl
 
   empty-answer : (p : ℕ) → given (declared p (emptyModel size)) ≡ refuseIf (not (allFactors (known names) [])) UnknownName (Single p [])
   unfolding allFactors numbered
   empty-answer p = rw (none-twice-nil (length names)) (ap (λ (m : Model). given (declared p m)) (sym (empty-record size)))
 
-  model-answer : (p : ℕ) (fs : List (Factor (List ℕ))) → Full fs → Small fs →
-      contentAnswer size names p (bodyTokens fs) ≡ refuseIf (not (allFactors (known names) fs)) UnknownName (Single p fs)
-  unfolding contentAnswer bodyTokens beginsWithWord isWord
-  model-answer p [] full small = empty-answer p
-  model-answer p (f ∷ fs) full small = factors-answer p f fs full small
+  model-answer : (p : ℕ) (fs : List (Factor (List ℕ))) (ts : List Token) → IsModel fs ts →
+      contentAnswer size names p ts ≡ refuseIf (not (allFactors (known names) fs)) UnknownName (Single p fs)
+  unfolding contentAnswer beginsWithWord isWord
+  model-answer p [] ts e = rw e (empty-answer p)
+  model-answer p (f ∷ fs) ts M = factors-answer p f fs ts M
 
   first-unknown : (a b : Bool) (A M : Answer Declared) → M ≡ refuseIf (not b) UnknownName A → refuseIf (not a) UnknownName M ≡ refuseIf (not (a && b)) UnknownName A
   first-unknown true b A M e = e
   first-unknown false b A M e = refl
 
   -- the tokens of a declaration
-  tokens-answer : (d : Form) → Full (d .factors) → Small (d .factors) → tokensAnswer size names (word (d .parent) ∷ bodyTokens (d .factors)) ≡ judged size names d
+  tokens-answer : (d : Form) (ts : List Token) → IsModel (d .factors) ts → tokensAnswer size names (word (d .parent) ∷ ts) ≡ judged size names d
   unfolding tokensAnswer judged allForm
-  tokens-answer d full small =
+  tokens-answer d ts M =
       first-unknown (known names (d .parent)) (allFactors (known names) (d .factors)) (Single (numberFor names (d .parent)) (d .factors))
-      (contentAnswer size names (numberFor names (d .parent)) (bodyTokens (d .factors))) (model-answer (numberFor names (d .parent)) (d .factors) full small)
+      (contentAnswer size names (numberFor names (d .parent)) ts) (model-answer (numberFor names (d .parent)) (d .factors) ts M)
 
-  behind-opening : (s t : List ℕ) → s ≡ opening ++ t → drop 9 s ≡ t
-  unfolding opening
-  behind-opening s t e = ap (drop 9) e
+  -- once the form is there, names and then repeats decide
+  pub formed-answer : (text : List ℕ) (d : Form) → HasForm text d → textAnswer size names text ≡ judged size names d
+  unfolding textAnswer
+  formed-answer text d F =
+      rw (form-complete text d F) (ap (tokensAnswer size names) (form-tokens text d F) ∙ tokens-answer d (F .spelled .tokens) (F .spelled .model))
 
-  -- the tokens of a text that has the form
-  form-tokens : (text : List ℕ) (d : Form) → HasForm text d → tokens (cut (drop 9 text) .pieces) ≡ word (d .parent) ∷ bodyTokens (d .factors)
-  unfolding allForm
-  form-tokens text d F =
-      let g = and-is (isName (d .parent)) (allFactors isName (d .factors)) .0 (all-law isName d .1 (F .good)) in
-      let t = F .spelled .rest in
-      let c = cut-complete (word opening) (word (d .parent) ∷ bodyTokens (d .factors)) t (name-word (d .parent) (g .0), proper-body (d .factors) (g .1) (F .small)) (F .spelled .spaced) in
-      ap (λ (s : List ℕ). tokens (cut s .pieces)) (behind-opening text t (F .spelled .opens)) ∙ c .0
+-- without it the answer is 13
+pub unformed-answer : (size : ℕ) (names : List (List ℕ)) (text : List ℕ) → ((d : Form) → HasForm text d → ⊥) → textAnswer size names text ≡ refused NotADeclaration
+unfolding textAnswer
+unformed-answer size names text h = go (hasForm text) refl
+  where
+    go : (b : Bool) → hasForm text ≡ b → refuseIf (not (hasForm text)) NotADeclaration (tokensAnswer size names (tokens (cut (drop 9 text) .pieces))) ≡ refused NotADeclaration
+    go true q = let (d, F) = form-sound text q in absurd (h d F)
+    go false q = rw q
 
-  pub form-answer : (text : List ℕ) (d : Form) → HasForm text d → tokensAnswer size names (tokens (cut (drop 9 text) .pieces)) ≡ judged size names d
-  form-answer text d F = ap (tokensAnswer size names) (form-tokens text d F) ∙ tokens-answer d (F .full) (F .small)
-
-  -- the walk's answer is the reader's
-  pub text-answer : (text : List ℕ) → textAnswer size names text ≡ readText size names text
-  unfolding textAnswer readText found
-  text-answer text = rw (← form-found text) (go (formOf text) refl)
-    where
-      go : (o : Option Form) → formOf text ≡ o → refuseIf (not (found (formOf text))) NotADeclaration (tokensAnswer size names (tokens (cut (drop 9 text) .pieces))) ≡ onward (orRefuse NotADeclaration (formOf text)) (judged size names)
-      go none e = rw e
-      go (some d) e = rw e (form-answer text d (form-sound text d e))
+-- what is answered by another number than 13 has the form
+pub answer-formed : (size : ℕ) (names : List (List ℕ)) (text : List ℕ) → (textAnswer size names text ≡ refused NotADeclaration → ⊥) → (d : Form) × HasForm text d
+unfolding textAnswer
+answer-formed size names text h = go (hasForm text) refl h
+  where
+    go : (b : Bool) → hasForm text ≡ b → (refuseIf (not b) NotADeclaration (tokensAnswer size names (tokens (cut (drop 9 text) .pieces))) ≡ refused NotADeclaration → ⊥) → (d : Form) × HasForm text d
+    go true q k = form-sound text q
+    go false q k = absurd (k refl)

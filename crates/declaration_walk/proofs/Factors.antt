@@ -14,11 +14,11 @@ use borrow.Author.Tests.{eq-eqb, ne-eqb}
 use Rattle.model.specs.Record.{noFactor}
 use Rattle.declaration_spelling.specs.House.{Factor}
 use Rattle.declaration_spelling.specs.Spelled.{times}
-use Rattle.declaration_spelling.specs.Read.{total, placeFrom, modeAt}
+use Rattle.declaration_spelling.proofs.Record.{total, placeFrom, modeAt}
 use Rattle.declaration_spelling.proofs.Tests.{some-injective}
 use Rattle.declaration_spelling.proofs.Names.{Below, AllBelow}
-use Rattle.declaration_gather.specs.Gather.{Rows, nextFactor, withMode, andThen}
-use Rattle.declaration_gather.proofs.Rows.{placeNames, placeFactor, placeOthers, then-some, then-join, row, moved, next-told, next-free, NamesFilled, names-placed, names-place}
+use Rattle.declaration_walk.specs.Gather.{Rows, nextFactor, withMode, andThen}
+use Rattle.declaration_walk.proofs.Rows.{placeNames, placeFactor, placeOthers, then-some, then-join, row, moved, next-told, next-free, NamesFilled, names-placed, names-place}
 
 abbrev pub mark : List ℕ → ℕ → ℕ
 mark mode k = getD mode k 0
