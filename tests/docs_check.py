@@ -14,7 +14,7 @@ The checks:
 - in docs/FORMAT.md, the offsets in each code block `hex` are right, and dtd prints for its bytes the next code block
   `dtd`; for the bytes in a table with a column "`dtd` prints" it prints what the table says;
 - in docs/FORMAT.md, test_reading, whose book has the names EMPTY, a, b, c and d, answers for the texts in a table with
-  a column "Result" what the table says. It takes lines, so it gets no text with a line feed.
+  a column "Result" what the table says. It takes lines, in which the byte 1F stands for a line feed.
 
 Each finding is a line FILE:LINE: message. The exit status is 1 where there is one.
 """
@@ -45,7 +45,8 @@ FILE_THEN_NAMES = re.compile(FILE + r"(?:: | the \w+ )" + NAMES)
 NAMES_THEN_FILE = re.compile(NAMES + r"(?:\s*[,|:(]\s*| in | of | from )" + FILE)
 
 # How a text of docs/FORMAT.md names a byte that is not shown.
-BYTE_NAMES = {"a space": " ", "a tab": "\t", "a line feed": "\n"}
+BYTE_NAMES = {"a space": " ", "a tab": "\t", "a line feed": "\n", "a carriage return": "\r", "a form feed": "\f",
+              "a vertical tab": "\v", "U+0085": "\x85", "U+00A0": "\xa0"}
 BYTES = r"[0-9a-f]{2}(?: [0-9a-f]{2})*"
 SUM = re.compile(r'Sum of (all rows|the rows without "read already"|the rows down to ([\w.]+)): ([\d,]+)')
 PROMISE = re.compile(r"\| `(\w+)` in (crates/\S+\.rt) \| `(\w+)` in crates/\S+\.antt \|$")
@@ -296,13 +297,12 @@ def texts(lines):
     """Each text of the page with the number that it is read with, 0 for "read", as it is said: line, text, number."""
     for line, row, said in rows_under("result", lines):
         if re.fullmatch(r"read|\d+", said):
-            found = (text for text in texts_of(row[0]) if "\n" not in text)
-            yield from ((line, text, 0 if said == "read" else int(said)) for text in found)
+            yield from ((line, text, 0 if said == "read" else int(said)) for text in texts_of(row[0]))
 
 
 def wrong_readings(cases):
     """The program prints a line of its own, then one for each text that it is given, with the number in front."""
-    given = "".join(text + "\n" for _, text, _ in cases).encode()
+    given = "".join(text.replace("\n", "\x1f") + "\n" for _, text, _ in cases).encode()
     _, *printed = subprocess.run([READER], input=given, capture_output=True, timeout=60).stdout.decode().split("\n")
     for (line, text, said), answer in zip(cases, printed + [""] * len(cases)):
         if answer.split(" ")[0] != str(said):
