@@ -2,6 +2,7 @@
 
 use crate::calls::{Answer, Call};
 use crate::chance::Chance;
+use crate::forms;
 use crate::make::*;
 use second::book::{bytes_of, Block};
 use second::record::{Record, EMPTY};
@@ -342,6 +343,16 @@ fn word(letters: &str) -> Vec<u8> {
     letters.bytes().filter(|&b| b != b'-').map(|b| b - b'a').collect()
 }
 
+/// The record with these factors, their names in letters.
+pub fn record(factors: &[(&str, u8)]) -> Record {
+    Record::of(&factors.iter().map(|(names, mode)| (word(names), *mode)).collect::<Vec<_>>())
+}
+
+/// The names a to z.
+pub fn letters() -> Vec<Vec<u8>> {
+    (b'a'..=b'z').map(|b| vec![b]).collect()
+}
+
 /// The longest declaration, with a buffer one byte short of it, and the longest output of the program: that declaration for each
 /// of 64 parents.
 fn longest() -> Vec<Due> {
@@ -365,13 +376,10 @@ fn longest() -> Vec<Due> {
     ]
 }
 
-/// What paper 01 writes out: its samples, what stands under them, its example, and forms of a declaration.
+/// What the papers write out: the samples of paper 01, what stands under them, its example, and texts of declarations.
 fn paper(_: &mut Chance, _: u64) -> Vec<Due> {
-    let letters: Vec<Vec<u8>> = (b'a'..=b'z').map(|b| vec![b]).collect();
     let parent = 25;
     let mut calls: Vec<Due> = Vec::new();
-    let record =
-        |factors: &[(&str, u8)]| Record::of(&factors.iter().map(|(names, mode)| (word(names), *mode)).collect::<Vec<_>>());
     let samples: &[(&str, &str, Record)] = &[
         ("-", "EMPTY", EMPTY),
         ("a", "(a)", record(&[("a", 0)])),
@@ -388,7 +396,7 @@ fn paper(_: &mut Chance, _: u64) -> Vec<Due> {
     ];
     for (sample, model, record) in samples {
         let blocks: Vec<Block> = sample.split(' ').map(|w| Block { parent, word: word(w) }).collect();
-        let book = bytes_of(&letters, &blocks);
+        let book = bytes_of(&letters(), &blocks);
         let text = format!("<!ELEMENT z {model}>").into_bytes();
         let parent = parent as usize;
         calls.push((Call::ModelOfParent { book: book.clone(), parent }, Some(Answer::Model(0, *record))));
@@ -438,34 +446,6 @@ fn paper(_: &mut Chance, _: u64) -> Vec<Due> {
     calls.push((Call::Dtd { book: bytes_of(&feed, &[]) }, Some(Answer::Printed(vec![]))));
 
     calls.extend(longest());
-
-    // Forms that paper 01 names.
-    let book = bytes_of(&letters, &[]);
-    for (text, number) in [
-        ("((a),b)", 13),
-        ("(a|b)", 13),
-        ("(a)*", 13),
-        ("(a,b)+", 13),
-        ("(a ?)", 13),
-        ("((a|b) *)", 13),
-        ("()", 13),
-        ("(a,)", 13),
-        ("ANY", 13),
-        ("EMPTYx", 13),
-        ("(9)", 13),
-        ("(#PCDATA)", 13),
-        ("(a,\tb)", 13),
-        ("(aa)", 14),
-        ("(a,a,aa)", 14),
-        ("(a,a)", 15),
-        ("((a|a))", 15),
-        ("(z)", 0),
-        ("( a? , ( c | b )+ )  ", 0),
-        ("((b|a))", 0),
-    ] {
-        let text = format!("<!ELEMENT z {text}>").into_bytes();
-        let due = (number != 0).then_some(Answer::Read(number, 0, EMPTY));
-        calls.push((Call::ReadDeclaration { book: book.clone(), text }, due));
-    }
+    calls.extend(forms::texts());
     calls
 }

@@ -1,9 +1,10 @@
 //! Compares the proved library and program with the second implementation: many cases by chance, each given by a seed, a kind and
-//! a number, and the cases that paper 01 writes out.
+//! a number, and the cases that the papers write out.
 
 pub mod calls;
 pub mod cases;
 pub mod chance;
+pub mod forms;
 pub mod make;
 pub mod program;
 

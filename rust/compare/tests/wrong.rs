@@ -63,7 +63,6 @@ faults! {
     NothingWritten,
     // Of the reader.
     LineFeedTaken,
-    TabTaken,
     SpaceBeforeMark,
     RepeatBeforeUnknown,
     GroupsMustRise,
@@ -248,7 +247,6 @@ impl Calls for Wrong {
         let mut text = text.to_vec();
         match self.0 {
             LineFeedTaken if text.ends_with(b"\n") => drop(text.pop()),
-            TabTaken => text.iter_mut().filter(|b| **b == b'\t').for_each(|b| *b = b' '),
             SpaceBeforeMark => {
                 while let Some(at) = (1..text.len()).find(|&i| b"?+*".contains(&text[i]) && text[i - 1] == b' ') {
                     text.remove(at - 1);

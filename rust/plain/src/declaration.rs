@@ -1,6 +1,6 @@
 //! One declaration, written and read.
 
-use crate::{Model, Names, CLASS, EMPTY, NONE};
+use crate::{Model, Names, CLASS, EMPTY, NONE, PLACES};
 
 /// The longest declaration.
 pub const LONGEST: usize = 2253;
@@ -53,144 +53,165 @@ pub fn write(names: &Names, parent: usize, m: &Model, text: &mut [u8; LONGEST]) 
     out.at
 }
 
-#[derive(Clone, Copy, PartialEq)]
-enum Token<'a> {
-    Name(&'a [u8]),
-    Byte(u8),
-    End,
-}
+/// How many bytes `<!ELEMENT` has.
+const OPENING: usize = 9;
 
-/// A text as tokens: names, other bytes, and whether spaces stood before each.
-struct Tokens<'a> {
-    text: &'a [u8],
-    at: usize,
+/// Kinds of tokens: 0 any other byte or the end of the text, 1 a word, 2 `(`, 3 `)`, 4 `,`, 5 `|`, 6 `>`, 7 `?`, 8 `+`, 9 `*`,
+/// 10 the word `EMPTY`.
+const WORD: u8 = 1;
+const OPEN: u8 = 2;
+const COMMA: u8 = 4;
+const QUESTION: u8 = 7;
+const STAR: u8 = 9;
+const EMPTY_WORD: u8 = 10;
+
+/// The kind of a token that begins with each byte: a byte of words, a sign or any other.
+const KIND: [u8; 256] = {
+    let mut table = [0; 256];
+    let mut b = 0;
+    while b < 256 {
+        table[b] = if CLASS[b] > 0 { WORD } else { 0 };
+        b += 1;
+    }
+    let signs = b"(),|>?+*";
+    let mut i = 0;
+    while i < signs.len() {
+        table[signs[i] as usize] = OPEN + i as u8;
+        i += 1;
+    }
+    table
+};
+
+/// Two states: behind `>`, and nowhere.
+const CLOSED: u8 = 13;
+const NOWHERE: u8 = 14;
+
+/// The next state for each kind of token, a row for each state.
+const STATES: [[u8; 11]; 15] = [
+    [14, 1, 14, 14, 14, 14, 14, 14, 14, 14, 1],   // 0 before the parent
+    [14, 14, 2, 14, 14, 14, 14, 14, 14, 14, 12],  // 1 before the model
+    [14, 3, 8, 14, 14, 14, 14, 14, 14, 14, 3],    // 2 behind its bracket
+    [14, 14, 14, 6, 7, 4, 14, 11, 11, 11, 14],    // 3 behind a name there
+    [14, 5, 14, 14, 14, 14, 14, 14, 14, 14, 5],   // 4 behind a bar, where the group is the whole model
+    [14, 14, 14, 6, 14, 4, 14, 14, 14, 14, 14],   // 5 behind a later name of it
+    [14, 14, 14, 14, 14, 14, 13, 12, 12, 12, 14], // 6 behind that group
+    [14, 10, 8, 14, 14, 14, 14, 14, 14, 14, 10],  // 7 before a later factor
+    [14, 9, 14, 14, 14, 14, 14, 14, 14, 14, 9],   // 8 before a name of a factor's group
+    [14, 14, 14, 10, 14, 8, 14, 14, 14, 14, 14],  // 9 behind a name of it
+    [14, 14, 14, 12, 7, 14, 14, 11, 11, 11, 14],  // 10 behind a factor's names
+    [14, 14, 14, 12, 7, 14, 14, 14, 14, 14, 14],  // 11 behind its mark
+    [14, 14, 14, 14, 14, 14, 13, 14, 14, 14, 14], // 12 before `>`
+    [14, 14, 14, 14, 14, 14, 14, 14, 14, 14, 14], // 13 behind `>`
+    [14, 14, 14, 14, 14, 14, 14, 14, 14, 14, 14], // 14 nowhere
+];
+
+/// A token: whether white space is before it, its kind, its bytes, and where it ends.
+struct Token<'a> {
     spaced: bool,
-    token: Token<'a>,
+    kind: u8,
+    bytes: &'a [u8],
+    to: usize,
 }
 
-impl<'a> Tokens<'a> {
-    fn step(&mut self) {
-        let from = self.at;
-        while self.text.get(self.at) == Some(&b' ') {
-            self.at += 1;
-        }
-        self.spaced = self.at > from;
-        let from = self.at;
-        while self.at < self.text.len() && CLASS[self.text[self.at] as usize] > 0 {
-            self.at += 1;
-        }
-        self.token = if self.at > from {
-            Token::Name(&self.text[from..self.at])
-        } else if self.at < self.text.len() {
-            self.at += 1;
-            Token::Byte(self.text[from])
-        } else {
-            Token::End
-        };
+impl Token<'_> {
+    fn is_word(&self) -> bool {
+        self.kind == WORD || self.kind == EMPTY_WORD
     }
 
-    fn byte(&mut self, b: u8) -> Result<(), u8> {
-        if self.token != Token::Byte(b) {
-            return Err(13);
+    /// Whether white space is where it has to be and not where it may not be, and a word is a name.
+    fn fits(&self, behind_word: bool) -> bool {
+        let apart = self.spaced || !behind_word;
+        match self.kind {
+            WORD | EMPTY_WORD => apart && self.bytes.len() <= 32 && CLASS[self.bytes[0] as usize] == 2,
+            OPEN => apart,
+            QUESTION..=STAR => !self.spaced,
+            _ => true,
         }
-        self.step();
-        Ok(())
-    }
-
-    fn name(&mut self) -> Result<&'a [u8], u8> {
-        match self.token {
-            Token::Name(name) if name.len() <= 32 && CLASS[name[0] as usize] == 2 => {
-                self.step();
-                Ok(name)
-            }
-            _ => Err(13),
-        }
-    }
-
-    /// A mark right behind what was read.
-    fn mark(&mut self) -> u8 {
-        let mode = match self.token {
-            Token::Byte(b'?') if !self.spaced => 1,
-            Token::Byte(b'+') if !self.spaced => 2,
-            Token::Byte(b'*') if !self.spaced => 3,
-            _ => return 0,
-        };
-        self.step();
-        mode
     }
 }
 
-/// Walks over a text of the right form and hands over each name with its factor, and each factor's mode.
-fn walk<'a>(
-    text: &'a [u8],
-    mut name: impl FnMut(&'a [u8], usize),
-    mut mode: impl FnMut(usize, u8),
-) -> Result<(&'a [u8], usize), u8> {
-    let rest = text.strip_prefix(b"<!ELEMENT ").ok_or(13u8)?;
-    let mut t = Tokens { text: rest, at: 0, spaced: false, token: Token::End };
-    t.step();
-    let parent = t.name()?;
-    if !t.spaced {
-        return Err(13);
+/// The token from a place on.
+fn token(text: &[u8], at: usize) -> Token<'_> {
+    let mut from = at;
+    while from < text.len() && matches!(text[from], b' ' | b'\t' | b'\r' | b'\n') {
+        from += 1;
     }
-    let mut factor = 0;
-    if t.token == Token::Name(b"EMPTY") {
-        t.step();
-    } else {
-        t.byte(b'(')?;
-        loop {
-            if t.token == Token::Byte(b'(') {
-                t.step();
-                name(t.name()?, factor);
-                t.byte(b'|')?;
-                loop {
-                    name(t.name()?, factor);
-                    if t.token != Token::Byte(b'|') {
-                        break;
-                    }
-                    t.step();
-                }
-                t.byte(b')')?;
-            } else {
-                name(t.name()?, factor);
-            }
-            mode(factor, t.mark());
-            factor += 1;
-            if t.token != Token::Byte(b',') {
-                break;
-            }
-            t.step();
+    let spaced = from > at;
+    let Some(&first) = text.get(from) else {
+        return Token { spaced, kind: 0, bytes: &[], to: from };
+    };
+    let mut kind = KIND[first as usize];
+    let mut to = from + 1;
+    if kind == WORD {
+        while to < text.len() && CLASS[text[to] as usize] > 0 {
+            to += 1;
         }
-        t.byte(b')')?;
+        if &text[from..to] == b"EMPTY" {
+            kind = EMPTY_WORD;
+        }
     }
-    if t.token != Token::Byte(b'>') || t.at < t.text.len() {
-        return Err(13);
-    }
-    Ok((parent, factor))
+    Token { spaced, kind, bytes: &text[from..to], to }
 }
 
-pub fn read(names: &Names, text: &[u8]) -> Result<(usize, Model), u8> {
-    // The form first, over the whole text.
-    walk(text, |_, _| {}, |_, _| {})?;
+/// Whether a text has the form of a declaration: a walk along its tokens.
+fn has_form(text: &[u8]) -> bool {
+    if !text.starts_with(b"<!ELEMENT") {
+        return false;
+    }
+    let mut at = OPENING;
+    let mut state = 0;
+    let mut behind_word = true;
+    while at < text.len() {
+        let t = token(text, at);
+        if !t.fits(behind_word) {
+            return false;
+        }
+        state = STATES[state as usize][t.kind as usize];
+        if state == NOWHERE {
+            return false;
+        }
+        behind_word = t.is_word();
+        at = t.to;
+    }
+    state == CLOSED
+}
+
+/// The model of the factors from a place on, in a text that has the form.
+fn factors(names: &Names, text: &[u8], mut at: usize) -> Result<Model, u8> {
     let mut m = EMPTY;
-    let (mut unknown, mut twice) = (false, false);
-    let (parent, count) = walk(
-        text,
-        |name, factor| match names.find(name) {
-            None => unknown = true,
-            Some(x) if m.factor[x] != NONE => twice = true,
-            Some(x) => m.factor[x] = factor.min(254) as u8,
-        },
-        |_, _| {},
-    )?;
-    let parent = names.find(parent).ok_or(14u8)?;
-    if unknown {
-        return Err(14);
+    let mut twice = false;
+    let mut index = 0;
+    while at < text.len() {
+        let t = token(text, at);
+        match t.kind {
+            WORD | EMPTY_WORD => {
+                let x = names.find(t.bytes).ok_or(14u8)?;
+                twice |= m.factor[x] != NONE;
+                m.factor[x] = index as u8;
+            }
+            COMMA => index += 1,
+            // Where the record has no place for a factor, some name is there twice.
+            QUESTION..=STAR if index < PLACES => m.mode[index] = t.kind - QUESTION + 1,
+            _ => {}
+        }
+        at = t.to;
     }
     if twice {
         return Err(15);
     }
-    m.count = count;
-    walk(text, |_, _| {}, |factor, mode| m.mode[factor] = mode)?;
-    Ok((parent, m))
+    m.count = index + 1;
+    Ok(m)
+}
+
+pub fn read(names: &Names, text: &[u8]) -> Result<(usize, Model), u8> {
+    if !has_form(text) {
+        return Err(13);
+    }
+    let parent = token(text, OPENING);
+    let number = names.find(parent.bytes).ok_or(14u8)?;
+    let model = match token(text, parent.to).kind {
+        EMPTY_WORD => EMPTY,
+        _ => factors(names, text, parent.to)?,
+    };
+    Ok((number, model))
 }

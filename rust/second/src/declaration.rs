@@ -1,4 +1,4 @@
-//! One declaration, written in house spelling and read in every spelling that paper 01 allows.
+//! One declaration, written in house spelling and read in every spelling that paper 01 and request U1 of paper 02 allow.
 
 use crate::book::is_name;
 use crate::record::{Record, EMPTY};
@@ -38,42 +38,92 @@ fn factor_text(names: &[Vec<u8>], record: &Record, i: usize) -> Vec<u8> {
     text
 }
 
+/// The names of a factor and its mode.
+type Factor<'a> = (Vec<&'a [u8]>, u8);
+
 /// A text's form, its names not yet looked up.
 struct Form<'a> {
     parent: &'a [u8],
-    factors: Vec<(Vec<&'a [u8]>, u8)>,
+    factors: Vec<Factor<'a>>,
 }
 
-/// What is left of a text. Each method takes something off its front, or says 13.
+/// White space by production 3 of XML 1.0: space, tab, CR, LF.
+const WHITE: &[u8] = b"\x20\x09\x0D\x0A";
+
+/// What is left of a text. Each production of the grammar is a method, which takes what it describes off the front or says 13:
+///
+/// ```text
+/// text    = '<!ELEMENT' S+ Name S+ content S* '>'
+/// content = 'EMPTY' | group mark? | list
+/// list    = '(' S* factor (S* ',' S* factor)* S* ')'
+/// factor  = Name mark? | group mark?
+/// group   = '(' S* Name (S* '|' S* Name)* S* ')'
+/// mark    = '?' | '+' | '*'
+/// ```
 struct Text<'a>(&'a [u8]);
 
 impl<'a> Text<'a> {
-    fn next(&self) -> Option<u8> {
-        self.0.first().copied()
+    fn text(&mut self) -> Result<Form<'a>, Refusal> {
+        self.exactly(b"<!ELEMENT")?;
+        self.some_white()?;
+        let parent = self.name()?;
+        self.some_white()?;
+        let factors = self.content()?;
+        self.any_white();
+        self.exactly(b">")?;
+        self.end()?;
+        Ok(Form { parent, factors })
     }
 
-    fn spaces(&mut self) -> usize {
-        let n = self.0.iter().take_while(|&&b| b == b' ').count();
-        self.0 = &self.0[n..];
-        n
-    }
-
-    fn one_or_more_spaces(&mut self) -> Result<(), Refusal> {
-        if self.spaces() == 0 {
-            Err(13)
-        } else {
-            Ok(())
+    /// A list is tried where no group is in front. Where both are, they are the same: one name in brackets.
+    fn content(&mut self) -> Result<Vec<Factor<'a>>, Refusal> {
+        if self.takes(b"EMPTY") {
+            return Ok(vec![]);
         }
+        let all = self.0;
+        if let Ok(names) = self.group() {
+            return Ok(vec![(names, self.mark())]);
+        }
+        self.0 = all;
+        self.list()
     }
 
-    fn exactly(&mut self, what: &[u8]) -> Result<(), Refusal> {
-        match self.0.strip_prefix(what) {
-            Some(rest) => {
-                self.0 = rest;
-                Ok(())
+    fn list(&mut self) -> Result<Vec<Factor<'a>>, Refusal> {
+        self.bracketed(b",", Self::factor)
+    }
+
+    fn factor(&mut self) -> Result<Factor<'a>, Refusal> {
+        let names = if self.0.starts_with(b"(") { self.group()? } else { vec![self.name()?] };
+        Ok((names, self.mark()))
+    }
+
+    fn group(&mut self) -> Result<Vec<&'a [u8]>, Refusal> {
+        self.bracketed(b"|", Self::name)
+    }
+
+    /// '(' S* part (S* sign S* part)* S* ')'
+    fn bracketed<T>(&mut self, sign: &[u8], part: fn(&mut Self) -> Result<T, Refusal>) -> Result<Vec<T>, Refusal> {
+        self.exactly(b"(")?;
+        self.any_white();
+        let mut parts = vec![part(self)?];
+        self.any_white();
+        while self.takes(sign) {
+            self.any_white();
+            parts.push(part(self)?);
+            self.any_white();
+        }
+        self.exactly(b")")?;
+        Ok(parts)
+    }
+
+    /// The mode that a mark gives; none is mode 0.
+    fn mark(&mut self) -> u8 {
+        for (mark, mode) in [(b"?", 1), (b"+", 2), (b"*", 3)] {
+            if self.takes(mark) {
+                return mode;
             }
-            None => Err(13),
         }
+        0
     }
 
     /// The longest run of bytes that a name may have; 13 if it is no name.
@@ -82,82 +132,42 @@ impl<'a> Text<'a> {
         let n = self.0.iter().take_while(|&&b| part(b)).count();
         let (name, rest) = self.0.split_at(n);
         self.0 = rest;
-        if is_name(name) {
-            Ok(name)
-        } else {
-            Err(13)
-        }
+        is_name(name).then_some(name).ok_or(13)
     }
 
-    /// The mode that a mark gives; none is mode 0.
-    fn mark(&mut self) -> u8 {
-        let mode = match self.next() {
-            Some(b'?') => 1,
-            Some(b'+') => 2,
-            Some(b'*') => 3,
-            _ => return 0,
-        };
-        self.0 = &self.0[1..];
-        mode
+    /// S*
+    fn any_white(&mut self) {
+        let n = self.0.iter().take_while(|b| WHITE.contains(b)).count();
+        self.0 = &self.0[n..];
     }
 
-    /// A name, or two names or more in brackets joined by bars; then its mark. Spaces may follow.
-    fn factor(&mut self) -> Result<(Vec<&'a [u8]>, u8), Refusal> {
-        let mut names = Vec::new();
-        if self.next() == Some(b'(') {
-            self.exactly(b"(")?;
-            self.spaces();
-            names.push(self.name()?);
-            self.spaces();
-            while self.next() == Some(b'|') {
-                self.exactly(b"|")?;
-                self.spaces();
-                names.push(self.name()?);
-                self.spaces();
-            }
-            if names.len() < 2 {
-                return Err(13);
-            }
-            self.exactly(b")")?;
-        } else {
-            names.push(self.name()?);
-        }
-        let mode = self.mark();
-        self.spaces();
-        Ok((names, mode))
+    /// S+
+    fn some_white(&mut self) -> Result<(), Refusal> {
+        let before = self.0.len();
+        self.any_white();
+        (self.0.len() < before).then_some(()).ok_or(13)
     }
 
-    fn declaration(&mut self) -> Result<Form<'a>, Refusal> {
-        self.exactly(b"<!ELEMENT")?;
-        self.one_or_more_spaces()?;
-        let parent = self.name()?;
-        self.one_or_more_spaces()?;
-        let mut factors = Vec::new();
-        if self.next() == Some(b'(') {
-            self.exactly(b"(")?;
-            self.spaces();
-            factors.push(self.factor()?);
-            while self.next() == Some(b',') {
-                self.exactly(b",")?;
-                self.spaces();
-                factors.push(self.factor()?);
-            }
-            self.exactly(b")")?;
-        } else {
-            self.exactly(b"EMPTY")?;
-        }
-        self.spaces();
-        self.exactly(b">")?;
-        if !self.0.is_empty() {
-            return Err(13);
-        }
-        Ok(Form { parent, factors })
+    /// Whether these bytes are in front; then they are taken off.
+    fn takes(&mut self, what: &[u8]) -> bool {
+        let rest = self.0.strip_prefix(what);
+        self.0 = rest.unwrap_or(self.0);
+        rest.is_some()
+    }
+
+    fn exactly(&mut self, what: &[u8]) -> Result<(), Refusal> {
+        self.takes(what).then_some(()).ok_or(13)
+    }
+
+    /// Nothing is left.
+    fn end(&self) -> Result<(), Refusal> {
+        self.0.is_empty().then_some(()).ok_or(13)
     }
 }
 
 /// The parent's number and the record of a declaration over these names, or 13, 14 or 15.
 pub fn read(names: &[Vec<u8>], text: &[u8]) -> Result<(usize, Record), Refusal> {
-    let form = Text(text).declaration()?;
+    let form = Text(text).text()?;
     let number = |name: &[u8]| names.iter().position(|n| n == name).ok_or(14u8);
     let parent = number(form.parent)?;
     let mut factors: Vec<(Vec<usize>, u8)> = Vec::new();

@@ -1,5 +1,5 @@
-//! A second implementation of paper 01, written from its text and not from the proved crates. It is made to be
-//! compared with, so it follows the paper's sentences and takes the slow way wherever that is the clearer one.
+//! A second implementation of paper 01 and of request U1 of paper 02, written from their text and not from the proved crates. It
+//! is made to be compared with, so it follows the papers' sentences and takes the slow way wherever that is the clearer one.
 //!
 //! A refusal is the number that paper 01's table gives it.
 

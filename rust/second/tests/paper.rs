@@ -1,4 +1,4 @@
-//! Every line under the samples of paper 01, its traps, its example and its limits.
+//! Every line under the samples of paper 01, its traps, its example and its limits; the texts of request U1 of paper 02.
 
 use second::book::{self, bytes_of, Block};
 use second::calls::*;
@@ -219,6 +219,8 @@ fn texts() {
         "<!ELEMENT a EMPTY  >",
         "<!ELEMENT EMPTY EMPTY>",
         "<!ELEMENT a (EMPTY)>",
+        "<!ELEMENT a (EMPTY)?>",
+        "<!ELEMENT a ((EMPTY),a)>",
         "<!ELEMENT ANY (ANY)>",
     ] {
         let (parent, record) = read_declaration(&bytes, text.as_bytes()).unwrap_or_else(|n| panic!("{text}: {n}"));
@@ -233,24 +235,18 @@ fn texts() {
         ("<!ELEMENTa (a)>", 13),
         ("<!ELEMENT a ANY>", 13),
         ("<!ELEMENT a EMPTYx>", 13),
+        ("<!ELEMENT a EMPTY*>", 13),
         ("<!ELEMENT a empty>", 13),
         ("<!element a EMPTY>", 13),
-        ("<!ELEMENT a ()>", 13),
         ("<!ELEMENT a (a,)>", 13),
         ("<!ELEMENT a (,a)>", 13),
         ("<!ELEMENT a (a b)>", 13),
         ("<!ELEMENT a (a ?)>", 13),
         ("<!ELEMENT a ((a|b) ?)>", 13),
         ("<!ELEMENT a (a??)>", 13),
-        ("<!ELEMENT a ((a),b)>", 13),
-        ("<!ELEMENT a ((a)?,b)>", 13),
-        ("<!ELEMENT a (a|b)>", 13),
-        ("<!ELEMENT a (a)*>", 13),
-        ("<!ELEMENT a (a,b)+>", 13),
         ("<!ELEMENT a ((a?|b),c)>", 13),
         ("<!ELEMENT a ((a|b),c)", 13),
         ("<!ELEMENT a (a)>>", 13),
-        ("<!ELEMENT a (a,\tb)>", 13),
         ("<!ELEMENT a (1a)>", 13),
         ("<!ELEMENT a (#PCDATA)>", 13),
         ("<!ELEMENT d (a)>", 14),
@@ -266,6 +262,180 @@ fn texts() {
     assert_eq!(read_declaration(&bytes, long(32).as_bytes()), Err(14));
     assert_eq!(read_declaration(&bytes, long(33).as_bytes()), Err(13));
     assert_eq!(read_declaration(&[0, 0], b"<!ELEMENT"), Err(3));
+}
+
+/// The text is read as the parent p, number 12, with these factors.
+fn reads(text: &[u8], factors: &[(&str, u8)]) {
+    let record = Record::of(&factors.iter().map(|&(names, mode)| (word(names), mode)).collect::<Vec<_>>());
+    assert_eq!(read_declaration(&letters("-"), text), Ok((12, record)), "{}", text.escape_ascii());
+}
+
+fn refuses(text: &[u8], number: u8) {
+    assert_eq!(read_declaration(&letters("-"), text), Err(number), "{}", text.escape_ascii());
+}
+
+fn declared(model: &str) -> Vec<u8> {
+    format!("<!ELEMENT p {model}>").into_bytes()
+}
+
+/// The text with these bytes at the place of `_` number `at`, counted from 0, and with `elsewhere` at all others.
+fn with_bytes(text: &str, at: usize, bytes: &[u8], elsewhere: &[u8]) -> Vec<u8> {
+    let parts: Vec<&[u8]> = text.split('_').map(str::as_bytes).collect();
+    let put = |i: usize| if i == at { bytes } else { elsewhere };
+    (1..parts.len()).fold(parts[0].to_vec(), |text, i| [&text, put(i - 1), parts[i]].concat())
+}
+
+fn places(text: &str) -> std::ops::Range<usize> {
+    0..text.matches('_').count()
+}
+
+const WHITE: [u8; 4] = [0x20, 0x09, 0x0D, 0x0A];
+
+#[test]
+fn white_space_that_has_to_be_there() {
+    for text in ["<!ELEMENT_p_EMPTY>", "<!ELEMENT_p_(a)>"] {
+        let factors: &[(&str, u8)] = if text.contains("(a)") { &[("a", 0)] } else { &[] };
+        for at in places(text) {
+            for byte in 0..=255u8 {
+                let whole = with_bytes(text, at, &[byte], b" ");
+                if WHITE.contains(&byte) {
+                    reads(&whole, factors);
+                } else {
+                    refuses(&whole, 13);
+                }
+            }
+            reads(&with_bytes(text, at, &WHITE, b" "), factors);
+            reads(&with_bytes(text, at, b"\r\n\t\t", b"\n"), factors);
+            for none in [&b""[..], b"\xC2\x85", b"\xC2\xA0", b" \x85", b"\xA0 ", b"\x0C\n", b"\t\x0B"] {
+                refuses(&with_bytes(text, at, none, b" "), 13);
+            }
+        }
+    }
+}
+
+#[test]
+fn white_space_that_may_be_there() {
+    let texts: [(&str, &[(&str, u8)]); 4] = [
+        ("<!ELEMENT p _EMPTY_>", &[]),
+        ("<!ELEMENT p _(_a_)_>", &[("a", 0)]),
+        ("<!ELEMENT p _(_a_|_b_)*_>", &[("ab", 3)]),
+        ("<!ELEMENT p _(_a_,_b?_,_(_c_)+_,_(_d_|_e_)_)_>", &[("a", 0), ("b", 1), ("c", 2), ("de", 0)]),
+    ];
+    for (text, factors) in texts {
+        for at in places(text) {
+            for byte in 0..=255u8 {
+                let whole = with_bytes(text, at, &[byte], b"");
+                if WHITE.contains(&byte) {
+                    reads(&whole, factors);
+                } else if !byte.is_ascii_alphanumeric() && !b"_-.?+*".contains(&byte) {
+                    refuses(&whole, 13);
+                }
+            }
+            reads(&with_bytes(text, at, &WHITE, b""), factors);
+            reads(&with_bytes(text, at, b"", b"\r\n"), factors);
+            for none in [b"\xC2\x85", b"\xC2\xA0"] {
+                refuses(&with_bytes(text, at, none, b""), 13);
+            }
+        }
+    }
+}
+
+#[test]
+fn white_space_that_may_not_be_there() {
+    for text in [
+        "_<!ELEMENT p EMPTY>_",
+        "<_!_ELE_MENT p (a)>",
+        "<!ELEMENT p EM_PTY>",
+        "<!ELEMENT p (a_?,b_+,c_*)>",
+        "<!ELEMENT p ((a|b)_?,(c|d)_+,(e|f)_*)>",
+        "<!ELEMENT p ((a)_?,(b)_+,(c)_*)>",
+        "<!ELEMENT p (a)_?>",
+        "<!ELEMENT p (a)_+>",
+        "<!ELEMENT p (a)_*>",
+        "<!ELEMENT p (a|b)_?>",
+        "<!ELEMENT p (a|b)_+>",
+        "<!ELEMENT p (a|b)_*>",
+    ] {
+        let without = text.replace('_', "");
+        assert!(read_declaration(&letters("-"), without.as_bytes()).is_ok(), "{without}");
+        for at in places(text) {
+            for byte in WHITE {
+                refuses(&with_bytes(text, at, &[byte], b""), 13);
+            }
+        }
+    }
+}
+
+#[test]
+fn one_group_is_the_whole_model() {
+    for (mark, mode) in [("", 0), ("?", 1), ("+", 2), ("*", 3)] {
+        for (group, names) in [("(a)", "a"), ("(a )", "a"), ("(a|b)", "ab"), ("( b\n|\ta )", "ab"), ("(c|a|b)", "abc")] {
+            reads(&declared(&format!("{group}{mark}")), &[(names, mode)]);
+            reads(&declared(&format!("{group}{mark}\r\n")), &[(names, mode)]);
+            // The same group as the only factor of a list.
+            reads(&declared(&format!("({group}{mark})")), &[(names, mode)]);
+        }
+    }
+    reads(&declared("(a)?"), &[("a", 1)]);
+    reads(&declared("(a )*"), &[("a", 3)]);
+    reads(&declared("(a|b)*"), &[("ab", 3)]);
+    reads(&declared("( a\n|\tb )+"), &[("ab", 2)]);
+    reads(&declared("EMPTY\n"), &[]);
+    for model in ["(a,b)+", "(a,b)?", "(a,b)*", "((a),b)*", "(a?)*", "(a*)*", "(a|b?)*", "(a)**", "(a)?*", "(a|b)++"] {
+        refuses(&declared(model), 13);
+    }
+    for model in ["((a|b))*", "((a))?", "((a))+", "((a)*)*", "(a) *", "(a|b) *", "()", "()*", "(|a)", "(a|)", "(a||b)"] {
+        refuses(&declared(model), 13);
+    }
+    for model in
+        ["(a|b,c)", "(a,b|c)", "(a|(b))", "((a)|b)", "((a)|(b))", "(a)(b)", "(a)b", "a", "a*", "(a", "a)", "(a))", "(a|b"]
+    {
+        refuses(&declared(model), 13);
+    }
+}
+
+#[test]
+fn a_factor_of_one_name_in_its_own_brackets() {
+    reads(&declared("((a))"), &[("a", 0)]);
+    reads(&declared("( (a) )"), &[("a", 0)]);
+    reads(&declared("((a)*)"), &[("a", 3)]);
+    for (mark, mode) in [("", 0), ("?", 1), ("+", 2), ("*", 3)] {
+        reads(&declared(&format!("((a){mark})")), &[("a", mode)]);
+        reads(&declared(&format!("((a){mark},b)")), &[("a", mode), ("b", 0)]);
+        reads(&declared(&format!("(b,( a\t){mark} )")), &[("b", 0), ("a", mode)]);
+        reads(&declared(&format!("((b)?,(a){mark},(c|d)+)")), &[("b", 1), ("a", mode), ("cd", 2)]);
+    }
+    for model in ["((a?),b)", "((a?))", "((a)??)", "((a) ?)", "((a)\n*,b)", "(a,(b+))", "((a)b)", "((a)(b))", "((a) (b))"] {
+        refuses(&declared(model), 13);
+    }
+    for model in
+        ["(((a)))", "(((a)),b)", "(((a|b)))", "((a,b))", "((a,b),c)", "(a,(b,c))", "((),a)", "((a),)", "(,(a))", "((a)", "(a)),b"]
+    {
+        refuses(&declared(model), 13);
+    }
+}
+
+#[test]
+fn names_of_the_new_forms() {
+    for model in ["(x)", "(x)*", "(a|x)", "(a|a|x)+", "((x))", "((x)?,a)", "((a),(a),x)", "(a,(aa))", "(aa|b)?"] {
+        refuses(&declared(model), 14);
+        refuses(format!("<!ELEMENT x {model}>").as_bytes(), 14);
+    }
+    for model in ["(a|a)", "(a|b|a)*", "((a),a)", "(a,(a)?)", "((a),(a))", "((a),(b|a)+)", "((a|a))"] {
+        refuses(&declared(model), 15);
+        refuses(format!("<!ELEMENT x {model}>").as_bytes(), 14);
+    }
+    // A name of the model may be the parent's.
+    for (model, record) in [("(p|a)*", Record::of(&[(vec![0, 12], 3)])), ("((p),a)", Record::of(&[(vec![12], 0), (vec![0], 0)]))]
+    {
+        assert_eq!(read_declaration(&letters("-"), &declared(model)), Ok((12, record)));
+    }
+    for (size, number) in [(32, 14), (33, 13)] {
+        let long = "x".repeat(size);
+        for model in [format!("({long})*"), format!("(a|{long})"), format!("(({long}),a)"), format!("(( {long}\t)?)")] {
+            refuses(&declared(&model), number);
+        }
+    }
 }
 
 #[test]

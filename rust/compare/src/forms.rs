@@ -1,0 +1,108 @@
+//! Declarations to read, with the answers written down: the texts that paper 01 and request U1 of paper 02 name, and texts near them.
+
+use crate::calls::{Answer, Call};
+use crate::cases::{letters, record, Due};
+use second::book::bytes_of;
+use second::record::EMPTY;
+
+/// Factors, each its names in letters and its mode.
+type Factors = &'static [(&'static str, u8)];
+
+/// Models that are read.
+const READ: &[(&str, Factors)] = &[
+    ("(z)", &[("z", 0)]),
+    ("( a? , ( c | b )+ )  ", &[("a", 1), ("bc", 2)]),
+    ("((b|a))", &[("ab", 0)]),
+    ("(a,\tb)", &[("a", 0), ("b", 0)]),
+    ("EMPTY\n", &[]),
+    ("\r\n\tEMPTY\r\n", &[]),
+    // One group is the whole model.
+    ("(a)", &[("a", 0)]),
+    ("(a)?", &[("a", 1)]),
+    ("(a)+", &[("a", 2)]),
+    ("(a )*", &[("a", 3)]),
+    ("(a|b)", &[("ab", 0)]),
+    ("(b|a)?", &[("ab", 1)]),
+    ("( a\n|\tb )+", &[("ab", 2)]),
+    ("(a|b)*", &[("ab", 3)]),
+    ("(c|z|a|b)*\r\n", &[("abcz", 3)]),
+    // A factor of one name in its own brackets.
+    ("((a))", &[("a", 0)]),
+    ("( (a) )", &[("a", 0)]),
+    ("((a)*)", &[("a", 3)]),
+    ("((a),b)", &[("a", 0), ("b", 0)]),
+    ("((a)?,b)", &[("a", 1), ("b", 0)]),
+    ("(b?,(\ta\n)+\r,(c))", &[("b", 1), ("a", 2), ("c", 0)]),
+    ("((a|b)*)", &[("ab", 3)]),
+];
+
+/// Models that are refused, with their numbers.
+const REFUSED: &[(u8, &[&str])] = &[
+    (13, &["()", "()*", "(,a)", "(a,)", "(|a)", "(a|)", "(a b)", "a", "a*", "(a", "a)", "(a))", "(a)b", "(a)(b)", "(a;b)"]),
+    (13, &["(a,b)+", "((a),b)*", "(a?)*", "(a|b*)", "((a|b))*", "((a))?", "((a)*)*", "EMPTY*"]),
+    (13, &["(a)**", "(a|b)?+", "((a)??)", "(a??)", "(a,b|c)", "(a|b,c)"]),
+    (13, &["(a ?)", "(a) *", "(a|b) *", "(a|b)\n*", "(a)\t?", "((a|b) *)", "((a) ?)", "((a)\r+,b)", "(a\n*)"]),
+    (13, &["((a?),b)", "((a*))", "((a)|b)", "(a|(b))", "((a)|(b))", "((a,b))", "((a),(b,c))", "((),a)"]),
+    (13, &["(((a)))", "(((a|b)))", "(((a)),b)", "ANY", "EMPTYx", "EMPTY EMPTY", "(EMPTY", "EMPTY()"]),
+    (13, &["(9)", "(9)*", "(a|-b)", "((.a),b)", "(#PCDATA)", "(#PCDATA|a)*"]),
+    (14, &["(aa)", "(aa)*", "(a|aa)", "((aa))", "((aa)?,b)", "(a,a,aa)", "(a|a|aa)+", "((a),(a),aa)", "(aa,aa)"]),
+    (15, &["(a,a)", "((a|a))", "(a|a)", "(a|b|a)*", "((a),a)", "(a,(a)?)", "((a),(a))", "((a),(b|a)*)"]),
+];
+
+/// Whole texts that are refused with 13: something before the declaration or behind it, white space that is missing, characters
+/// that are no white space.
+const NO_TEXTS: &[&[u8]] = &[
+    b"",
+    b" <!ELEMENT z (a)>",
+    b"\n<!ELEMENT z (a)>",
+    b"x<!ELEMENT z (a)>",
+    b"\xEF\xBB\xBF<!ELEMENT z (a)>",
+    b"<!ELEMENT z (a)> ",
+    b"<!ELEMENT z (a)*>\r\n",
+    b"<!ELEMENT z (a)>>",
+    b"<!ELEMENT z (a|b)>x",
+    b"<!ELEMENT z (a)><!ELEMENT z (a)>",
+    b"< !ELEMENT z (a)>",
+    b"<!ELEMENTz (a)>",
+    b"<!ELEMENT z(a)>",
+    b"<!ELEMENT z (a)",
+    b"<!ELEMENT z (a) \n",
+    b"<!ELEMENT (a)>",
+    b"<!ELEMENT z>",
+    b"<!ELEMENT\x0Cz (a)>",
+    b"<!ELEMENT z (a\x0B,b)>",
+    b"<!ELEMENT z\x85(a)>",
+    b"<!ELEMENT z (a|b)\xC2\x85>",
+    b"<!ELEMENT z \xA0(a)>",
+    b"<!ELEMENT z (\xC2\xA0a)>",
+    b"<!ELEMENT z (a|\0b)>",
+];
+
+/// What is due of a text that is refused.
+fn refused(number: u8) -> Answer {
+    Answer::Read(number, 0, EMPTY)
+}
+
+/// The texts above; the parent is z, number 25.
+pub fn texts() -> Vec<Due> {
+    let book = bytes_of(&letters(), &[]);
+    let call = |text: &[u8], due: Answer| (Call::ReadDeclaration { book: book.clone(), text: text.to_vec() }, Some(due));
+    let of_model = |model: &str, due: Answer| call(format!("<!ELEMENT z {model}>").as_bytes(), due);
+    let mut calls: Vec<Due> = READ.iter().map(|(model, factors)| of_model(model, Answer::Read(0, 25, record(factors)))).collect();
+    for (number, models) in REFUSED {
+        calls.extend(models.iter().map(|model| of_model(model, refused(*number))));
+    }
+    calls.extend(NO_TEXTS.iter().map(|text| call(text, refused(13))));
+    // An unknown parent, where the names of the model are good, unknown or there twice.
+    for model in ["EMPTY", "(a)*", "(a|b)", "(a|aa)", "(a|a)", "((a),a)"] {
+        calls.push(call(format!("<!ELEMENT zz {model}>").as_bytes(), refused(14)));
+    }
+    // A name of 32 bytes is good, and not in the book; one of 33 is bad.
+    for (size, number) in [(32, 14), (33, 13)] {
+        let long = "x".repeat(size);
+        for model in [format!("({long})"), format!("({long})?"), format!("(a|{long})*"), format!("((\n{long}),a)")] {
+            calls.push(of_model(&model, refused(number)));
+        }
+    }
+    calls
+}
