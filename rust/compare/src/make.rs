@@ -374,56 +374,63 @@ pub fn damaged_parts(c: &mut Chance, parts: &mut Parts) -> Vec<u8> {
     parts.bytes()
 }
 
-/// Spaces where any number of them may stand: mostly none.
-fn spaces(c: &mut Chance, text: &mut Vec<u8>) {
+/// White space of a declaration: production 3 of XML 1.0.
+pub const WHITE: &[u8] = b" \t\r\n";
+
+fn some_white(c: &mut Chance, text: &mut Vec<u8>) {
+    for _ in 0..c.from_to(1, 3) {
+        text.push(*c.pick(WHITE));
+    }
+}
+
+/// White space where any number of its bytes may be: mostly none.
+fn any_white(c: &mut Chance, text: &mut Vec<u8>) {
     if c.once_in(4) {
-        text.extend(vec![b' '; c.from_to(1, 3)]);
+        some_white(c, text);
+    }
+}
+
+/// Factor i with its names in any order, in brackets if there are several or if it is told so, and its mark.
+fn factor(c: &mut Chance, names: &[Vec<u8>], r: &Record, i: usize, bracketed: bool, t: &mut Vec<u8>) {
+    let mut held = r.names_of(i);
+    c.shuffle(&mut held);
+    if held.len() == 1 && !bracketed {
+        t.extend(&names[held[0] as usize]);
+    } else {
+        for (k, &x) in held.iter().enumerate() {
+            t.push(if k == 0 { b'(' } else { b'|' });
+            any_white(c, t);
+            t.extend(&names[x as usize]);
+            any_white(c, t);
+        }
+        t.push(b')');
+    }
+    if r.mode[i] > 0 {
+        t.push(b"?+*"[r.mode[i] as usize - 1]);
     }
 }
 
 /// A spelling of a declaration that the reader takes.
 pub fn spelling(c: &mut Chance, names: &[Vec<u8>], parent: usize, r: &Record) -> Vec<u8> {
-    let mut t = b"<!ELEMENT ".to_vec();
-    spaces(c, &mut t);
+    let mut t = b"<!ELEMENT".to_vec();
+    some_white(c, &mut t);
     t.extend(&names[parent]);
-    t.push(b' ');
-    spaces(c, &mut t);
+    some_white(c, &mut t);
     if r.count == 0 {
         t.extend(b"EMPTY");
+    } else if r.count == 1 && c.once_in(2) {
+        factor(c, names, r, 0, true, &mut t);
     } else {
-        t.push(b'(');
         for i in 0..r.count {
-            if i > 0 {
-                t.push(b',');
-            }
-            spaces(c, &mut t);
-            let mut held = r.names_of(i);
-            c.shuffle(&mut held);
-            if held.len() == 1 {
-                t.extend(&names[held[0] as usize]);
-            } else {
-                t.push(b'(');
-                for (k, &x) in held.iter().enumerate() {
-                    if k > 0 {
-                        t.push(b'|');
-                    }
-                    spaces(c, &mut t);
-                    t.extend(&names[x as usize]);
-                    spaces(c, &mut t);
-                }
-                t.push(b')');
-            }
-            match r.mode[i] {
-                1 => t.push(b'?'),
-                2 => t.push(b'+'),
-                3 => t.push(b'*'),
-                _ => {}
-            }
-            spaces(c, &mut t);
+            t.push(if i == 0 { b'(' } else { b',' });
+            any_white(c, &mut t);
+            let bracketed = c.once_in(4);
+            factor(c, names, r, i, bracketed, &mut t);
+            any_white(c, &mut t);
         }
         t.push(b')');
     }
-    spaces(c, &mut t);
+    any_white(c, &mut t);
     t.push(b'>');
     t
 }
@@ -442,33 +449,70 @@ fn name_places(text: &[u8]) -> Vec<(usize, usize)> {
     places
 }
 
-/// A text near a good one: bytes changed, names replaced by others of the book, by unknown ones or by bad ones.
+/// Bytes that mean something in a declaration, and some that do not; of white space also what XML does not count as such.
+const BYTES: &[u8] = b"()|,?+*<>!EMPTYa1-._#% \t\r\n\x0b\x0c\x85\xa0";
+
+/// A name by another of the book, an unknown one or a bad one.
+fn rename(c: &mut Chance, names: &[Vec<u8>], t: &mut Vec<u8>) {
+    let places = name_places(t);
+    if let Some(&(a, b)) = places.get(c.below(places.len().max(1))) {
+        let other = match c.below(5) {
+            0 | 1 => c.pick(names).clone(),
+            2 => name(c),
+            3 => vec![b'x'; c.from_to(31, 34)],
+            _ => b"9x".to_vec(),
+        };
+        t.splice(a..b, other);
+    }
+}
+
+/// White space, characters that are none, brackets and marks.
+const BESIDE: &[&[u8]] =
+    &[b" ", b"\t", b"\r", b"\n", b"\x0b", b"\x0c", b"\x85", b"\xa0", b"\xc2\x85", b"\xc2\xa0", b"(", b")", b"?", b"+", b"*"];
+
+/// One of these before or behind a sign.
+fn beside_sign(c: &mut Chance, t: &mut Vec<u8>) {
+    let signs: Vec<usize> = (0..t.len()).filter(|&i| b"()|,?+*>".contains(&t[i])).collect();
+    if !signs.is_empty() {
+        let at = *c.pick(&signs) + c.below(2);
+        t.splice(at..at, c.pick(BESIDE).iter().copied());
+    }
+}
+
+/// Brackets around a piece of the model that begins and ends with a name or a bracket, perhaps with a mark.
+fn bracket(c: &mut Chance, t: &mut Vec<u8>) {
+    let brackets = (0..t.len()).filter(|&i| b"()".contains(&t[i])).map(|i| (i, i + 1));
+    let ends: Vec<(usize, usize)> = name_places(t).into_iter().skip(1).chain(brackets).collect();
+    if !ends.is_empty() {
+        let (one, other) = (*c.pick(&ends), *c.pick(&ends));
+        let to = one.1.max(other.1);
+        if c.once_in(2) {
+            t.insert(to, *c.pick(b"?+*"));
+        }
+        t.insert(to, b')');
+        t.insert(one.0.min(other.0), b'(');
+    }
+}
+
+/// A text near a good one: bytes changed, brackets, marks or white space added, names replaced by others of the book, by unknown
+/// ones or by bad ones.
 pub fn damaged_text(c: &mut Chance, names: &[Vec<u8>], good: &[u8]) -> Vec<u8> {
     let mut t = good.to_vec();
     if t.is_empty() {
         return t;
     }
     let at = c.below(t.len());
-    match c.below(12) {
+    match c.below(16) {
         0 => drop(t.remove(at)),
-        1 => t.insert(at, *c.pick(b" ()|,?+*<>!EMPTYa1-._\t\n\r#%")),
-        2 => t[at] = *c.pick(b" ()|,?+*<>!EMPTYa1-._\t\n\r#%"),
+        1 => t.insert(at, *c.pick(BYTES)),
+        2 => t[at] = *c.pick(BYTES),
         3 => t.insert(at, t[at]),
         4 if at + 1 < t.len() => t.swap(at, at + 1),
         5 => t.truncate(at),
         6 => t.push(*c.pick(b"\n >")),
-        7..=10 => {
-            let places = name_places(&t);
-            if let Some(&(a, b)) = places.get(c.below(places.len().max(1))) {
-                let other = match c.below(5) {
-                    0 | 1 => c.pick(names).clone(),
-                    2 => name(c),
-                    3 => vec![b'x'; c.from_to(31, 34)],
-                    _ => b"9x".to_vec(),
-                };
-                t.splice(a..b, other);
-            }
-        }
+        7..=10 => rename(c, names, &mut t),
+        11 | 12 => beside_sign(c, &mut t),
+        13 | 14 => bracket(c, &mut t),
         _ => {
             // A piece twice: brackets, commas and names with them.
             let to = c.from_to(at, (at + 12).min(t.len()));
