@@ -335,6 +335,8 @@ fn limits(c: &mut Chance, _: u64) -> Vec<Due> {
             calls.push((Call::Dtd { book }, due));
         }
     }
+    calls.extend(forms::white_space());
+    calls.extend(forms::joined());
     calls
 }
 

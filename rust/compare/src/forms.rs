@@ -1,7 +1,9 @@
-//! Declarations to read, with the answers written down: the texts that paper 01 and request U1 of paper 02 name, and texts near them.
+//! Declarations to read. With the answers written down: the texts that paper 01 and request U1 of paper 02 name, texts near them,
+//! and every byte where white space has to be, may be or may not be. And every beginning with every token and every ending.
 
 use crate::calls::{Answer, Call};
 use crate::cases::{letters, record, Due};
+use crate::make::{LATER, WHITE};
 use second::book::bytes_of;
 use second::record::EMPTY;
 
@@ -102,6 +104,87 @@ pub fn texts() -> Vec<Due> {
         let long = "x".repeat(size);
         for model in [format!("({long})"), format!("({long})?"), format!("(a|{long})*"), format!("((\n{long}),a)")] {
             calls.push(of_model(&model, refused(number)));
+        }
+    }
+    calls
+}
+
+/// Texts with the places where white space has to be (`_`), may be (`~`) and may not be (`^`).
+const PLACED: &[(&str, Factors)] = &[
+    ("<!ELEMENT_z_~EMPTY~>", &[]),
+    ("^<!^ELEMENT_z_(~a~)^?~>^", &[("a", 1)]),
+    ("<!ELEMENT_z_~(~a~|~b~)^*~>", &[("ab", 3)]),
+    ("<!ELEMENT_z_(~a^+~,~(~b~)^?~,~(~d~|~c~)^*~)~>", &[("a", 2), ("b", 1), ("cd", 3)]),
+];
+
+/// The text with these bytes at one of its places. Of the others only those that need it have white space.
+fn with_bytes(text: &str, place: usize, bytes: &[u8]) -> Vec<u8> {
+    let mut out = Vec::new();
+    for (i, b) in text.bytes().enumerate() {
+        match b {
+            _ if i == place => out.extend(bytes),
+            b'_' => out.push(b' '),
+            b'~' | b'^' => {}
+            _ => out.push(b),
+        }
+    }
+    out
+}
+
+/// Every byte at each of these places. Except where white space has to be, what is due of a name's byte or a mark is left to the
+/// second implementation.
+pub fn white_space() -> Vec<Due> {
+    let book = bytes_of(&letters(), &[]);
+    let mut calls: Vec<Due> = Vec::new();
+    for (text, factors) in PLACED {
+        let mut call = |at: usize, bytes: &[u8], due: Option<Answer>| {
+            calls.push((Call::ReadDeclaration { book: book.clone(), text: with_bytes(text, at, bytes) }, due));
+        };
+        for (at, place) in text.bytes().enumerate().filter(|(_, place)| b"_~^".contains(place)) {
+            for byte in 0..=255 {
+                let due = match (place, WHITE.contains(&byte)) {
+                    (b'_' | b'~', true) => Some(Answer::Read(0, 25, record(factors))),
+                    (b'_', false) | (b'^', true) => Some(refused(13)),
+                    _ if LATER.contains(&byte) || b"?+*".contains(&byte) => None,
+                    _ => Some(refused(13)),
+                };
+                call(at, &[byte], due);
+            }
+            for character in ["\u{85}", "\u{a0}"] {
+                call(at, character.as_bytes(), Some(refused(13)));
+            }
+        }
+    }
+    calls
+}
+
+/// Beginnings of declarations behind `<!ELEMENT`, one for each place of the grammar.
+const BEGINNINGS: &[&str] = &[
+    "", " z", " z EMPTY", " z (", " z (a", " z (a|", " z (a|b", " z (a)", " z (a)*", " z (a,", " z (a,b", " z (a?", " z ((",
+    " z ((a", " z ((a|", " z ((a)", " z (a)>",
+];
+
+/// Each token, a byte that is none, and nothing.
+const TOKENS: &[&str] = &["c", "EMPTY", "(", ")", ",", "|", ">", "?", "+", "*", "#", ""];
+
+/// Endings: for each place one or more that end a declaration.
+const ENDINGS: &[&str] = &[
+    "", ">", "*>", ")>", ")*>", "))>", ")*)>", "d)>", "d)*>", "d))>", "|d)>", "|d)*>", "|d))>", ",d)>", ",(d))>", "(d)>",
+    "(d))>", "z (d)>", "z EMPTY>", "EMPTY>",
+];
+
+/// Every token between every beginning and every ending, with and without white space before it and behind it.
+pub fn joined() -> Vec<Due> {
+    let book = bytes_of(&letters(), &[]);
+    let mut calls = Vec::new();
+    for beginning in BEGINNINGS {
+        for token in TOKENS {
+            for ending in ENDINGS {
+                for (before, behind) in [("", ""), (" ", ""), ("", " "), (" ", " ")] {
+                    let text = ["<!ELEMENT", beginning, before, token, behind, ending].concat().into_bytes();
+                    calls.push((Call::ReadDeclaration { book: book.clone(), text }, None));
+                }
+            }
         }
     }
     calls
