@@ -2,8 +2,8 @@
 
 use crate::calls::{Answer, Call};
 use crate::chance::Chance;
-use crate::forms;
 use crate::make::*;
+use crate::{forms, symbols};
 use second::book::{bytes_of, Block};
 use second::record::{Record, EMPTY};
 
@@ -12,21 +12,35 @@ pub type Due = (Call, Option<Answer>);
 
 pub struct Kind {
     pub name: &'static str,
-    /// How many cases a run has; a longer run has as many times more.
+    /// How many cases a plain run has.
     pub cases: u64,
+    /// Whether these are all there are. Of other kinds a longer run has as many times more.
+    pub fixed: bool,
     pub make: fn(&mut Chance, u64) -> Vec<Due>,
+}
+
+impl Kind {
+    /// How many cases a run has that is so many times as long as a plain one.
+    pub fn cases_in(&self, times: u64) -> u64 {
+        if self.fixed {
+            self.cases
+        } else {
+            self.cases * times
+        }
+    }
 }
 
 /// The quick ones first.
 pub const KINDS: &[Kind] = &[
-    Kind { name: "paper", cases: 1, make: paper },
-    Kind { name: "limits", cases: 1, make: limits },
-    Kind { name: "texts", cases: 4000, make: texts },
-    Kind { name: "records", cases: 3000, make: records },
-    Kind { name: "writing", cases: 1500, make: writing },
-    Kind { name: "damaged", cases: 2000, make: damaged },
-    Kind { name: "small", cases: 1000, make: small },
-    Kind { name: "large", cases: 12, make: large },
+    Kind { name: "paper", cases: 1, fixed: true, make: paper },
+    Kind { name: "limits", cases: 1, fixed: true, make: limits },
+    Kind { name: "texts", cases: 4000, fixed: false, make: texts },
+    Kind { name: "records", cases: 3000, fixed: false, make: records },
+    Kind { name: "writing", cases: 1500, fixed: false, make: writing },
+    Kind { name: "damaged", cases: 2000, fixed: false, make: damaged },
+    Kind { name: "small", cases: 1000, fixed: false, make: small },
+    Kind { name: "large", cases: 12, fixed: false, make: large },
+    Kind { name: "symbols", cases: symbols::CASES, fixed: true, make: symbols::calls },
 ];
 
 fn undue(calls: Vec<Call>) -> Vec<Due> {

@@ -1,5 +1,5 @@
 //! Compares the proved library and program with the second implementation: many cases by chance, each given by a seed, a kind and
-//! a number, and the cases that the papers write out.
+//! a number, the cases that the papers write out, and every short model of a declaration.
 
 pub mod calls;
 pub mod cases;
@@ -7,6 +7,7 @@ pub mod chance;
 pub mod forms;
 pub mod make;
 pub mod program;
+pub mod symbols;
 
 use calls::{Answer, Call, Calls, Second};
 use cases::{Kind, KINDS};
@@ -104,9 +105,7 @@ pub fn run(seed: u64, times: u64, tested: &mut dyn Calls, reached: &mut Reached)
 /// The same of some kinds.
 pub fn run_kinds(kinds: &[Kind], seed: u64, times: u64, tested: &mut dyn Calls, reached: &mut Reached) -> Result<(), String> {
     for kind in kinds {
-        // The kinds without chance are run once.
-        let cases = if kind.cases == 1 { 1 } else { kind.cases * times };
-        for case in 0..cases {
+        for case in 0..kind.cases_in(times) {
             run_case(kind, seed, case, tested, reached)?;
         }
     }

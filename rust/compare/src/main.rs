@@ -56,7 +56,7 @@ fn main() {
             let kind = KINDS.iter().find(|k| k.name == name).unwrap_or_else(|| usage(&format!("no kind {name}")));
             let cases = match case {
                 Some(case) => case..case + 1,
-                None => 0..kind.cases * times,
+                None => 0..kind.cases_in(times),
             };
             cases.into_iter().try_for_each(|case| run_case(kind, seed, case, &mut *tested, &mut reached))
         }
