@@ -1,8 +1,9 @@
-//! The comparison finds wrong programs: the traps and worthless versions of paper 01, and answers that are wrong at one limit.
-//! Each is the second implementation with one fault.
+//! The comparison finds wrong programs: the traps and worthless versions of paper 01, answers that are wrong at one limit, and
+//! readers that take less or more than request U1 of paper 02 allows. Each is the second implementation with one fault.
 
 use compare::calls::{Calls, Second};
-use compare::cases::KINDS;
+use compare::cases::{Kind, KINDS};
+use compare::make::{LATER, WHITE};
 use compare::{run, run_kinds, Reached, SEED};
 use second::book;
 use second::chain::Graph;
@@ -61,12 +62,36 @@ faults! {
     RefusedWrites,
     LengthOneMore,
     NothingWritten,
-    // Of the reader.
-    LineFeedTaken,
-    SpaceBeforeMark,
-    RepeatBeforeUnknown,
+    // Of the reader: texts that it takes,
+    LineFeedBehindTaken,
+    FormFeedTaken,
+    VerticalTabTaken,
+    NextLineTaken,
+    NoBreakSpaceTaken,
+    WhiteBeforeMarkTaken,
+    WhiteBeforeWholeMarkTaken,
+    MarkBehindListTaken,
+    MarkBehindBracketsTaken,
+    MarkInBracketsTaken,
+    TwoMarksTaken,
+    ThreeBracketsTaken,
+    BracketsInGroupTaken,
+    NoNameTaken,
+    // texts that it refuses,
+    TabRefused,
+    ReturnRefused,
+    LineFeedRefused,
+    OtherThanSpaceBeforeParent,
+    WhiteBeforeEndRefused,
     GroupsMustRise,
-    NoSpaceBeforeEnd,
+    WholeGroupRefused,
+    WholeNameRefused,
+    OneNameGroupRefused,
+    RepeatInWholeGroup,
+    // and what it answers.
+    WholeMarkLost,
+    OneNameGroupMarkLost,
+    RepeatBeforeUnknown,
     RefusedParent,
     SixtyFourFactors,
 }
@@ -244,34 +269,15 @@ impl Calls for Wrong {
     }
 
     fn read_declaration(&mut self, book: &[u8], text: &[u8]) -> (u8, usize, Record) {
-        let mut text = text.to_vec();
-        match self.0 {
-            LineFeedTaken if text.ends_with(b"\n") => drop(text.pop()),
-            SpaceBeforeMark => {
-                while let Some(at) = (1..text.len()).find(|&i| b"?+*".contains(&text[i]) && text[i - 1] == b' ') {
-                    text.remove(at - 1);
-                }
+        let (number, parent, record) = Second.read_declaration(book, text);
+        match number {
+            13 => Second.read_declaration(book, &self.instead(text)),
+            0 | 14 | 15 if self.refuses(text, number) => (13, 0, EMPTY),
+            0 | 14 | 15 => {
+                let (number, parent, record) = self.answers(text, number, parent, record);
+                (self.number(book, number), parent, record)
             }
-            _ => {}
-        }
-        let (number, parent, record) = Second.read_declaration(book, &text);
-        match (self.0, number) {
-            (RepeatBeforeUnknown, 14) if twice(&text) => (15, 0, EMPTY),
-            (GroupsMustRise, 0) => {
-                let names = book::read(book).unwrap().names;
-                let house = written(&names, parent, &record);
-                let bare: Vec<u8> = text.iter().copied().filter(|b| *b != b' ').collect();
-                let house: Vec<u8> = house.into_iter().filter(|b| *b != b' ').collect();
-                if bare == house {
-                    (0, parent, record)
-                } else {
-                    (13, 0, EMPTY)
-                }
-            }
-            (NoSpaceBeforeEnd, 0) if text.ends_with(b" >") => (13, 0, EMPTY),
-            (RefusedParent, 14 | 15) => (number, 1, record),
-            (SixtyFourFactors, 15) if text.iter().filter(|b| **b == b',').count() >= 64 => (13, 0, EMPTY),
-            (_, n) => (self.number(book, n), parent, record),
+            _ => (self.number(book, number), parent, record),
         }
     }
 
@@ -280,14 +286,123 @@ impl Calls for Wrong {
     }
 }
 
-/// Whether some name stands twice in the model of a text.
-fn twice(text: &[u8]) -> bool {
+/// The faults of the reader.
+impl Wrong {
+    /// What is read instead of a text that has not the form.
+    fn instead(&self, text: &[u8]) -> Vec<u8> {
+        let mut t = text.to_vec();
+        match self.0 {
+            LineFeedBehindTaken if t.ends_with(b"\n") => drop(t.pop()),
+            FormFeedTaken => replace(&mut t, b"\x0c", b" "),
+            VerticalTabTaken => replace(&mut t, b"\x0b", b" "),
+            NextLineTaken => replace(&mut t, b"\x85", b" "),
+            NoBreakSpaceTaken => replace(&mut t, b"\xc2\xa0", b" "),
+            WhiteBeforeMarkTaken => {
+                for (white, mark) in WHITE.iter().flat_map(|white| MARKS.iter().map(move |mark| (*white, *mark))) {
+                    replace(&mut t, &[white, mark], &[mark]);
+                }
+            }
+            MarkInBracketsTaken => {
+                if let Some(&(_, to)) = inner(text).iter().find(|(_, to)| MARKS.contains(&text[to - 1])) {
+                    t.swap(to - 1, to);
+                }
+            }
+            TwoMarksTaken => MARKS.iter().for_each(|&mark| replace(&mut t, &[mark, mark], &[mark])),
+            ThreeBracketsTaken => {
+                replace(&mut t, b"(((", b"((");
+                replace(&mut t, b")))", b"))");
+            }
+            BracketsInGroupTaken => {
+                if let Some(&(from, to)) = inner(text).iter().find(|(_, to)| text[to + 1..].starts_with(b"|")) {
+                    t.remove(to);
+                    t.remove(from);
+                }
+            }
+            NoNameTaken => replace(&mut t, b"()", b"EMPTY"),
+            _ => self.whole_mark_instead(&mut t),
+        }
+        t
+    }
+
+    /// The same where the fault is about a mark behind the whole model.
+    fn whole_mark_instead(&self, t: &mut Vec<u8>) {
+        let Some(at) = whole_mark(t) else { return };
+        let list = t.contains(&b',');
+        match self.0 {
+            WhiteBeforeWholeMarkTaken if WHITE.contains(&t[at - 1]) => drop(t.remove(at - 1)),
+            MarkBehindListTaken if t[at - 1] == b')' && list => drop(t.remove(at)),
+            MarkBehindBracketsTaken if t[at - 1] == b')' && !list => t.swap(at - 1, at),
+            _ => {}
+        }
+    }
+
+    /// Whether a text that has the form is refused with 13.
+    fn refuses(&self, text: &[u8], number: u8) -> bool {
+        let one_bracket = text.iter().filter(|b| **b == b'(').count() == 1;
+        let whole_group = one_bracket && text.contains(&b'|');
+        match self.0 {
+            TabRefused => text.contains(&b'\t'),
+            ReturnRefused => text.contains(&b'\r'),
+            LineFeedRefused => text.contains(&b'\n'),
+            OtherThanSpaceBeforeParent => text[9] != b' ',
+            WhiteBeforeEndRefused => WHITE.contains(&text[text.len() - 2]),
+            GroupsMustRise => factors(text).iter().any(|held| !held.is_sorted()),
+            WholeGroupRefused => whole_group,
+            WholeNameRefused => one_bracket && !whole_group && whole_mark(text).is_some(),
+            OneNameGroupRefused => inner(text).iter().any(|&(from, to)| !text[from..to].contains(&b'|')),
+            RepeatInWholeGroup => whole_group && number == 15,
+            _ => false,
+        }
+    }
+
+    /// The answer on a text that has the form.
+    fn answers(&self, text: &[u8], number: u8, parent: usize, mut record: Record) -> (u8, usize, Record) {
+        let all = factors(text).concat();
+        let twice = (0..all.len()).any(|i| all[..i].contains(&all[i]));
+        match (self.0, number) {
+            (WholeMarkLost, 0) if whole_mark(text).is_some() => record.mode[0] = 0,
+            (OneNameGroupMarkLost, 0) => {
+                for (from, _) in inner(text).into_iter().filter(|&(from, to)| !text[from..to].contains(&b'|')) {
+                    record.mode[text[..from].iter().filter(|b| **b == b',').count()] = 0;
+                }
+            }
+            (RepeatBeforeUnknown, 14) if twice => return (15, 0, EMPTY),
+            (RefusedParent, 14 | 15) => return (number, 1, record),
+            (SixtyFourFactors, 15) if factors(text).len() > 64 => return (13, 0, EMPTY),
+            _ => {}
+        }
+        (number, parent, record)
+    }
+}
+
+const MARKS: &[u8] = b"?+*";
+
+/// Every occurrence of some bytes by others.
+fn replace(text: &mut Vec<u8>, old: &[u8], new: &[u8]) {
+    for at in (0..text.len()).rev() {
+        if text[at..].starts_with(old) {
+            text.splice(at..at + old.len(), new.iter().copied());
+        }
+    }
+}
+
+/// Where a mark is that only white space and `>` follow, and that the text does not begin with.
+fn whole_mark(text: &[u8]) -> Option<usize> {
+    let at = text.iter().rposition(|b| *b != b'>' && !WHITE.contains(b))?;
+    (at > 0 && MARKS.contains(&text[at])).then_some(at)
+}
+
+/// Where each bracket but the first opens, and where one closes behind it.
+fn inner(text: &[u8]) -> Vec<(usize, usize)> {
+    let opens = (0..text.len()).filter(|&i| text[i] == b'(').skip(1);
+    opens.filter_map(|from| Some((from, from + text[from..].iter().position(|b| *b == b')')?))).collect()
+}
+
+/// The names of each factor of a text that has the form.
+fn factors(text: &[u8]) -> Vec<Vec<&[u8]>> {
     let model = text.iter().position(|b| *b == b'(').map_or(&text[..0], |at| &text[at..]);
-    let mut names: Vec<&[u8]> = model.split(|b| !compare::make::LATER.contains(b)).filter(|n| !n.is_empty()).collect();
-    let all = names.len();
-    names.sort();
-    names.dedup();
-    names.len() < all
+    let words = |part| <[u8]>::split(part, |b| !LATER.contains(b));
+    model.split(|b| *b == b',').map(|part| words(part).filter(|word| !word.is_empty()).collect()).collect()
 }
 
 #[test]
@@ -298,14 +413,44 @@ fn no_fault_is_found_in_the_second_implementation() {
     assert_eq!(NONE, 255);
 }
 
+/// These kinds find the fault.
+fn found(fault: Fault, kinds: &[Kind]) {
+    let found = run_kinds(kinds, SEED, 1, &mut Wrong(fault), &mut Reached::default());
+    let said = found.expect_err(&format!("{fault:?} is not found"));
+    let first = said.lines().next().unwrap();
+    println!("{fault:?}: {first}");
+    assert!(first.starts_with("the proved code differs"), "{fault:?}: {said}");
+}
+
 #[test]
 fn every_fault_is_found() {
     for &fault in FAULTS {
-        // Without the first kind, which has the samples of paper 01 written out: chance has to find it too.
-        let found = run_kinds(&KINDS[1..], SEED, 1, &mut Wrong(fault), &mut Reached::default());
-        let said = found.expect_err(&format!("{fault:?} is not found"));
-        let first = said.lines().next().unwrap();
-        println!("{fault:?}: {first}");
-        assert!(first.starts_with("the proved code differs"), "{fault:?}: {said}");
+        // Without the first kind, which has the samples and texts of the papers written out: chance has to find it too.
+        found(fault, &KINDS[1..]);
+    }
+}
+
+/// A kind of this name alone.
+fn kind(name: &str) -> &'static [Kind] {
+    let at = KINDS.iter().position(|kind| kind.name == name).unwrap();
+    &KINDS[at..=at]
+}
+
+#[test]
+fn every_fault_of_the_reader_is_found_by_chance_and_by_short_models() {
+    let outside_models = [
+        LineFeedBehindTaken,
+        FormFeedTaken,
+        VerticalTabTaken,
+        NextLineTaken,
+        NoBreakSpaceTaken,
+        OtherThanSpaceBeforeParent,
+        SixtyFourFactors,
+    ];
+    for &fault in FAULTS.iter().skip_while(|fault| **fault != LineFeedBehindTaken) {
+        found(fault, kind("texts"));
+        if !outside_models.contains(&fault) {
+            found(fault, kind("symbols"));
+        }
     }
 }
