@@ -13,7 +13,7 @@ use borrow.Author.Tests.{eq-eqb, ne-eqb}
 use Rattle.model.specs.declared.Model.{Model}
 use Rattle.model.specs.Record.{factorOf, IsChain}
 use Rattle.declaration_spelling.specs.Token.{Token, word, lpar, rpar, comma, end, mark, markByte, spell, behind, room, Fits, Spells}
-use Rattle.declaration_spelling.specs.House.{Factor, members, factorsFrom, factorsOf, nameAt, named, opening, emptyWord, markText, barsText, groupText, factorText, othersText, bodyText, houseText, declaration}
+use Rattle.declaration_spelling.specs.House.{Factor, members, factorsFrom, factorsOf, nameAt, named, emptyWord, markText, barsText, groupText, factorText, othersText, bodyText, houseText, declaration}
 use Rattle.declaration_spelling.specs.Spelled.{markTokens, barsTokens, IsFactor, AreLater, IsModel, SpelledBy, times, Reordered, Spelled}
 use Rattle.declaration_spelling.proofs.Bytes.{space-is}
 use Rattle.declaration_spelling.proofs.Shape.{Full, Small, full-named, small-named}
@@ -47,8 +47,7 @@ factor-spelled f (y ∷ []) x xs e q l ts k h = (
   λ u g. ([], markText (f .mode) k, refl, tt, g, mark-spelled (f .mode) ts k h (word y)),
 )
 factor-spelled f (y ∷ z ∷ zs) x xs e q l ts k h =
-    let more = bars-spelled (z ∷ zs) (markTokens (f .mode) ts) (markText (f .mode) k) (mark-spelled (f .mode) ts k h) (word y) in
-    (
+    let more = bars-spelled (z ∷ zs) (markTokens (f .mode) ts) (markText (f .mode) k) (mark-spelled (f .mode) ts k h) (word y) in (
       lpar ∷ word y ∷ barsTokens (z ∷ zs) (markTokens (f .mode) ts),
       inr (y, z ∷ zs, e, l, refl),
       λ u g. ([], y ++ barsText (z ∷ zs) (markText (f .mode) k), refl, tt, g, ([], barsText (z ∷ zs) (markText (f .mode) k), refl, tt, tt, more)),

@@ -24,21 +24,21 @@ pub const NOWHERE: u8 = 14;
 
 // The next state: a row for each state, a column for each kind of token.
 const STATES: [u8; 165] = [
-    // other, word, EMPTY, ( ) , | > ? + *
-    14, 1, 1, 14, 14, 14, 14, 14, 14, 14, 14, // 0 before the parent
-    14, 14, 12, 2, 14, 14, 14, 14, 14, 14, 14, // 1 before the model
-    14, 3, 3, 8, 14, 14, 14, 14, 14, 14, 14, // 2 behind its bracket
-    14, 14, 14, 14, 6, 7, 4, 14, 11, 11, 11, // 3 behind a name there
-    14, 5, 5, 14, 14, 14, 14, 14, 14, 14, 14, // 4 behind a bar of a group that is the whole model
-    14, 14, 14, 14, 6, 14, 4, 14, 14, 14, 14, // 5 behind a later name of it
-    14, 14, 14, 14, 14, 14, 14, 13, 12, 12, 12, // 6 behind this group
-    14, 10, 10, 8, 14, 14, 14, 14, 14, 14, 14, // 7 before a later factor
-    14, 9, 9, 14, 14, 14, 14, 14, 14, 14, 14, // 8 before a name of a factor's group
-    14, 14, 14, 14, 10, 14, 8, 14, 14, 14, 14, // 9 behind a name of it
-    14, 14, 14, 14, 12, 7, 14, 14, 11, 11, 11, // 10 behind a factor's names
-    14, 14, 14, 14, 12, 7, 14, 14, 14, 14, 14, // 11 behind its mark
-    14, 14, 14, 14, 14, 14, 14, 13, 14, 14, 14, // 12 before `>`
-    14, 14, 14, 14, 14, 14, 14, 14, 14, 14, 14, // 13 behind `>`
+    // the columns: other, word, EMPTY, ( ) , | > ? + *
+    14,  1,  1, 14, 14, 14, 14, 14, 14, 14, 14, // 0 beforeParent: before the parent
+    14, 14, 12,  2, 14, 14, 14, 14, 14, 14, 14, // 1 beforeModel: before the model
+    14,  3,  3,  8, 14, 14, 14, 14, 14, 14, 14, // 2 behindBracket: behind its bracket
+    14, 14, 14, 14,  6,  7,  4, 14, 11, 11, 11, // 3 behindFirst: behind a name there
+    14,  5,  5, 14, 14, 14, 14, 14, 14, 14, 14, // 4 wholeBar: behind a bar of a group that is the whole model
+    14, 14, 14, 14,  6, 14,  4, 14, 14, 14, 14, // 5 wholeName: behind a later name of it
+    14, 14, 14, 14, 14, 14, 14, 13, 12, 12, 12, // 6 wholeGroup: behind this group
+    14, 10, 10,  8, 14, 14, 14, 14, 14, 14, 14, // 7 beforeFactor: before a later factor
+    14,  9,  9, 14, 14, 14, 14, 14, 14, 14, 14, // 8 inGroup: before a name of a factor's group
+    14, 14, 14, 14, 10, 14,  8, 14, 14, 14, 14, // 9 groupName: behind a name of it
+    14, 14, 14, 14, 12,  7, 14, 14, 11, 11, 11, // 10 behindNames: behind a factor's names
+    14, 14, 14, 14, 12,  7, 14, 14, 14, 14, 14, // 11 behindMark: behind its mark
+    14, 14, 14, 14, 14, 14, 14, 13, 14, 14, 14, // 12 beforeEnd: before `>`
+    14, 14, 14, 14, 14, 14, 14, 14, 14, 14, 14, // 13 behindEnd: behind `>`
     14, 14, 14, 14, 14, 14, 14, 14, 14, 14, 14, // 14 nowhere
 ];
 

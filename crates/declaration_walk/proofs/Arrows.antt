@@ -12,9 +12,9 @@ use borrow.Author.Tests.{eqb-true}
 use Rattle.declaration_spelling.specs.Token.{Token, word, lpar, rpar, comma, bar, end, mark, other}
 use Rattle.declaration_spelling.specs.House.{emptyWord}
 use Rattle.declaration_spelling.specs.Cut.{same}
-use Rattle.declaration_spelling.specs.Kind.{otherKind, wordKind, emptyKind, lparKind, rparKind, commaKind, barKind, endKind, questionKind, starKind, markKind, tokenKind}
+use Rattle.declaration_spelling.specs.Kind.{otherKind, wordKind, emptyKind, lparKind, rparKind, commaKind, barKind, endKind, questionKind, markKind, tokenKind}
 use Rattle.declaration_spelling.proofs.Tests.{same-is}
-use Rattle.declaration_walk.specs.Walk.{State, nowhere, Arrow, by, byWord, byMark, arrows, along, step, numberOf, walk}
+use Rattle.declaration_walk.specs.Walk.{State, nowhere, Arrow, byWord, byMark, arrows, along, step, numberOf, walk}
 
 -- from nowhere no token leads on
 pub lost : (ts : List Token) → walk nowhere ts ≡ false

@@ -1,12 +1,12 @@
 -- The walk takes the tokens of every model.
 -- Assumes nothing.
 use Prim.Native.Nat.{ℕ, zero, suc, _≤_}
-use mathlib.Core.Path.{_≡_, refl, sym, _∙_, ap}
+use mathlib.Core.Path.{_≡_, refl, _∙_, ap}
 use mathlib.Core.Bool.{Bool, true, false, cond}
 use mathlib.Core.List.{List, [], _∷_}
 use mathlib.Core.Logic.{inl, inr}
 use native.Mathlib.Omega.{arith}
-use Rattle.declaration_spelling.specs.Token.{Token, word, lpar, rpar, comma, end}
+use Rattle.declaration_spelling.specs.Token.{Token, word, rpar, end}
 use Rattle.declaration_spelling.specs.House.{Factor, emptyWord}
 use Rattle.declaration_spelling.specs.Spelled.{markTokens, barsTokens, IsGroup, IsFactor, AreLater, IsModel}
 use Rattle.declaration_spelling.specs.Cut.{same}

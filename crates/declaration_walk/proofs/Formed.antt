@@ -2,7 +2,7 @@
 -- Assumes nothing.
 use Prim.Native.Nat.{ℕ, zero, suc, _<_}
 use mathlib.Core.Path.{_≡_, refl, sym, _∙_, ap, ap₂, subst}
-use mathlib.Core.Bool.{Bool, true, false, cond, not, _&&_, false≢true}
+use mathlib.Core.Bool.{Bool, true, false, cond, _&&_, false≢true}
 use mathlib.Core.List.{List, [], _∷_, _++_}
 use mathlib.Core.Option.{Option, none, some}
 use mathlib.Core.Logic.{_⊎_, inl, inr}
@@ -15,7 +15,6 @@ use Rattle.declaration_spelling.specs.Spelled.{IsModel}
 use Rattle.declaration_spelling.specs.Cut.{same, strip, SpacedToken, cut, fits, spaced, tokens}
 use Rattle.declaration_spelling.specs.Kind.{otherKind, wordKind, emptyKind, markKind, tokenKind}
 use Rattle.declaration_spelling.specs.Stops.{Form, HasForm}
-use Rattle.declaration_spelling.proofs.Record.{allForm}
 use Rattle.declaration_spelling.proofs.Tests.{and-is, strip-join, strip-is}
 use Rattle.declaration_spelling.proofs.Bytes.{name-word, empty-name}
 use Rattle.declaration_spelling.proofs.Cutting.{Proper, AllProper, cut-sound, cut-complete}
@@ -133,12 +132,13 @@ cut-formed text t o e =
     go : ((p : List ℕ) × (us : List Token) × (fs : List (Factor (List ℕ))) × (tokens (cut t .pieces) ≡ word p ∷ us) × IsModel fs us)
         → Spells (word opening) (tokens (cut t .pieces)) t → allPass isName (tokens (cut t .pieces)) ≡ true → Formed text
     go (p, us, fs, q, M) s w =
-        let d : Form = record { parent = p; factors = fs } in
-        (d,
+        let d : Form = record { parent = p; factors = fs } in (
+          d,
           record {
             good = all-law isName d .0 (sym (form-pass isName empty-name d us M) ∙ ap (allPass isName) (sym q) ∙ w);
             spelled = record { rest = t; opens = o; tokens = us; model = M; spaced = subst (λ (l : List Token). Spells (word opening) l t) q s };
-          })
+          },
+        )
 
 pub form-sound : (text : List ℕ) → hasForm text ≡ true → Formed text
 unfolding hasForm acceptsRest

@@ -1,6 +1,6 @@
 -- What the walk takes are the tokens of a parent and a model.
 -- Assumes nothing.
-use Prim.Native.Nat.{ℕ, zero, suc, _≤_, _<_}
+use Prim.Native.Nat.{ℕ, suc, _≤_, _<_}
 use mathlib.Core.Path.{_≡_, refl, sym, _∙_, ap, subst}
 use mathlib.Core.Bool.{true, false≢true}
 use mathlib.Core.List.{List, [], _∷_}
@@ -9,8 +9,7 @@ use native.Mathlib.Omega.{arith}
 use Rattle.declaration_spelling.specs.Token.{Token, word, lpar, rpar, comma, bar, end, mark}
 use Rattle.declaration_spelling.specs.House.{Factor, emptyWord}
 use Rattle.declaration_spelling.specs.Spelled.{markTokens, barsTokens, IsGroup, IsBare, IsFactor, AreLater, IsModel}
-use Rattle.declaration_spelling.specs.Kind.{tokenKind}
-use Rattle.declaration_walk.specs.Walk.{State, beforeParent, beforeModel, behindBracket, behindFirst, wholeBar, wholeName, wholeGroup, beforeFactor, inGroup, groupName, behindNames, behindMark, beforeEnd, behindEnd, nowhere, Arrow, by, byWord, byMark, arrows, step, numberOf, walk}
+use Rattle.declaration_walk.specs.Walk.{State, beforeParent, beforeModel, behindBracket, behindFirst, wholeBar, wholeName, wholeGroup, beforeFactor, inGroup, groupName, behindNames, behindMark, beforeEnd, behindEnd, nowhere, byWord, byMark, arrows, step, numberOf, walk}
 use Rattle.declaration_walk.proofs.Arrows.{Taken, taken, word-taken, mark-taken, lpar-is, rpar-is, comma-is, bar-is, end-is, empty-is}
 
 -- ---- what is left of a text in each state

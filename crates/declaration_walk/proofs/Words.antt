@@ -5,7 +5,7 @@ use mathlib.Core.Path.{_≡_, refl, _∙_, ap}
 use mathlib.Core.Bool.{Bool, true, false, _&&_}
 use mathlib.Core.List.{List, [], _∷_}
 use mathlib.Core.Logic.{inl, inr}
-use Rattle.declaration_spelling.specs.Token.{Token, word, lpar, end}
+use Rattle.declaration_spelling.specs.Token.{Token, word, end}
 use Rattle.declaration_spelling.specs.House.{Factor, emptyWord}
 use Rattle.declaration_spelling.specs.Spelled.{markTokens, barsTokens, IsGroup, IsFactor, AreLater, IsModel}
 use Rattle.declaration_spelling.specs.Stops.{Form}

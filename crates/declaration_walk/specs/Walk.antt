@@ -16,18 +16,24 @@ use Rattle.declaration_spelling.specs.Kind.{wordKind, emptyKind, lparKind, rpar
 
 -- ---- the states
 
--- Where the walk stands. A name behind the model's bracket may be the first factor, or the first name of a group that
--- is the whole model; what follows decides.
+-- Where the walk is. A name behind the model's bracket may be the first factor, or the first name of a group that is
+-- the whole model; what follows decides.
 pub data State : Type 0 where
-  beforeParent : State
-  beforeModel : State
-  behindBracket : State
-  behindFirst : State
+  -- before the parent, before the model
+  beforeParent beforeModel : State
+  -- behind the model's bracket, behind a name there
+  behindBracket behindFirst : State
+  -- in a group that is the whole model: behind a bar, behind a later name; and behind this group
   wholeBar wholeName wholeGroup : State
+  -- before a later factor
   beforeFactor : State
+  -- in a factor's group: before a name, behind a name
   inGroup groupName : State
+  -- behind a factor's names, behind its mark
   behindNames behindMark : State
+  -- before `>`, behind `>`
   beforeEnd behindEnd : State
+  -- no text goes on from here
   nowhere : State
 
 -- An arrow: the kind of a token, and the state behind it.

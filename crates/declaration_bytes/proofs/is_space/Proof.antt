@@ -1,6 +1,5 @@
 -- `is_space` meets its contract.
 -- Assumes nothing.
-use mathlib.Core.Path.{refl}
 use borrow.Author.Tests.{eq-eqb, ne-eqb}
 use Rattle.declaration_spelling.specs.Token.{isSpace}
 use Rattle.declaration_bytes.proofs.is_space.Statement.{statement}

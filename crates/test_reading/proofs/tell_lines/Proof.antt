@@ -25,9 +25,10 @@ loop-again : tie.Need-loop-again Inv-loop μ-loop
 loop-again c =
     let told = c .before .before in
     let at = told .before .before in
-    let head = at .before .before .before in
-    (same-len-mid {X = ℕ} (head .loop .i) (at .next-line .result - 1 - head .loop .i) (head .loop .text) (told .tell-line .last .0) (told .tell-line .kept .0) ∙ head .loop .inv .0,
-      omega (arith, at .next-line .ensures .2, head .loop .inv .0))
+    let head = at .before .before .before in (
+      same-len-mid {X = ℕ} (head .loop .i) (at .next-line .result - 1 - head .loop .i) (head .loop .text) (told .tell-line .last .0) (told .tell-line .kept .0) ∙ head .loop .inv .0,
+      omega (arith, at .next-line .ensures .2, head .loop .inv .0),
+    )
 
 same-length : tie.Need-same-length Inv-loop μ-loop
 same-length c = search needs
