@@ -16,7 +16,7 @@ ghost use Rattle.name.specs.Class.{classTable};
 ghost use Rattle.declaration_spelling.specs.Token.{word};
 ghost use Rattle.declaration_spelling.specs.Kind.{emptyKind, tokenKind};
 ghost use Rattle.declaration_walk.specs.Walk.{beforeParent, hasForm};
-ghost use Rattle.declaration_states.specs.Table.{stateOf};
+ghost use Rattle.declaration_states.specs.Table.{stateOf, table};
 ghost use Rattle.declaration_form.specs.Step.{begins, tokenAt, advance, Stands, acceptsFrom};
 
 // Whether these bytes stand in the text from a place on.
@@ -52,23 +52,23 @@ fn word_kind(text: &[u8], from: usize, to: usize) -> u8
     }
 }
 
-// The state behind a token, by the table of classes.
-fn step(classes: &[u8; 256], text: &[u8], state: u8, behind: bool, piece: Piece) -> u8
-    requires { ⌜ Stands (now text) piece × (state ≤ 14) × (now classes ≡ classTable) ⌝ }
+// The state behind a token, by the table of states and that of classes.
+fn step(states: &[u8; 165], classes: &[u8; 256], text: &[u8], state: u8, behind: bool, piece: Piece) -> u8
+    requires { ⌜ Stands (now text) piece × (state ≤ 14) × (now classes ≡ classTable) × (now states ≡ table) ⌝ }
     ensures { λ r. ⌜ (stateOf r ≡ advance (stateOf state) behind (piece .gap) (tokenAt (now (text .entry)) (piece .from))) × (r ≤ 14) ⌝ }
 {
     if !fits(behind, piece.gap, piece.kind) {
         return NOWHERE;
     }
     if piece.kind != WORD {
-        return next_state(state, piece.kind);
+        return next_state(states, state, piece.kind);
     }
     let from = piece.from;
     let to = piece.to;
     if !good_word(classes, text, from, to) {
         return NOWHERE;
     }
-    next_state(state, word_kind(text, from, to))
+    next_state(states, state, word_kind(text, from, to))
 }
 
 // Whether the walk from a place on, before the parent and behind a word, ends behind `>` and at the end of the text.
@@ -76,6 +76,7 @@ fn walks(text: &[u8], at: usize) -> bool
     requires { ⌜ at ≤ length (now text) ⌝ }
     ensures { λ r. ⌜ r ≡ acceptsFrom (now (text .entry)) beforeParent true at ⌝ }
 {
+    let states = declaration_states::state_table();
     let classes = name::class_table();
     let mut i = at;
     let mut state = BEFORE_PARENT;
@@ -85,7 +86,7 @@ fn walks(text: &[u8], at: usize) -> bool
         if text.len() <= piece.from {
             return false;
         }
-        state = step(&classes, text, state, behind, piece);
+        state = step(&states, &classes, text, state, behind, piece);
         if state == NOWHERE {
             return false;
         }

@@ -13,7 +13,7 @@ ghost use lib.ListN.{length, take, drop};
 ghost use Rattle.name.specs.Class.{classTable};
 ghost use Rattle.name.specs.Rule.{isName};
 ghost use Rattle.declaration_walk.specs.Walk.{step, kindFits};
-ghost use Rattle.declaration_states.specs.Table.{stateOf};
+ghost use Rattle.declaration_states.specs.Table.{stateOf, table};
 
 // Three of the states; the table has them all. They are numbered as in crates/declaration_walk/specs/Walk.antt.
 pub const BEFORE_PARENT: u8 = 0;
@@ -70,10 +70,17 @@ pub fn fits(behind: bool, gap: bool, kind: u8) -> bool
     }
 }
 
-// The next state, by numbers.
-pub fn next_state(state: u8, kind: u8) -> u8
-    requires { ⌜ (state ≤ 14) × (kind ≤ 10) ⌝ }
+// The whole table. It is made again wherever it is named, so a loop asks once and lends it.
+pub fn state_table() -> [u8; 165]
+    ensures { λ r. ⌜ r ≡ table ⌝ }
+{
+    STATES
+}
+
+// The next state by the table.
+pub fn next_state(states: &[u8; 165], state: u8, kind: u8) -> u8
+    requires { ⌜ (now states ≡ table) × (state ≤ 14) × (kind ≤ 10) ⌝ }
     ensures { λ r. ⌜ (stateOf r ≡ step (stateOf state) kind) × (r ≤ 14) ⌝ }
 {
-    STATES[11 * state as usize + kind as usize]
+    states[11 * state as usize + kind as usize]
 }

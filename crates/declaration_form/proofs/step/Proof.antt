@@ -20,7 +20,7 @@ next-state-requires : tie.Need-next-state-requires
 next-state-requires c κs =
     let start = c .before .before .before .before .before in
     let p = start .pre .0 in
-    (start .pre .1, here-kind (start .args .text .now) _ _ _ (p .0) (p .1) (p .3))
+    (start .pre .3, start .pre .1, here-kind (start .args .text .now) _ _ _ (p .0) (p .1) (p .3))
 
 returns-2 : tie.Need-returns-2
 returns-2 c =
