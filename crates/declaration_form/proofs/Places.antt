@@ -59,7 +59,7 @@ piece-on s at p e h =
 module _ (s : List ℕ) (at : ℕ) (state : State) (bw : Bool) where
   -- behind the last token
   pub walk-done : length s ≤ at → acceptsFrom s state bw at ≡ eqb (numberOf state) 13
-  unfolding acceptsFrom accepts walk cut
+  unfolding acceptsFrom accepts walk numberOf cut
   walk-done h = rw (drop-of-length-le s h)
 
   over : at < length s → length s ≤ spaceEnd s at → acceptsFrom s state bw at ≡ false

@@ -15,8 +15,8 @@ ghost use lib.ListN.{length, take, drop};
 ghost use Rattle.name.specs.Class.{classTable};
 ghost use Rattle.declaration_spelling.specs.Token.{word};
 ghost use Rattle.declaration_spelling.specs.Kind.{emptyKind, tokenKind};
-ghost use Rattle.declaration_walk.specs.Walk.{beforeParent, hasForm};
-ghost use Rattle.declaration_states.specs.Table.{stateOf, table};
+ghost use Rattle.declaration_walk.specs.Walk.{beforeParent, stateOf, hasForm};
+ghost use Rattle.declaration_states.specs.Table.{table};
 ghost use Rattle.declaration_form.specs.Step.{begins, tokenAt, advance, Stands, acceptsFrom};
 
 // Whether these bytes stand in the text from a place on.
@@ -53,7 +53,14 @@ fn word_kind(text: &[u8], from: usize, to: usize) -> u8
 }
 
 // The state behind a token, by the table of states and that of classes.
-fn step(states: &[u8; 165], classes: &[u8; 256], text: &[u8], state: u8, behind: bool, piece: Piece) -> u8
+fn step(
+    states: &[u8; 165],
+    classes: &[u8; 256],
+    text: &[u8],
+    state: u8,
+    behind: bool,
+    piece: Piece,
+) -> u8
     requires { ⌜ Stands (now text) piece × (state ≤ 14) × (now classes ≡ classTable) × (now states ≡ table) ⌝ }
     ensures { λ r. ⌜ (stateOf r ≡ advance (stateOf state) behind (piece .gap) (tokenAt (now (text .entry)) (piece .from))) × (r ≤ 14) ⌝ }
 {

@@ -1,10 +1,9 @@
 -- Names and their numbers.
 -- Assumes nothing.
 use Prim.Native.Nat.{ℕ, zero, suc, _+_, _≤_, _<_}
-use mathlib.Core.Path.{_≡_, refl, _∙_, ap, ap₂, subst}
+use mathlib.Core.Path.{_≡_, refl, _∙_, ap, ap₂}
 use mathlib.Core.Bool.{Bool, true, false, cond, false≢true}
 use mathlib.Core.List.{List, [], _∷_}
-use mathlib.Core.Logic.{_↔_}
 use native.Mathlib.Omega.{arith}
 use native.Mathlib.Nat.{le-of-suc-le-suc}
 use lib.ListN.{length}
@@ -104,13 +103,6 @@ module _ (names : List (List ℕ)) (d : Distinct names) where
   pub name-known : (x : ℕ) → x < length names → known names (nameAt names x) ≡ true
   unfolding known
   name-known x l = rw (number-found names d x l)
-
-  -- for readers: a name is known exactly when it is a name of the book
-  pub known-is : (w : List ℕ) → (known names w ≡ true) ↔ ((x : ℕ) × (x < length names) × (nameAt names x ≡ w))
-  known-is w = (
-    λ e. let p = number-is names w e in (numberFor names w, p .0, p .1),
-    λ p. subst (λ (v : List ℕ). known names v ≡ true) (p .2) (name-known (p .0) (p .1)),
-  )
 
   numbers-back : (xs : List ℕ) → Below (length names) xs → numbersFor names (namesAt names xs) ≡ xs
   unfolding numbersFor namesAt

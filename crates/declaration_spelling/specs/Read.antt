@@ -1,5 +1,5 @@
--- A means: the number of a name by the book, and what a reader answers. `known-is` and `name-number` in proofs/Names.antt
--- say what the numbers are.
+-- A means: the number of a name by the book, and what a reader answers. `known-in` in proofs/Named.antt and
+-- `name-number` in proofs/Names.antt say what the numbers are.
 -- Assumes nothing.
 use Prim.Native.Nat.{ℕ}
 use mathlib.Core.Bool.{Bool, true, false}

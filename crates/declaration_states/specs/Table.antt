@@ -3,21 +3,12 @@
 -- Assumes nothing.
 use Prim.Native.Nat.{ℕ}
 use mathlib.Core.List.{List, [], _∷_, _++_, map}
-use lib.ListN.{getD}
 use Rattle.declaration_spelling.specs.Kind.{otherKind, wordKind, emptyKind, lparKind, rparKind, commaKind, barKind, endKind, questionKind, plusKind, starKind}
-use Rattle.declaration_walk.specs.Walk.{State, beforeParent, beforeModel, behindBracket, behindFirst, wholeBar, wholeName, wholeGroup, beforeFactor, inGroup, groupName, behindNames, behindMark, beforeEnd, behindEnd, nowhere, step, numberOf}
+use Rattle.declaration_walk.specs.Walk.{State, states, step, numberOf}
 
--- The kinds, and the states, by their numbers.
+-- The kinds by their numbers.
 unfoldable pub kinds : List ℕ
 kinds = otherKind ∷ wordKind ∷ emptyKind ∷ lparKind ∷ rparKind ∷ commaKind ∷ barKind ∷ endKind ∷ questionKind ∷ plusKind ∷ starKind ∷ []
-
-unfoldable pub states : List State
-states =
-    beforeParent ∷ beforeModel ∷ behindBracket ∷ behindFirst ∷ wholeBar ∷ wholeName ∷ wholeGroup ∷ beforeFactor ∷ inGroup ∷ groupName
-    ∷ behindNames ∷ behindMark ∷ beforeEnd ∷ behindEnd ∷ nowhere ∷ []
-
-unfoldable pub stateOf : ℕ → State
-stateOf number = getD states number nowhere
 
 -- The numbers of the states behind a token of each kind.
 unfoldable pub rowOf : State → List ℕ

@@ -12,8 +12,8 @@ ghost use Prim.Native.Nat.{_-_, _≤_};
 ghost use lib.ListN.{length, take, drop};
 ghost use Rattle.name.specs.Class.{classTable};
 ghost use Rattle.name.specs.Rule.{isName};
-ghost use Rattle.declaration_walk.specs.Walk.{step, kindFits};
-ghost use Rattle.declaration_states.specs.Table.{stateOf, table};
+ghost use Rattle.declaration_walk.specs.Walk.{stateOf, step, kindFits};
+ghost use Rattle.declaration_states.specs.Table.{table};
 
 // Three of the states; the table has them all. They are numbered as in crates/declaration_walk/specs/Walk.antt.
 pub const BEFORE_PARENT: u8 = 0;

@@ -1,4 +1,5 @@
 pub mod Texts
+pub mod States
 pub mod Arrows
 pub mod Sound
 pub mod Complete

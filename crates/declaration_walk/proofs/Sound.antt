@@ -2,14 +2,16 @@
 -- Assumes nothing.
 use Prim.Native.Nat.{ℕ, suc, _≤_, _<_}
 use mathlib.Core.Path.{_≡_, refl, sym, _∙_, ap, subst}
-use mathlib.Core.Bool.{true, false≢true}
+use mathlib.Core.Bool.{true}
 use mathlib.Core.List.{List, [], _∷_}
 use mathlib.Core.Logic.{_⊎_, inl, inr}
 use native.Mathlib.Omega.{arith}
+use borrow.Author.Tests.{eqb-true}
 use Rattle.declaration_spelling.specs.Token.{Token, word, lpar, rpar, comma, bar, end, mark}
 use Rattle.declaration_spelling.specs.House.{Factor, emptyWord}
 use Rattle.declaration_spelling.specs.Spelled.{markTokens, barsTokens, IsGroup, IsBare, IsFactor, AreLater, IsModel}
-use Rattle.declaration_walk.specs.Walk.{State, beforeParent, beforeModel, behindBracket, behindFirst, wholeBar, wholeName, wholeGroup, beforeFactor, inGroup, groupName, behindNames, behindMark, beforeEnd, behindEnd, nowhere, byWord, byMark, arrows, step, numberOf, walk}
+use Rattle.declaration_walk.specs.Walk.{State, beforeParent, beforeModel, behindBracket, behindFirst, wholeBar, wholeName, wholeGroup, beforeFactor, inGroup, groupName, behindNames, behindMark, beforeEnd, behindEnd, nowhere, byWord, byMark, arrows, step, numberOf, stateOf, walk}
+use Rattle.declaration_walk.proofs.States.{state-number}
 use Rattle.declaration_walk.proofs.Arrows.{Taken, taken, word-taken, mark-taken, lpar-is, rpar-is, comma-is, bar-is, end-is, empty-is}
 
 -- ---- what is left of a text in each state
@@ -146,22 +148,10 @@ back beforeEnd t ts ih (inl (k, q)) = swap beforeEnd t end ts (end-is t k) (ap (
 
 -- the walk ends in one state alone
 ends : (s : State) → walk s [] ≡ true → Left s []
-unfolding walk numberOf
-ends beforeParent e = absurd (false≢true e)
-ends beforeModel e = absurd (false≢true e)
-ends behindBracket e = absurd (false≢true e)
-ends behindFirst e = absurd (false≢true e)
-ends wholeBar e = absurd (false≢true e)
-ends wholeName e = absurd (false≢true e)
-ends wholeGroup e = absurd (false≢true e)
-ends beforeFactor e = absurd (false≢true e)
-ends inGroup e = absurd (false≢true e)
-ends groupName e = absurd (false≢true e)
-ends behindNames e = absurd (false≢true e)
-ends behindMark e = absurd (false≢true e)
-ends beforeEnd e = absurd (false≢true e)
-ends behindEnd e = refl
-ends nowhere e = absurd (false≢true e)
+unfolding walk
+ends s e =
+    let is : s ≡ behindEnd = sym (state-number s .0) ∙ ap stateOf (eqb-true (numberOf s) (numberOf behindEnd) e) ∙ state-number behindEnd .0 in
+    subst (λ (r : State). Left r []) (sym is) refl
 
 sound : (ts : List Token) → All ts
 unfolding walk step

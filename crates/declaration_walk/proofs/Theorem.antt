@@ -92,10 +92,6 @@ module _ (size : ℕ) (names : List (List ℕ)) (G : GoodNames size names) where
   pub read-written : (p : ℕ) (m : Model) → p < length names → IsChain size (length names) m → textAnswer size names (declaration names p m) ≡ given (declared p m)
   read-written p m l c = read-complete (declaration names p m) p m (house-spelled size names p m (G .small) l c)
 
-  -- reading, writing and reading again changes nothing
-  pub read-again : (text : List ℕ) (p : ℕ) (m : Model) → textAnswer size names text ≡ given (declared p m) → textAnswer size names (declaration names p m) ≡ textAnswer size names text
-  read-again text p m e = let h = read-sound text p m e in read-written p m (h .parent) (h .chain) ∙ sym e
-
   -- a text is a spelling of at most one declaration
   pub spelled-once : (text : List ℕ) (p q : ℕ) (m k : Model) → Spelled size names text p m → Spelled size names text q k → (p ≡ q) × (m ≡ k)
   spelled-once text p q m k S T =

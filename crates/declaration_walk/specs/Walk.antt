@@ -7,6 +7,7 @@ use mathlib.Core.Bool.{Bool, true, false, cond, not, _&&_}
 use mathlib.Core.List.{List, [], _∷_}
 use mathlib.Core.Option.{Option, none, some}
 use lib.Dec.{eqb}
+use lib.ListN.{getD}
 use Rattle.name.specs.Class.{between}
 use Rattle.name.specs.Rule.{isName}
 use Rattle.declaration_spelling.specs.Token.{Token, word, lpar, rpar, comma, bar, end, mark, other}
@@ -95,9 +96,18 @@ numberOf beforeEnd = 12
 numberOf behindEnd = 13
 numberOf nowhere = 14
 
+-- The states by their numbers.
+unfoldable pub states : List State
+states =
+    beforeParent ∷ beforeModel ∷ behindBracket ∷ behindFirst ∷ wholeBar ∷ wholeName ∷ wholeGroup ∷ beforeFactor ∷ inGroup ∷ groupName
+    ∷ behindNames ∷ behindMark ∷ beforeEnd ∷ behindEnd ∷ nowhere ∷ []
+
+unfoldable pub stateOf : ℕ → State
+stateOf number = getD states number nowhere
+
 -- The walk ends behind `>`.
 unfoldable pub walk : State → List Token → Bool
-walk state [] = eqb (numberOf state) 13
+walk state [] = eqb (numberOf state) (numberOf behindEnd)
 walk state (t ∷ ts) = walk (step state (tokenKind t)) ts
 
 -- ---- white space and names

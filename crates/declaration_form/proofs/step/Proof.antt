@@ -3,7 +3,7 @@
 use mathlib.Core.Path.{refl, sym, _∙_}
 use native.Mathlib.Omega.{arith}
 use borrow.Author.Tests.{not-true, not-false}
-use Rattle.declaration_states.proofs.Table.{nowhere-number}
+use Rattle.declaration_walk.proofs.States.{nowhere-number}
 use Rattle.declaration_form.proofs.Tokens.{here-kind, here-on}
 use Rattle.declaration_form.proofs.Steps.{step-unfit, step-sign, step-bad, step-word}
 use borrow.Author.Needs.{needs}

@@ -7,9 +7,9 @@ use native.Mathlib.Omega.{arith}
 use lib.Dec.{eqb}
 use lib.ListN.{length}
 use Rattle.name.specs.Class.{classTable}
-use Rattle.declaration_walk.specs.Walk.{beforeParent}
-use Rattle.declaration_states.specs.Table.{states, stateOf, table}
-use Rattle.declaration_states.proofs.Table.{number-state, nowhere-number}
+use Rattle.declaration_walk.specs.Walk.{beforeParent, states, stateOf}
+use Rattle.declaration_states.specs.Table.{table}
+use Rattle.declaration_walk.proofs.States.{number-state, nowhere-number}
 use Rattle.declaration_form.specs.Step.{acceptsFrom}
 use Rattle.declaration_form.proofs.Places.{piece-told, piece-on, walk-done, walk-over, walk-next, walk-lost}
 use Rattle.declaration_form.proofs.walks.Statement.{statement}

@@ -5,9 +5,10 @@ use mathlib.Core.Path.{_≡_, _∙_, ap}
 use mathlib.Core.List.{List}
 use native.Mathlib.Omega.{arith}
 use lib.ListN.{getD}
-use Rattle.declaration_walk.specs.Walk.{step}
-use Rattle.declaration_states.specs.Table.{stateOf, table}
-use Rattle.declaration_states.proofs.Table.{state-number, table-at}
+use Rattle.declaration_walk.specs.Walk.{stateOf, step}
+use Rattle.declaration_walk.proofs.States.{state-number}
+use Rattle.declaration_states.specs.Table.{table}
+use Rattle.declaration_states.proofs.Table.{table-at}
 use borrow.Author.Needs.{needs}
 use Rattle.declaration_states.proofs.next_state.Statement.{statement}
 use Rattle.declaration_states.proofs.next_state.Tie as tie

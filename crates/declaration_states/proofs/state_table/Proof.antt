@@ -1,8 +1,8 @@
 -- `state_table` meets its contract: the table of the walk is computed, all of its 165 entries, and is the one in the code.
 -- Assumes nothing.
 use mathlib.Core.Path.{refl}
-use Rattle.declaration_walk.specs.Walk.{arrows, along, step, numberOf}
-use Rattle.declaration_states.specs.Table.{kinds, states, rowOf, rowsOf, table}
+use Rattle.declaration_walk.specs.Walk.{arrows, along, states, step, numberOf}
+use Rattle.declaration_states.specs.Table.{kinds, rowOf, rowsOf, table}
 use Rattle.declaration_states.proofs.state_table.Statement.{statement}
 use Rattle.declaration_states.proofs.state_table.Tie as tie
 
