@@ -121,7 +121,9 @@ curlewsong_written curlewsong_write_from_sample(const uint8_t *book, size_t book
 
 /* The parent and the model of a declaration over the names of the book. The parent needs no block. A text that
  * curlewsong_write_declaration wrote for this book reads back as the same parent and model, and one that
- * curlewsong_write_from_sample wrote as the parent and the model from its blocks. Refusals, in this order: the book's
+ * curlewsong_write_from_sample wrote as the parent and the model from its blocks. White space may be spaces, tabs,
+ * carriage returns and line feeds; the names of a group may come in any order; one name may have its own brackets; and
+ * one group may be the whole model, as in (a|b)*. docs/FORMAT.md has the grammar. Refusals, in this order: the book's
  * (1 to 7), 13, 14, 15. */
 curlewsong_read curlewsong_read_declaration(const uint8_t *book, size_t book_length, const uint8_t *text, size_t text_length);
 

@@ -35,7 +35,8 @@ IsGroup f after ts =
 abbrev pub IsBare : Factor (List ℕ) → List Token → List Token → Type 0
 IsBare f after ts = (x : List ℕ) × (f .names ≡ x ∷ []) × (f .mode ≤ 3) × (ts ≡ word x ∷ markTokens (f .mode) after)
 
--- A factor: a group, or one name "in its own brackets" or without.
+-- A factor: one name without brackets, or a group. So one name may also be "in its own brackets, any mark after the
+-- closing bracket" (U1).
 abbrev pub IsFactor : Factor (List ℕ) → List Token → List Token → Type 0
 IsFactor f after ts = IsBare f after ts ⊎ IsGroup f after ts
 
@@ -44,7 +45,8 @@ abbrev pub AreLater : List (Factor (List ℕ)) → List Token → Type 0
 AreLater [] ts = ts ≡ rpar ∷ end ∷ []
 AreLater (f ∷ fs) ts = (us : List Token) × (after : List Token) × (ts ≡ comma ∷ us) × IsFactor f after us × AreLater fs after
 
--- A model and `>`: `EMPTY`; the factors in brackets; or, for one factor, its group and mark as "a whole model".
+-- A model and `>`: `EMPTY`; the factors in brackets; or "a whole model that is one group of one or more names, with or
+-- without a mark behind it, as one factor" (U1).
 abbrev pub IsModel : List (Factor (List ℕ)) → List Token → Type 0
 IsModel [] ts = ts ≡ word emptyWord ∷ end ∷ []
 IsModel (f ∷ fs) ts =

@@ -1,5 +1,5 @@
 -- A means: the steps of crate `declaration_walk` by numbers: a table with a row for each state and a column for each
--- kind of token. The code's table is this one, computed.
+-- kind of token. The code's table is this one, computed; `table-at` in proofs/Table.antt joins it to the steps.
 -- Assumes nothing.
 use Prim.Native.Nat.{ℕ}
 use mathlib.Core.List.{List, [], _∷_, _++_, map}

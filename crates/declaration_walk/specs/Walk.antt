@@ -1,6 +1,6 @@
 -- A means: the form of a declaration as a walk along its tokens: a state, the kind of a token, the next state.
--- `walk-sound` and `walk-complete` in proofs/ join it to `IsModel`, `form-sound` and `form-complete` in
--- proofs/Formed.antt to `HasForm`.
+-- `walk-sound` in proofs/Sound.antt and `walk-complete` in proofs/Complete.antt join it to `IsModel`, `form-sound` and
+-- `form-complete` in proofs/Formed.antt to `HasForm`.
 -- Assumes nothing.
 use Prim.Native.Nat.{ℕ}
 use mathlib.Core.Bool.{Bool, true, false, cond, not, _&&_}
