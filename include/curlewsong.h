@@ -47,7 +47,7 @@
  * nor reads those of a buffer. A buffer overlaps nothing else that is passed to the same call.
  *
  * docs/FORMAT.md has the bytes of a book, the order of the checks and the text of a declaration. They are those of
- * paper 01, which decides.
+ * paper 01, for reading with request U1 of paper 02; the papers decide.
  */
 #ifndef CURLEWSONG_H
 #define CURLEWSONG_H

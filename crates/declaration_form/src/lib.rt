@@ -4,6 +4,7 @@ use declaration_scan::Piece;
 use declaration_scan::WORD;
 use declaration_states::BEFORE_PARENT;
 use declaration_states::BEHIND_END;
+use declaration_states::ENTRIES;
 use declaration_states::NOWHERE;
 use declaration_states::fits;
 use declaration_states::good_word;
@@ -15,7 +16,7 @@ ghost use lib.ListN.{length, take, drop};
 ghost use Rattle.name.specs.Class.{classTable};
 ghost use Rattle.declaration_spelling.specs.Token.{word};
 ghost use Rattle.declaration_spelling.specs.Kind.{emptyKind, tokenKind};
-ghost use Rattle.declaration_walk.specs.Walk.{beforeParent, stateOf, hasForm};
+ghost use Rattle.declaration_walk.specs.Walk.{beforeParent, lastState, stateOf, hasForm};
 ghost use Rattle.declaration_states.specs.Table.{table};
 ghost use Rattle.declaration_form.specs.Step.{begins, tokenAt, advance, Stands, acceptsFrom};
 
@@ -54,15 +55,15 @@ fn word_kind(text: &[u8], from: usize, to: usize) -> u8
 
 // The state behind a token, by the table of states and that of classes.
 fn step(
-    states: &[u8; 165],
+    states: &[u8; ENTRIES],
     classes: &[u8; 256],
     text: &[u8],
     state: u8,
     behind: bool,
     piece: Piece,
 ) -> u8
-    requires { ⌜ Stands (now text) piece × (state ≤ 14) × (now classes ≡ classTable) × (now states ≡ table) ⌝ }
-    ensures { λ r. ⌜ (stateOf r ≡ advance (stateOf state) behind (piece .gap) (tokenAt (now (text .entry)) (piece .from))) × (r ≤ 14) ⌝ }
+    requires { ⌜ Stands (now text) piece × (state ≤ lastState) × (now classes ≡ classTable) × (now states ≡ table) ⌝ }
+    ensures { λ r. ⌜ (stateOf r ≡ advance (stateOf state) behind (piece .gap) (tokenAt (now (text .entry)) (piece .from))) × (r ≤ lastState) ⌝ }
 {
     if !fits(behind, piece.gap, piece.kind) {
         return NOWHERE;

@@ -1,5 +1,6 @@
--- A means: the traversal of crate `declaration_walk` that fills the record, by places of the text: the tokens from a place on, and what a token
--- is by its kind and its bytes. The functions of this crate promise it.
+-- A means: the traversal of crate `declaration_walk` that fills the record, by places of the text: the tokens from a
+-- place on, and what a token is by its kind and its bytes. The functions of this crate promise it; `known-next`,
+-- `take-next` and `answer-next` in proofs/Places.antt join it to that traversal.
 -- Assumes nothing.
 use Prim.Native.Nat.{ℕ, zero, suc, _-_}
 use mathlib.Core.Bool.{Bool, true, cond}

@@ -1,4 +1,5 @@
--- A means: the kinds of tokens, numbered as in the code (crates/declaration_scan/src/lib.rt).
+-- A means: the kinds of tokens, numbered as in the code (crates/declaration_scan/src/lib.rt). `lpar-is` and its like in
+-- crates/declaration_walk/proofs/Arrows.antt say which token has a kind.
 -- Assumes nothing.
 use Prim.Native.Nat.{ℕ, zero, suc}
 use mathlib.Core.Bool.{cond}

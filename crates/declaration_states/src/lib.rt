@@ -12,7 +12,8 @@ ghost use Prim.Native.Nat.{_-_, _≤_};
 ghost use lib.ListN.{length, take, drop};
 ghost use Rattle.name.specs.Class.{classTable};
 ghost use Rattle.name.specs.Rule.{isName};
-ghost use Rattle.declaration_walk.specs.Walk.{stateOf, step, kindFits};
+ghost use Rattle.declaration_spelling.specs.Kind.{starKind};
+ghost use Rattle.declaration_walk.specs.Walk.{lastState, stateOf, step, kindFits};
 ghost use Rattle.declaration_states.specs.Table.{table};
 
 // Three of the states; the table has them all. They are numbered as in crates/declaration_walk/specs/Walk.antt.
@@ -22,8 +23,11 @@ pub const BEHIND_END: u8 = 13;
 
 pub const NOWHERE: u8 = 14;
 
+// How many entries the table has: 15 states by 11 kinds.
+pub const ENTRIES: usize = 165;
+
 // The next state: a row for each state, a column for each kind of token.
-const STATES: [u8; 165] = [
+const STATES: [u8; ENTRIES] = [
     // the columns: other, word, EMPTY, ( ) , | > ? + *
     14,  1,  1, 14, 14, 14, 14, 14, 14, 14, 14, // 0 beforeParent: before the parent
     14, 14, 12,  2, 14, 14, 14, 14, 14, 14, 14, // 1 beforeModel: before the model
@@ -71,16 +75,16 @@ pub fn fits(behind: bool, gap: bool, kind: u8) -> bool
 }
 
 // The whole table. It is made again wherever it is named, so a loop asks once and lends it.
-pub fn state_table() -> [u8; 165]
+pub fn state_table() -> [u8; ENTRIES]
     ensures { λ r. ⌜ r ≡ table ⌝ }
 {
     STATES
 }
 
 // The next state by the table.
-pub fn next_state(states: &[u8; 165], state: u8, kind: u8) -> u8
-    requires { ⌜ (now states ≡ table) × (state ≤ 14) × (kind ≤ 10) ⌝ }
-    ensures { λ r. ⌜ (stateOf r ≡ step (stateOf state) kind) × (r ≤ 14) ⌝ }
+pub fn next_state(states: &[u8; ENTRIES], state: u8, kind: u8) -> u8
+    requires { ⌜ (now states ≡ table) × (state ≤ lastState) × (kind ≤ starKind) ⌝ }
+    ensures { λ r. ⌜ (stateOf r ≡ step (stateOf state) kind) × (r ≤ lastState) ⌝ }
 {
     states[11 * state as usize + kind as usize]
 }

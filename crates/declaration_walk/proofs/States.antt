@@ -7,10 +7,10 @@ use native.Mathlib.Nat.{zero-add}
 use lib.ListN.{List·getD-map}
 use Rattle.declaration_spelling.proofs.Record.{valuesFrom}
 use Rattle.declaration_spelling.proofs.Numbers.{values-from}
-use Rattle.declaration_walk.specs.Walk.{State, beforeParent, beforeModel, behindBracket, behindFirst, wholeBar, wholeName, wholeGroup, beforeFactor, inGroup, groupName, behindNames, behindMark, beforeEnd, behindEnd, nowhere, states, stateOf, numberOf}
+use Rattle.declaration_walk.specs.Walk.{State, beforeParent, beforeModel, behindBracket, behindFirst, wholeBar, wholeName, wholeGroup, beforeFactor, inGroup, groupName, behindNames, behindMark, beforeEnd, behindEnd, nowhere, numberOf, lastState, states, stateOf}
 
 -- a state has its number
-pub state-number : (s : State) → (stateOf (numberOf s) ≡ s) × (numberOf s ≤ 14)
+pub state-number : (s : State) → (stateOf (numberOf s) ≡ s) × (numberOf s ≤ lastState)
 unfolding stateOf states numberOf
 state-number beforeParent = (refl, omega arith)
 state-number beforeModel = (refl, omega arith)
@@ -28,11 +28,11 @@ state-number beforeEnd = (refl, omega arith)
 state-number behindEnd = (refl, omega arith)
 state-number nowhere = (refl, omega arith)
 
--- and each number up to 14 is that of its state
-pub number-state : (n : ℕ) → n ≤ 14 → numberOf (stateOf n) ≡ n
+-- and each number up to the last is that of its state
+pub number-state : (n : ℕ) → n ≤ lastState → numberOf (stateOf n) ≡ n
 unfolding stateOf states numberOf valuesFrom
-number-state n h = sym (List·getD-map numberOf states n nowhere) ∙ values-from 0 15 n (λ k. k) 14 (omega arith) ∙ zero-add n
+number-state n h = sym (List·getD-map numberOf states n nowhere) ∙ values-from 0 15 n (λ k. k) lastState (omega arith) ∙ zero-add n
 
-pub nowhere-number : (n : ℕ) → n ≡ 14 → stateOf n ≡ nowhere
+pub nowhere-number : (n : ℕ) → n ≡ lastState → stateOf n ≡ nowhere
 unfolding stateOf states
 nowhere-number n e = ap stateOf e

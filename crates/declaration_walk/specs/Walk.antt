@@ -96,6 +96,10 @@ numberOf beforeEnd = 12
 numberOf behindEnd = 13
 numberOf nowhere = 14
 
+-- The greatest number of a state, that of `nowhere`.
+abbrev pub lastState : ℕ
+lastState = 14
+
 -- The states by their numbers.
 unfoldable pub states : List State
 states =

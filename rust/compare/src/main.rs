@@ -1,8 +1,8 @@
 //! compare [--dtd PROGRAM] [--self] [--seed N] [--times N] [--kind KIND [--case N]]
 //!
 //! Without --self the static library (feature `library`) and the program are compared with the second implementation; with it the
-//! second implementation is compared with itself, which tries only the cases. COMPARE_TIMES=N in the environment makes a run N times
-//! as long. The last line says how many calls agreed; where one differs, what gives it again is printed, and the status is 1.
+//! second implementation is compared with itself, which tries only the cases. COMPARE_TIMES=N in the environment makes a run N
+//! times as long. The last line says how many calls agreed; where one differs, what gives it again is printed, and the status is 1.
 
 use compare::calls::{Calls, Second};
 use compare::cases::KINDS;

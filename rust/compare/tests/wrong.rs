@@ -386,7 +386,7 @@ fn replace(text: &mut Vec<u8>, old: &[u8], new: &[u8]) {
     }
 }
 
-/// Where a mark is that only white space and `>` follow, and that the text does not begin with.
+/// The place of a mark that only white space and `>` follow; none where it is the text's first byte.
 fn whole_mark(text: &[u8]) -> Option<usize> {
     let at = text.iter().rposition(|b| *b != b'>' && !WHITE.contains(b))?;
     (at > 0 && MARKS.contains(&text[at])).then_some(at)

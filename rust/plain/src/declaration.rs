@@ -56,8 +56,8 @@ pub fn write(names: &Names, parent: usize, m: &Model, text: &mut [u8; LONGEST]) 
 /// How many bytes `<!ELEMENT` has.
 const OPENING: usize = 9;
 
-/// Kinds of tokens: 0 any other byte or the end of the text, 1 a word, 2 `(`, 3 `)`, 4 `,`, 5 `|`, 6 `>`, 7 `?`, 8 `+`, 9 `*`,
-/// 10 the word `EMPTY`.
+/// Kinds of tokens, numbered for this program: 0 any other byte or the end of the text, 1 a word, 2 `(`, 3 `)`, 4 `,`, 5 `|`,
+/// 6 `>`, 7 `?`, 8 `+`, 9 `*`, 10 the word `EMPTY`.
 const WORD: u8 = 1;
 const OPEN: u8 = 2;
 const COMMA: u8 = 4;

@@ -3,6 +3,7 @@
 use mathlib.Core.Path.{refl, sym, _∙_}
 use native.Mathlib.Omega.{arith}
 use borrow.Author.Tests.{not-true, not-false}
+use Rattle.declaration_walk.specs.Walk.{lastState}
 use Rattle.declaration_walk.proofs.States.{nowhere-number}
 use Rattle.declaration_form.proofs.Tokens.{here-kind, here-on}
 use Rattle.declaration_form.proofs.Steps.{step-unfit, step-sign, step-bad, step-word}
@@ -14,7 +15,7 @@ returns : tie.Need-returns
 returns c =
     let start = c .before .before .before in
     let p = start .pre .0 in
-    (nowhere-number 14 refl ∙ step-unfit (start .args .text .now) _ _ _ (p .0) (p .1) (p .3) _ _ _ (sym (c .before .fits2 .ensures) ∙ not-true _ (c .if1 .taken)), omega arith)
+    (nowhere-number lastState refl ∙ step-unfit (start .args .text .now) _ _ _ (p .0) (p .1) (p .3) _ _ _ (sym (c .before .fits2 .ensures) ∙ not-true _ (c .if1 .taken)), omega arith)
 
 next-state-requires : tie.Need-next-state-requires
 next-state-requires c κs =
@@ -41,7 +42,7 @@ returns-3 : tie.Need-returns-3
 returns-3 c =
     let start = c .before .before .before .before .before .before .before in
     let p = start .pre .0 in
-    (nowhere-number 14 refl ∙ step-bad (start .args .text .now) _ _ _ (p .0) (p .1) (p .3) _ _ _ (c .before .before .if2 .left) (sym (c .before .good-word .ensures) ∙ not-true _ (c .if3 .taken)), omega arith)
+    (nowhere-number lastState refl ∙ step-bad (start .args .text .now) _ _ _ (p .0) (p .1) (p .3) _ _ _ (c .before .before .if2 .left) (sym (c .before .good-word .ensures) ∙ not-true _ (c .if3 .taken)), omega arith)
 
 word-kind-requires : tie.Need-word-kind-requires
 word-kind-requires c κs =

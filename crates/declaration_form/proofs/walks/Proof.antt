@@ -7,7 +7,7 @@ use native.Mathlib.Omega.{arith}
 use lib.Dec.{eqb}
 use lib.ListN.{length}
 use Rattle.name.specs.Class.{classTable}
-use Rattle.declaration_walk.specs.Walk.{beforeParent, states, stateOf}
+use Rattle.declaration_walk.specs.Walk.{beforeParent, lastState, states, stateOf}
 use Rattle.declaration_states.specs.Table.{table}
 use Rattle.declaration_walk.proofs.States.{number-state, nowhere-number}
 use Rattle.declaration_form.specs.Step.{acceptsFrom}
@@ -17,7 +17,7 @@ use Rattle.declaration_form.proofs.walks.Tie as tie
 
 abbrev Inv-loop : tie.InvT-loop
 Inv-loop text at states classes i₀ state₀ behind₀ i state behind =
-    (i ≤ length text) × (state ≤ 14) × (acceptsFrom text beforeParent true at ≡ acceptsFrom text (stateOf state) behind i) × (classes ≡ classTable) × (states ≡ table)
+    (i ≤ length text) × (state ≤ lastState) × (acceptsFrom text beforeParent true at ≡ acceptsFrom text (stateOf state) behind i) × (classes ≡ classTable) × (states ≡ table)
 
 abbrev μ-loop : tie.MeasureT-loop
 μ-loop text at states classes i₀ state₀ behind₀ i state behind = length text - i

@@ -5,7 +5,8 @@ use mathlib.Core.Path.{_≡_, _∙_, ap}
 use mathlib.Core.List.{List}
 use native.Mathlib.Omega.{arith}
 use lib.ListN.{getD}
-use Rattle.declaration_walk.specs.Walk.{stateOf, step}
+use Rattle.declaration_spelling.specs.Kind.{starKind}
+use Rattle.declaration_walk.specs.Walk.{lastState, stateOf, step}
 use Rattle.declaration_walk.proofs.States.{state-number}
 use Rattle.declaration_states.specs.Table.{table}
 use Rattle.declaration_states.proofs.Table.{table-at}
@@ -13,8 +14,8 @@ use borrow.Author.Needs.{needs}
 use Rattle.declaration_states.proofs.next_state.Statement.{statement}
 use Rattle.declaration_states.proofs.next_state.Tie as tie
 
-entry : (states : List ℕ) (state kind : ℕ) → states ≡ table → state ≤ 14 → kind ≤ 10 →
-    (stateOf (getD states (11 * state + kind) 0) ≡ step (stateOf state) kind) × (getD states (11 * state + kind) 0 ≤ 14)
+entry : (states : List ℕ) (state kind : ℕ) → states ≡ table → state ≤ lastState → kind ≤ starKind →
+    (stateOf (getD states (11 * state + kind) 0) ≡ step (stateOf state) kind) × (getD states (11 * state + kind) 0 ≤ lastState)
 entry states state kind e h k =
     let q = ap (λ (l : List ℕ). getD l (11 * state + kind) 0) e ∙ table-at state kind h k in
     let s = state-number (step (stateOf state) kind) in
