@@ -2,12 +2,13 @@
 -- Assumes nothing.
 use Prim.Native.Nat.{ℕ, suc}
 use mathlib.Core.Path.{_≡_, refl, sym, _∙_, ap}
-use mathlib.Core.Bool.{Bool, true, false, false≢true}
+use mathlib.Core.Bool.{Bool, true, false}
 use mathlib.Core.List.{List, [], _∷_}
 use borrow.Author.Tests.{ne-eqb}
 use Rattle.name.specs.Word.{wordByte}
 use Rattle.name.proofs.Words.{no-word}
 use Rattle.declaration_spelling.specs.Kind.{otherKind, wordKind, lparKind}
+use Rattle.declaration_spelling.proofs.Bytes.{other-byte}
 use Rattle.declaration_bytes.specs.Unread.{endOfText}
 use Rattle.declaration_bytes.proofs.Runs.{word-end}
 use Rattle.declaration_scan.specs.Kind.{signKind, kindOf}
@@ -42,9 +43,6 @@ unfolding signKind
 kind-other n a b c d f g h i = rw (ne-eqb n 40 a, ne-eqb n 41 b, ne-eqb n 44 c, ne-eqb n 124 d, ne-eqb n 62 f, ne-eqb n 63 g, ne-eqb n 43 h, ne-eqb n 42 i)
 
 -- no sign is a byte of words
-other-byte : (n k : ℕ) → wordByte n ≡ true → wordByte k ≡ false → n ≡ k → ⊥
-other-byte n k e f q = false≢true (sym f ∙ ap wordByte (sym q) ∙ e)
-
 word-no-sign : (n : ℕ) → wordByte n ≡ true → otherKind ≡ signKind n
 word-no-sign n e =
     let s = no-word .1 in

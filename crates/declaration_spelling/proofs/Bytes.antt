@@ -28,15 +28,17 @@ pub name-word : (w : List ℕ) → isName w ≡ true → Word w
 name-word [] e = let h = name-size [] e .0 in absurd (omega arith)
 name-word (b ∷ bs) e = (b, bs, refl, all-of wordByte (b ∷ bs) (name-bytes (b ∷ bs) e))
 
-other-byte : (b k : ℕ) → wordByte b ≡ true → wordByte k ≡ false → eqb b k ≡ false
-other-byte b k e f = ne-eqb b k (λ q. true≢false (sym e ∙ ap wordByte q ∙ f))
+-- a byte of words is no other byte
+pub other-byte : (b k : ℕ) → wordByte b ≡ true → wordByte k ≡ false → b ≡ k → ⊥
+other-byte b k e f q = true≢false (sym e ∙ ap wordByte q ∙ f)
 
 -- no white space is a byte of words
 pub word-not-space : (b : ℕ) → wordByte b ≡ true → isSpace b ≡ false
 unfolding isSpace
 word-not-space b e =
     let s = space-no-word in
-    rw (other-byte b 32 e (s .0), other-byte b 9 e (s .1 .0), other-byte b 13 e (s .1 .1 .0), other-byte b 10 e (s .1 .1 .1 .0))
+    let n : (k : ℕ) → wordByte k ≡ false → eqb b k ≡ false = λ k f. ne-eqb b k (other-byte b k e f) in
+    rw (n 32 (s .0), n 9 (s .1 .0), n 13 (s .1 .1 .0), n 10 (s .1 .1 .1 .0))
 
 pub space-is : isSpace 32 ≡ true
 unfolding isSpace

@@ -26,19 +26,16 @@ factor-shape : (f : Factor (List ℕ)) (after ts : List Token) → IsFactor f af
 factor-shape f after ts (inl (x, e, l, q)) = ((x, [], e), l)
 factor-shape f after ts (inr (x, xs, e, l, q)) = ((x, xs, e), l)
 
+more-shape : (f : Factor (List ℕ)) (fs : List (Factor (List ℕ))) (after ts : List Token) → IsFactor f after ts → Full fs × Small fs → Full (f ∷ fs) × Small (f ∷ fs)
+more-shape f fs after ts F (full, small) = let (x, l) = factor-shape f after ts F in ((x, full), (l, small))
+
 later-shape : (fs : List (Factor (List ℕ))) (ts : List Token) → AreLater fs ts → Full fs × Small fs
 later-shape [] ts e = (tt, tt)
-later-shape (f ∷ fs) ts (us, after, e, F, L) =
-    let h = factor-shape f after us F in
-    let k = later-shape fs after L in
-    ((h .0, k .0), (h .1, k .1))
+later-shape (f ∷ fs) ts (us, after, e, F, L) = more-shape f fs after us F (later-shape fs after L)
 
 pub model-shape : (fs : List (Factor (List ℕ))) (ts : List Token) → IsModel fs ts → Full fs × Small fs
 model-shape [] ts e = (tt, tt)
-model-shape (f ∷ fs) ts (inl (us, after, e, F, L)) =
-    let h = factor-shape f after us F in
-    let k = later-shape fs after L in
-    ((h .0, k .0), (h .1, k .1))
+model-shape (f ∷ fs) ts (inl (us, after, e, F, L)) = more-shape f fs after us F (later-shape fs after L)
 model-shape (f ∷ fs) ts (inr (e, (x, xs, q, l, r))) = rw e (((x, xs, q), tt), (l, tt))
 
 -- ---- names for numbers, and numbers for names

@@ -26,7 +26,7 @@ unfoldable pub barsTokens : List (List ℕ) → List Token → List Token
 barsTokens [] after = rpar ∷ after
 barsTokens (x ∷ xs) after = bar ∷ word x ∷ barsTokens xs after
 
--- A group of one or more names and its mark: `(`, the names joined by `|`, `)`, and one of the four modes.
+-- A group of one or more names and its mark: `(`, the names joined by `|`, `)`, then the mark of one of the four modes.
 abbrev pub IsGroup : Factor (List ℕ) → List Token → List Token → Type 0
 IsGroup f after ts =
     (x : List ℕ) × (xs : List (List ℕ)) × (f .names ≡ x ∷ xs) × (f .mode ≤ 3) × (ts ≡ lpar ∷ word x ∷ barsTokens xs (markTokens (f .mode) after))

@@ -1,1 +1,2 @@
-// The form of a declaration as a walk along its tokens, one state after another: definitions and theorems only.
+// A declaration read in a walk along its tokens: its form, one state after another, then its names and its record.
+// Definitions and theorems only.

@@ -3,8 +3,8 @@
 -- demands, which call paper 01 "document 01", and from paper 01.
 -- In a quarter of an hour: `no-better-model` with specs/Results, the names that end in `-refusals` with
 -- specs/Conditions, those that end in `-kept`, then demand 2. The part for C repeats them for replies in C.
--- Each theorem assumes one thing, `call`: the answer is as the call's contract (`ensures`) promises. The prover has shown
--- that of every answer.
+-- Each theorem assumes one thing, `call`: the answer is as the call's contract (`ensures`) promises. The prover has
+-- shown that of every answer.
 -- The definitions in crates/demands/specs are to be believed, with those that they cite; docs/TRUST.md has the list.
 -- k = 0 means not refused; `outcomeNumber (r .outcome)` is the number k of an answer r.
 -- Assumes nothing.
@@ -317,8 +317,8 @@ program-no-line b parent e = rw (no-word (sampleOf b parent) .1 e)
 
 -- ==== the calls for C and Rust
 
--- Each of these makes the call in Rattle and passes on its answer as a struct r of C. Stated of r, one after another: its
--- number and when it is given; the rest of r where the call was refused; the rest of r where it was not.
+-- Each of these makes the call in Rattle and passes on its answer as a struct r of C. Stated of r, one after another:
+-- its number and when it is given; the rest of r where the call was refused; the rest of r where it was not.
 
 pub c-word : (n : ℕ) (m : Model) (w : List ℕ) (r : Verdict) (call : RepliesWord n m w r) →
     WordConditions n m w (r .refusal) × (0 < r .refusal → r .yes ≡ false) ×
