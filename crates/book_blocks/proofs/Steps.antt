@@ -1,14 +1,15 @@
 -- What the answer of one step tells of the book's bytes from a place on.
 -- Assumes nothing.
-use Prim.Native.Nat.{ℕ, _+_, _≤_}
-use mathlib.Core.Path.{_≡_, refl}
-use mathlib.Core.Bool.{false≢true}
+use Prim.Native.Nat.{ℕ, _+_, _-_, _≤_, _<_}
+use mathlib.Core.Path.{_≡_, refl, _∙_, ap}
+use mathlib.Core.Bool.{true, false≢true}
 use mathlib.Core.List.{List, [], _∷_}
-use lib.ListN.{length, drop}
+use native.Mathlib.Omega.{arith}
+use lib.ListN.{length, getD, take, drop}
 use Rattle.refusal.specs.declared.Refusal.{Refusal}
 use Rattle.refusal.specs.Answer.{Answer, given, refused}
 use Rattle.book.specs.Field.{Field}
-use Rattle.book.specs.Book.{Block, blockOf}
+use Rattle.book.specs.Book.{Block, allBelow, blockOf}
 use Rattle.book.specs.Bytes.{headSize, blocksBytes}
 use Rattle.book.proofs.Told.{block-told}
 use Rattle.book.proofs.Placed.{block-placed}
@@ -22,6 +23,11 @@ pub record BlockRead (n : ℕ) (s : List ℕ) (at k : ℕ) : Type 0 where
   pub size : length (block .value .word) ≡ k
   pub fits : at + headSize + k ≤ length s
   pub rest : drop (at + headSize + k) s ≡ block .rest
+  -- its parent and its word, as the bytes have them
+  pub parent : getD s at 0 ≡ block .value .parent
+  pub word : take k (drop (at + headSize) s) ≡ block .value .word
+  pub below : block .value .parent < n
+  pub children : allBelow n (block .value .word) ≡ true
 
 pub block-read : (n : ℕ) (s : List ℕ) (at k : ℕ) → blockStep (blockOf n (drop at s)) ≡ BlockIs k → BlockRead n s at k
 unfolding blockStep
@@ -30,9 +36,26 @@ block-read n s at k e = go (blockOf n (drop at s)) refl e
     go : (a : Answer (Field Block)) → blockOf n (drop at s) ≡ a → blockStep a ≡ BlockIs k → BlockRead n s at k
     go (given block) q e =
         let z : length (block .value .word) ≡ k = cc in
-        let p = block-placed s at (block .value) (block .rest) (block-told n (drop at s) block q .bytes) in
-        record { block = block; read = q; size = z; fits = rw (← z) (p .fits); rest = rw (← z) (p .rest) }
+        let t = block-told n (drop at s) block q in
+        let p = block-placed s at (block .value) (block .rest) (t .bytes) in
+        record {
+          block = block;
+          read = q;
+          size = z;
+          fits = rw (← z) (p .fits);
+          rest = rw (← z) (p .rest);
+          parent = p .parent;
+          word = rw (← z) (p .word);
+          below = t .parent;
+          children = t .children;
+        }
     go (refused r) q e = absurd (false≢true cc)
+
+-- the part of the bytes that the code takes as the children
+pub part-read : (n : ℕ) (s : List ℕ) (at k : ℕ) (b : BlockRead n s at k) (w : List ℕ) → w ≡ take (at + headSize + k - (at + headSize)) (drop (at + headSize) s) → w ≡ b .block .value .word
+part-read n s at k b w e =
+    let d : at + headSize + k - (at + headSize) ≡ k = omega arith in
+    e ∙ ap (λ (j : ℕ). take j (drop (at + headSize) s)) d ∙ b .word
 
 pub block-stopped : (a : Answer (Field Block)) (r : Refusal) → blockStep a ≡ BlockStopped r → a ≡ refused r
 unfolding blockStep

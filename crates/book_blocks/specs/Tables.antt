@@ -11,8 +11,6 @@ use Rattle.book_blocks.specs.declared.BlockStep.{BlockStep}
 use Rattle.book_blocks.specs.declared.BlockStep.the-variants.{Block as BlockIs, Stopped as BlockStopped}
 use Rattle.book_blocks.specs.declared.BlocksEnd.{BlocksEnd}
 use Rattle.book_blocks.specs.declared.BlocksEnd.the-variants.{End, Stopped as BlocksStopped}
-use Rattle.book_blocks.specs.declared.BlockCount.{BlockCount}
-use Rattle.book_blocks.specs.declared.BlockCount.the-variants.{Blocks, Stopped as CountStopped}
 
 -- a block that was read, by the number of its children
 unfoldable pub blockStep : Answer (Field Block) → BlockStep
@@ -27,7 +25,3 @@ behindBlocks at (b ∷ bs) = behindBlocks (at + headSize + length (b .word)) bs
 unfoldable pub blocksEnd : ℕ → Answer (Field (List Block)) → BlocksEnd
 blocksEnd at (given blocks) = End (behindBlocks at (blocks .value))
 blocksEnd at (refused r) = BlocksStopped r
-
-unfoldable pub blockCount : Answer (List Block) → BlockCount
-blockCount (given blocks) = Blocks (length blocks)
-blockCount (refused r) = CountStopped r

@@ -1,7 +1,7 @@
 -- Laws of the names that occur, of sets that meet, and of the names that a step leads to.
 -- Assumes nothing.
 use Prim.Native.Nat.{ℕ, _<_}
-use mathlib.Core.Path.{_≡_, sym, _∙_, ap, ap₂, fun-ext}
+use mathlib.Core.Path.{_≡_, refl, sym, _∙_, ap, ap₂, fun-ext}
 use mathlib.Core.Bool.{Bool, true, false, _&&_, _||_, not, or-false, or-assoc}
 use mathlib.Core.List.{List}
 use mathlib.Core.Logic.{_⊎_, inl, inr}
@@ -9,7 +9,7 @@ use lib.Dec.{ltb}
 use Rattle.nameset.specs.Places.{places}
 use Rattle.nameset.specs.declared.NameSet.{NameSet}
 use Rattle.nameset.specs.Set.{member}
-use Rattle.nameset.specs.Rows.{rowAt}
+use Rattle.nameset.specs.Rows.{IsRows, rowAt}
 use Rattle.nameset.specs.Promise.{Emptiness}
 use Rattle.model.proofs.Tests.{same-test}
 use Rattle.follow.specs.View.{viewOf}
@@ -19,9 +19,22 @@ use Rattle.chain_levels.specs.Reach.{occurs}
 use Rattle.chain_peel.specs.Shown.{Shown}
 use Rattle.chain_peel.specs.Sets.{meets, inRows, stepsOver}
 use Rattle.chain_levels.proofs.Tests.{and-is, or-is, ltb-is, some-is}
+use Rattle.chain_peel.proofs.Reaching.{occurs-small, edge-follows}
 use Rattle.chain_peel.proofs.Rows.{rows-none, rows-both}
-use Rattle.chain_rows.specs.Rows.{inRow, amongRows}
+use Rattle.chain_rows.specs.Rows.{inRow, OnlyNames, amongRows}
+use Rattle.chain_reach.specs.Reached.{Edges}
 use Rattle.chain_factors.proofs.Sets.{some-set}
+
+-- ---- follow rows
+
+-- facts that words show speak of names only, so their rows keep the steps between names
+pub rows-names : (facts : Facts) (n : ℕ) → Shown (viewOf n facts) → IsRows places (facts .follows) → OnlyNames n (facts .follows)
+unfolding inRow
+rows-names facts n s h = record { size = h; below = λ a b e. (occurs-small (viewOf n facts) a (s .followed a b e), s .follows a b e) }
+
+pub rows-edges : (facts : Facts) (n : ℕ) → Shown (viewOf n facts) → Edges (viewOf n facts) n (facts .follows)
+unfolding inRow
+rows-edges facts n s = record { same = refl; law = λ a b. sym (edge-follows (viewOf n facts) s a b) }
 
 -- ---- names that occur
 

@@ -5,9 +5,8 @@ ghost use Prim.Native.Nat.{ℕ, _≤_};
 ghost use Rattle.nameset.specs.Places.{places};
 ghost use Rattle.nameset.specs.Set.{member};
 ghost use Rattle.nameset.specs.Rows.{IsRows};
-ghost use Rattle.chain_levels.specs.Reach.{occurs};
 ghost use Rattle.chain_levels.specs.Chain.{chainOf};
-ghost use Rattle.follow.specs.View.{viewOf};
+ghost use Rattle.follow.specs.View.{viewOf, factsWith};
 ghost use Rattle.chain_peel.specs.Shown.{Shown};
 ghost use Rattle.chain_peel.specs.Sets.{meets, inRows};
 ghost use Rattle.chain_rows.specs.Rows.{inRow};
@@ -17,7 +16,6 @@ use chain_reach::reach_rows;
 use chain_rows::one_way;
 use chain_rows::rows_of;
 use chain_rows::with_rows;
-use follow::Facts;
 use model::Model;
 use nameset::NameSet;
 
@@ -50,30 +48,22 @@ fn next_level(behind: &[u64], higher: NameSet) -> NameSet
     higher.minus(rows_of(behind, higher))
 }
 
-// The names that occur.
-fn occurring(facts: Facts, n: usize) -> NameSet
-    requires { ⌜ (n ≤ places) × Shown (viewOf n facts) ⌝ }
-    ensures { λ r. ⌜ ((x : ℕ) → member r x ≡ occurs (viewOf n facts) x) ⌝ }
+// The chain that follow facts give. The names that occur are those that start and those in a follow row.
+pub fn chain(starts: NameSet, ends: NameSet, follows: &[u64], empty: bool, n: usize) -> Model
+    requires { ⌜ (n ≤ places) × IsRows places (now follows) × Shown (viewOf n (factsWith starts ends (now follows) empty)) ⌝ }
+    ensures { λ r. ⌜ r ≡ chainOf places (viewOf n (factsWith starts ends (now (follows .entry)) empty)) ⌝ }
 {
-    with_rows(facts.starts, &facts.follows, n)
-}
-
-// The chain that the facts give.
-pub fn chain(facts: Facts, n: usize) -> Model
-    requires { ⌜ (n ≤ places) × Shown (viewOf n facts) ⌝ }
-    ensures { λ r. ⌜ r ≡ chainOf places (viewOf n facts) ⌝ }
-{
-    let reach = reach_rows(facts, n);
+    let reach = reach_rows(follows, n);
     let behind = one_way(&reach, n);
     let loops = loop_groups(&reach, &behind, n);
     let mut m = Model::empty();
     let mut lower = NameSet::empty();
-    let mut higher = occurring(facts, n);
-    let mut stepped = facts.starts;
+    let mut higher = with_rows(starts, follows, n);
+    let mut stepped = starts;
     while !higher.is_empty() {
         let level = next_level(&behind, higher);
         let above = higher.minus(level);
-        let skipped = steps_over(facts.empty, facts.ends, stepped, lower, above);
+        let skipped = steps_over(empty, ends, stepped, lower, above);
         let next = with_level(
             m,
             &reach,
@@ -83,7 +73,7 @@ pub fn chain(facts: Facts, n: usize) -> Model
             skipped,
         );
         m = next;
-        stepped = stepped.union(rows_of(&facts.follows, level));
+        stepped = stepped.union(rows_of(follows, level));
         lower = lower.union(level);
         higher = above;
     }

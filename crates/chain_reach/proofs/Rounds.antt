@@ -1,7 +1,7 @@
 -- Laws of reach by rounds: a set joined with another, one round, and all rounds.
 -- Assumes nothing.
 use Prim.Native.Nat.{ℕ, _+_, _≤_, _<_}
-use mathlib.Core.Path.{_≡_, sym, _∙_, ap, ap₂}
+use mathlib.Core.Path.{_≡_, sym, _∙_, ap, ap₂, subst}
 use mathlib.Core.Bool.{Bool, true, false, _&&_, _||_, or-false, and-false}
 use mathlib.Core.List.{List}
 use mathlib.Core.Logic.{_⊎_, inl, inr}
@@ -11,15 +11,11 @@ use Rattle.nameset.specs.declared.NameSet.{NameSet}
 use Rattle.nameset.specs.Set.{member}
 use Rattle.nameset.specs.Rows.{IsRows, rowAt, putRow}
 use Rattle.follow.specs.Follow.{Follow}
-use Rattle.follow.specs.View.{viewOf}
-use Rattle.follow.specs.declared.Facts.{Facts}
 use Rattle.chain_levels.specs.Reach.{reachBy, reaches}
 use Rattle.chain_levels.proofs.Tests.{and-is, or-is}
-use Rattle.chain_peel.specs.Shown.{Shown}
-use Rattle.chain_peel.proofs.Reaching.{occurs-small, edge-follows}
-use Rattle.chain_rows.specs.Rows.{inRow, OnlyNames}
+use Rattle.chain_rows.specs.Rows.{inRow, OnlyNames, Copied}
 use Rattle.chain_rows.proofs.Laws.{row-is, past, Filled, fill-more, fill-own, fill-all}
-use Rattle.chain_reach.specs.Reached.{Round, Reached}
+use Rattle.chain_reach.specs.Reached.{Round, Edges, Reached}
 
 -- ---- a set joined with another
 
@@ -62,30 +58,27 @@ module _ {n : ℕ} {old : List ℕ} (o : OnlyNames n old) (p : NameSet) (k : ℕ
 
 -- ---- reach
 
-pub reach-none : (facts : Facts) (n : ℕ) → Shown (viewOf n facts) → (a b : ℕ) → inRow (facts .follows) a b ≡ reachBy (viewOf n facts) 0 a b
-unfolding inRow reachBy
-reach-none facts n s a b = sym (edge-follows (viewOf n facts) s a b)
+reach-none : (f : Follow) (n : ℕ) (rows : List ℕ) → Edges f n rows → (a b : ℕ) → inRow rows a b ≡ reachBy f 0 a b
+unfolding reachBy
+reach-none f n rows e = e .law
 
-pub reach-more : (f : Follow) (n : ℕ) (old new : List ℕ) (k : ℕ) → ((a b : ℕ) → inRow old a b ≡ reachBy f k a b) → Round n old new k → (a b : ℕ) → inRow new a b ≡ reachBy f (k + 1) a b
+reach-more : (f : Follow) (n : ℕ) (old new : List ℕ) (k : ℕ) → ((a b : ℕ) → inRow old a b ≡ reachBy f k a b) → Round n old new k → (a b : ℕ) → inRow new a b ≡ reachBy f (k + 1) a b
 unfolding reachBy
 reach-more f n old new k e r a b = r .law a b ∙ rw (add-one k, e a b, e a k, e k b)
 
--- the facts speak of names only
-only-shown : (facts : Facts) (n : ℕ) → Shown (viewOf n facts) → IsRows places (facts .follows) → OnlyNames n (facts .follows)
-unfolding inRow
-only-shown facts n s h = record { size = h; below = λ a b e. (occurs-small (viewOf n facts) a (s .followed a b e), s .follows a b e) }
-
--- The rows after k rounds, whichever facts over n names the first rows are of.
+-- The rows after k rounds, whichever facts the first rows are of.
 pub record Rounds (n : ℕ) (old new : List ℕ) (k : ℕ) : Type 0 where
   pub names : OnlyNames n new
-  pub law : (facts : Facts) → facts .follows ≡ old → Shown (viewOf n facts) → (a b : ℕ) → inRow new a b ≡ reachBy (viewOf n facts) k a b
+  pub law : (f : Follow) → Edges f n old → (a b : ℕ) → inRow new a b ≡ reachBy f k a b
 
-pub rounds-none : (n : ℕ) (first : Facts) → Shown (viewOf n first) → IsRows places (first .follows) → Rounds n (first .follows) (first .follows) 0
-rounds-none n first s h = record { names = only-shown first n s h; law = λ facts e q a b. ap (λ (r : List ℕ). inRow r a b) (sym e) ∙ reach-none facts n q a b }
+pub rounds-none : (n : ℕ) (old new : List ℕ) → OnlyNames n old → Copied old new → Rounds n old new 0
+rounds-none n old new o c =
+    record { names = record { size = c .size; below = λ a b e. o .below a b (sym (c .law a b) ∙ e) }; law = λ f e a b. c .law a b ∙ reach-none f n old e a b }
 
 pub rounds-more : {n : ℕ} {old new : List ℕ} {k : ℕ} → Rounds n old new k → (next : List ℕ) → Round n new next k → Rounds n old next (k + 1)
-rounds-more {n} {old} {new} {k} r next t = record { names = t .names; law = λ facts e s. reach-more (viewOf n facts) n new next k (r .law facts e s) t }
+rounds-more {n} {old} {new} {k} r next t = record { names = t .names; law = λ f e. reach-more f n new next k (r .law f e) t }
 
-pub rounds-all : {n : ℕ} {old new : List ℕ} {k : ℕ} → Rounds n old new k → (facts : Facts) → facts .follows ≡ old → Shown (viewOf n facts) → k ≡ n → Reached (viewOf n facts) new
+pub rounds-all : {n : ℕ} {old new : List ℕ} {k : ℕ} → Rounds n old new k → k ≡ n → (f : Follow) → Edges f n old → Reached f new
 unfolding reaches
-rounds-all {n} {old} {new} {k} r facts e s q = record { names = r .names; law = λ a b. r .law facts e s a b ∙ ap (λ (j : ℕ). reachBy (viewOf n facts) j a b) q }
+rounds-all {n} {old} {new} {k} r q f e =
+    record { names = subst (λ (m : ℕ). OnlyNames m new) (sym (e .same)) (r .names); law = λ a b. r .law f e a b ∙ ap (λ (j : ℕ). reachBy f j a b) (q ∙ sym (e .same)) }

@@ -5,11 +5,10 @@ ghost use mathlib.Core.Bool.{_&&_, _||_};
 ghost use Prim.Native.Nat.{ℕ, _≤_, _<_};
 ghost use Rattle.nameset.specs.Places.{places};
 ghost use Rattle.nameset.specs.Set.{member};
-ghost use Rattle.follow.specs.View.{viewOf};
-ghost use Rattle.chain_peel.specs.Shown.{Shown};
+ghost use Rattle.follow.specs.Follow.{Follow};
 ghost use Rattle.chain_rows.specs.Rows.{OnlyNames};
-ghost use Rattle.chain_reach.specs.Reached.{Round, Reached};
-use follow::Facts;
+ghost use Rattle.chain_reach.specs.Reached.{Round, Edges, Reached};
+use chain_rows::copied;
 use nameset::NameSet;
 use nameset::ROWS;
 use nameset::put_row;
@@ -40,12 +39,12 @@ fn round(rows: &mut [u64], n: usize, k: usize)
     }
 }
 
-// What each name reaches.
-pub fn reach_rows(facts: Facts, n: usize) -> [u64; ROWS]
-    requires { ⌜ (n ≤ places) × Shown (viewOf n facts) ⌝ }
-    ensures { λ r. ⌜ Reached (viewOf n facts) r ⌝ }
+// What each name reaches, by the follow rows: so it is for any facts of which these are the steps between names.
+pub fn reach_rows(follows: &[u64], n: usize) -> [u64; ROWS]
+    requires { ⌜ (n ≤ places) × OnlyNames n (now follows) ⌝ }
+    ensures { λ r. ⌜ ((f : Follow) → Edges f n (now (follows .entry)) → Reached f r) ⌝ }
 {
-    let mut rows = facts.follows;
+    let mut rows = copied(follows);
     let mut k = 0;
     while k < n {
         round(&mut rows, n, k);

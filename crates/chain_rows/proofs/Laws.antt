@@ -15,12 +15,12 @@ use Rattle.nameset.specs.declared.NameSet.{NameSet}
 use Rattle.nameset.specs.Set.{member}
 use Rattle.nameset.specs.Rows.{IsRows, HasRow, rowAt, putRow, noRows}
 use Rattle.nameset.proofs.Laws.{member-empty}
-use Rattle.nameset.proofs.Rows.{row-put, row-kept, length-put, no-rows, row-of-none}
+use Rattle.nameset.proofs.Rows.{row-put, row-kept, length-put, no-rows, row-past, row-of-none}
 use Rattle.chain_levels.specs.Below.{anyBelow}
 use Rattle.chain_levels.proofs.Tests.{refuted}
 use Rattle.chain_peel.specs.Sets.{inRows}
 use Rattle.chain_peel.proofs.Rows.{rows-none, rows-first}
-use Rattle.chain_rows.specs.Rows.{inRow, leadsAway, OnlyNames, OneWay, amongRows}
+use Rattle.chain_rows.specs.Rows.{inRow, Copied, leadsAway, OnlyNames, OneWay, amongRows}
 
 -- ---- rows
 
@@ -83,6 +83,16 @@ module _ {old new : List ℕ} {test : ℕ → ℕ → Bool} {i : ℕ} (r : Fille
       at : Dec (a < i) → cond (ltb a i) (test a b) (inRow old a b) ≡ test a b
       at (yes l) = rw (lt-ltb a i l)
       at (no l) = rw (le-ltb a i (omega arith)) (rest a b (omega arith))
+
+-- ---- a copy
+
+pub copy-none : (rows : List ℕ) → Filled (noRows places) (noRows places) (inRow rows) 0
+copy-none rows = fill-none (noRows places) (inRow rows) (no-rows places)
+
+pub copy-all : (old new : List ℕ) (i : ℕ) → IsRows places old → Filled (noRows places) new (inRow old) i → places ≤ i → Copied old new
+unfolding inRow
+copy-all old new i o r h =
+    record { size = r .size; law = fill-all r places h (λ a b l. none-related a b ∙ sym (ap (λ (t : NameSet). member t b) (row-past places old a o l) ∙ member-empty b)) }
 
 -- ---- what goes one way
 

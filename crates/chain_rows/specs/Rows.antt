@@ -14,6 +14,11 @@ use Rattle.chain_levels.specs.Below.{anyBelow}
 unfoldable pub inRow : List ℕ → ℕ → ℕ → Bool
 inRow rows a b = member (rowAt rows a) b
 
+-- The rows of `new` have the names that those of `old` have.
+pub record Copied (old new : List ℕ) : Type 0 where
+  pub size : IsRows places new
+  pub law : (a b : ℕ) → inRow new a b ≡ inRow old a b
+
 -- There is a row for each place, and only the first n names are related: no name from n on is in a row, and the rows
 -- from n on are empty.
 pub record OnlyNames (n : ℕ) (rows : List ℕ) : Type 0 where

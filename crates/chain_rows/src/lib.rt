@@ -8,7 +8,7 @@ ghost use Rattle.nameset.specs.Places.{places};
 ghost use Rattle.nameset.specs.Set.{member};
 ghost use Rattle.nameset.specs.Rows.{IsRows};
 ghost use Rattle.chain_peel.specs.Sets.{inRows};
-ghost use Rattle.chain_rows.specs.Rows.{inRow, leadsAway, OnlyNames, OneWay, amongRows};
+ghost use Rattle.chain_rows.specs.Rows.{inRow, Copied, leadsAway, OnlyNames, OneWay, amongRows};
 use nameset::NameSet;
 use nameset::ROWS;
 use nameset::put_row;
@@ -20,6 +20,21 @@ pub fn with_if(s: NameSet, i: usize, more: bool) -> NameSet
     ensures { λ r. ⌜ ((j : ℕ) → member r j ≡ (member s j || (more && eqb i j))) ⌝ }
 {
     if more { s.with(i) } else { s }
+}
+
+// A copy of rows.
+pub fn copied(rows: &[u64]) -> [u64; ROWS]
+    requires { ⌜ IsRows places (now rows) ⌝ }
+    ensures { λ r. ⌜ Copied (now (rows .entry)) r ⌝ }
+{
+    let mut out = [0u64; ROWS];
+    let mut a = 0;
+    while a < ROWS {
+        let row = row_at(rows, a);
+        put_row(&mut out, a, row);
+        a += 1;
+    }
+    out
 }
 
 // The names that are related to x.

@@ -1,32 +1,85 @@
--- The facts of a parent's sample are such that the chain can be made of them, and it is the sample's chain.
+-- The facts that a row keeps: whether they show a word, and what the chain asks of them.
 -- Assumes nothing.
-use Prim.Native.Nat.{ℕ, _≤_}
-use mathlib.Core.Path.{_≡_, sym, ap, subst, _∙_}
-use mathlib.Core.List.{List}
+use Prim.Native.Nat.{ℕ, _-_, _≤_}
+use mathlib.Core.Path.{_≡_, refl, sym, ap, subst, _∙_}
+use mathlib.Core.Bool.{Bool, true, false, _||_, not}
+use mathlib.Core.List.{List, [], _∷_}
+use mathlib.Core.Logic.{_↔_, inl, inr}
+use native.Mathlib.Omega.{arith}
+use lib.Dec.{eqb}
+use lib.ListN.{length, getD, take, drop, length-drop}
+use lib.Seq.{take-all}
+use borrow.Author.Tests.{eq-eqb, ne-eqb}
 use Rattle.nameset.specs.Places.{places}
-use Rattle.book.specs.declared.Layout.{Layout}
-use Rattle.book.specs.Book.{blocksIn}
-use Rattle.book.specs.Access.{LaidOut}
-use Rattle.book.proofs.Laws.{few-names}
+use Rattle.nameset.specs.declared.NameSet.{NameSet}
+use Rattle.nameset.specs.Set.{member}
+use Rattle.nameset.specs.Rows.{IsRows, rowAt}
+use Rattle.nameset.specs.Promise.{Emptiness}
 use Rattle.model.specs.declared.Model.{Model}
+use Rattle.model.specs.Accept.{Names}
 use Rattle.follow.specs.declared.Facts.{Facts}
-use Rattle.follow.specs.Follow.{Follow, followOf}
-use Rattle.follow.specs.View.{viewOf}
-use Rattle.follow.specs.Sample.{wordsOf}
+use Rattle.follow.specs.Follow.{Follow, someWord, beginsWith, isEmpty, followOf}
+use Rattle.follow.specs.View.{viewOf, factsWith}
+use Rattle.follow.specs.Sample.{Over}
 use Rattle.follow.specs.Adding.{factsOf}
-use Rattle.follow.proofs.Laws.{sample-over, sample-shown}
+use Rattle.follow.proofs.Laws.{facts-shown}
+use Rattle.follow_row.specs.Row.{rowHead, rowSize, factsIn, OfWords}
+use Rattle.chain_levels.specs.Below.{anyBelow}
 use Rattle.chain_levels.specs.Chain.{chainOf}
+use Rattle.chain_levels.proofs.Tests.{or-is, some-is, refuted, both-ways}
 use Rattle.chain_peel.specs.Shown.{Shown}
 use Rattle.chain_peel.proofs.Words.{shown-words}
-use Rattle.chain_sample.specs.Sample.{chainOfWords}
+use Rattle.chain_factors.proofs.Sets.{some-set}
+use Rattle.chain_sample.specs.Sample.{chainOfWords, showWord}
 
-module _ (s : List ℕ) (l : Layout) (parent : ℕ) (laid : LaidOut s l) (facts : Facts) (made : facts ≡ factsOf (wordsOf parent (blocksIn s))) where
-  view-is : viewOf (l .names) facts ≡ followOf (l .names) (wordsOf parent (blocksIn s))
-  view-is = ap (λ (f : Facts). viewOf (l .names) f) made ∙ sample-shown s l parent laid
+-- ---- whether the facts show a word
 
-  pub chain-ready : (l .names ≤ places) × Shown (viewOf (l .names) facts)
-  chain-ready = (few-names s l laid, subst Shown (sym view-is) (shown-words (l .names) (wordsOf parent (blocksIn s)) (sample-over s l parent laid)))
+pub word-empty : (row : List ℕ) (n : ℕ) → getD row 2 0 ≡ 1 → true ≡ showWord places (viewOf n (factsIn row))
+unfolding showWord factsIn
+word-empty row n e = rw (eq-eqb (getD row 2 0) 1 e)
 
-  pub chain-made : (m : Model) → m ≡ chainOf places (viewOf (l .names) facts) → m ≡ chainOfWords places (l .names) (wordsOf parent (blocksIn s))
+pub word-starts : (row : List ℕ) (n : ℕ) (s : NameSet) (r : Bool) → (getD row 2 0 ≡ 1 → ⊥) → s ≡ rowAt row 0 → Emptiness s r → not r ≡ showWord places (viewOf n (factsIn row))
+unfolding showWord factsIn
+word-starts row n s r d e em = rw (ne-eqb (getD row 2 0) 1 d, ← e) (some-set s r em)
+
+-- The facts of words show one exactly where there is one.
+pub words-show : (size n : ℕ) (ws : List (List ℕ)) → n ≤ size → Over n ws → (showWord size (followOf n ws) ≡ false) ↔ (ws ≡ [])
+unfolding showWord someWord isEmpty beginsWith
+words-show size n [] few over = (λ e. refl, λ e. refuted (anyBelow size (λ a. false)) (λ h. both-ways false (some-is size (λ a. false) .0 h .2) refl))
+words-show size n (w ∷ ws) few over = (λ e. absurd (both-ways _ (shown w (over .0)) e), λ e. absurd (let q : _≡_ {A = ℕ} (length (w ∷ ws)) 0 = ap length e in omega arith))
+  where
+    shown : (w : List ℕ) → Names n w → ((isEmpty w || someWord isEmpty ws) || anyBelow size (λ a. beginsWith a w || someWord (beginsWith a) ws)) ≡ true
+    shown [] h = refl
+    shown (x ∷ w) h =
+        or-is (someWord isEmpty ws) (anyBelow size (λ a. eqb a x || someWord (beginsWith a) ws)) .1
+        (inr (some-is size (λ a. eqb a x || someWord (beginsWith a) ws) .1 (x, omega (arith, few, h .0), or-is (eqb x x) (someWord (beginsWith x) ws) .1 (inl (eq-eqb x x refl)))))
+
+-- ---- what the chain asks
+
+-- the part behind the head, as the code takes it
+rows-of : (row : List ℕ) → length row ≡ rowSize → take (length row - rowHead) (drop rowHead row) ≡ drop rowHead row
+rows-of row l = take-all (length row - rowHead) (drop rowHead row) (let e : length (drop rowHead row) ≡ length row - rowHead = length-drop rowHead row in omega arith)
+
+-- the four facts, as the code takes them
+pub facts-taken : (row : List ℕ) → length row ≡ rowSize → (s e : NameSet) (f : List ℕ) → s ≡ rowAt row 0 → e ≡ rowAt row 1 →
+    f ≡ take (length row - rowHead) (drop rowHead row) → factsWith s e f (eqb (getD row 2 0) 1) ≡ factsIn row
+unfolding factsIn
+facts-taken row l s e f es ee ef = rw (es, ee, ef, rows-of row l)
+
+pub rows-taken : (row : List ℕ) → length row ≡ rowSize → (f : List ℕ) → f ≡ take (length row - rowHead) (drop rowHead row) → IsRows places f
+rows-taken row l f e = let d : length (drop rowHead row) ≡ length row - rowHead = length-drop rowHead row in ap length (e ∙ rows-of row l) ∙ d ∙ (let z : length row - rowHead ≡ places = omega arith in z)
+
+module _ (n : ℕ) (row : List ℕ) (few : n ≤ places) (kept : OfWords n row) where
+  pub view-is : viewOf n (factsIn row) ≡ followOf n (kept .words)
+  view-is = ap (viewOf n) (kept .facts) ∙ facts-shown n (kept .words) few (kept .over)
+
+  -- The chain of a row is that of the words whose facts it keeps.
+  pub chain-is : chainOf places (viewOf n (factsIn row)) ≡ chainOfWords places n (kept .words)
   unfolding chainOfWords
-  chain-made m e = e ∙ ap (λ (f : Follow). chainOf places f) view-is
+  chain-is = ap (λ (f : Follow). chainOf places f) view-is
+
+  pub shows-is : (showWord places (viewOf n (factsIn row)) ≡ false) ↔ (kept .words ≡ [])
+  shows-is = subst (λ (f : Follow). (showWord places f ≡ false) ↔ (kept .words ≡ [])) (sym view-is) (words-show places n (kept .words) few (kept .over))
+
+  pub facts-shown-in : (facts : Facts) → facts ≡ factsIn row → Shown (viewOf n facts)
+  facts-shown-in facts e = subst Shown (sym (ap (viewOf n) e ∙ view-is)) (shown-words n (kept .words) (kept .over))

@@ -1,29 +1,40 @@
-// The chain of a parent's sample, of a book that was read.
-use book::Layout;
+// The chain of a parent's sample, from the row that keeps its facts.
+use follow_row::EMPTY;
+use follow_row::ENDS;
+use follow_row::FOLLOWS;
+use follow_row::STARTS;
 use model::Model;
+use nameset::row_at;
 ghost use mathlib.Core.Path.{_≡_};
+ghost use Prim.Native.Nat.{ℕ, _≤_};
 ghost use lib.ListN.{length};
 ghost use Rattle.nameset.specs.Places.{places};
-ghost use Rattle.book.specs.Book.{blocksIn};
-ghost use Rattle.book.specs.Access.{LaidOut};
-ghost use Rattle.follow.specs.Sample.{wordsOf};
-ghost use Rattle.chain_sample.specs.Sample.{chainOfWords};
+ghost use Rattle.follow.specs.View.{viewOf};
+ghost use Rattle.follow_row.specs.Row.{rowSize, factsIn, OfWords};
+ghost use Rattle.chain_levels.specs.Chain.{chainOf};
+ghost use Rattle.chain_sample.specs.Sample.{showWord};
 
-// How many blocks a parent has, and the chain that their words give.
-pub struct SampleChain {
-    pub blocks: usize,
-    pub model: Model,
+// Whether the facts of a row show a word.
+pub fn shows_word(row: &[u64]) -> bool
+    requires { ⌜ length (now row) ≡ rowSize ⌝ }
+    ensures { λ r. ⌜ ((n : ℕ) → r ≡ showWord places (viewOf n (factsIn (now (row .entry))))) ⌝ }
+{
+    if row[EMPTY] == 1 {
+        return true;
+    }
+    !row_at(row, STARTS).is_empty()
 }
 
-// The blocks of a parent counted, and their chain.
-pub fn sample_chain(bytes: &[u8], layout: Layout, parent: usize) -> SampleChain
-    requires { ⌜ LaidOut (now bytes) layout ⌝ }
-    ensures { λ r. ⌜ (r .blocks ≡ length (wordsOf parent (blocksIn (now (bytes .entry)))))
-        × (r .model ≡ chainOfWords places (layout .names) (wordsOf parent (blocksIn (now (bytes .entry))))) ⌝ }
+// The chain that the facts of a row give.
+pub fn row_chain(row: &[u64], n: usize) -> Model
+    requires { ⌜ (n ≤ places) × OfWords n (now row) ⌝ }
+    ensures { λ r. ⌜ r ≡ chainOf places (viewOf n (factsIn (now (row .entry)))) ⌝ }
 {
-    let found = follow_parent::parent_facts(bytes, layout, parent);
-    SampleChain {
-        blocks: found.blocks,
-        model: chain::chain(found.facts, layout.names),
-    }
+    chain::chain(
+        row_at(row, STARTS),
+        row_at(row, ENDS),
+        &row[FOLLOWS..],
+        row[EMPTY] == 1,
+        n,
+    )
 }

@@ -16,6 +16,7 @@ use Rattle.intake_sample.specs.declared.Inferred.{Inferred}
 use Rattle.intake_word.specs.Acceptance.{acceptanceNumber, acceptanceYes, AcceptsWord}
 use Rattle.intake_sample.specs.Inference.{InfersModel}
 use Rattle.intake_sample.specs.Writing.{WritesSample}
+use Rattle.intake_dtd.specs.Dtd.{WritesDtd}
 use Rattle.curlewsong.specs.declared.ModelReply.{ModelReply}
 use Rattle.curlewsong.specs.declared.Verdict.{Verdict}
 use Rattle.curlewsong.specs.declared.LengthReply.{LengthReply}
@@ -49,6 +50,9 @@ RepliesWritten bytes parent m r before after = (x : Written) × WritesDeclaratio
 
 abbrev pub RepliesSample : List ℕ → ℕ → LengthReply → List ℕ → List ℕ → Type 0
 RepliesSample bytes parent r before after = (x : Written) × WritesSample bytes parent x before after × (r ≡ lengthReply x)
+
+abbrev pub RepliesDtd : List ℕ → LengthReply → List ℕ → List ℕ → Type 0
+RepliesDtd bytes r before after = (x : Written) × WritesDtd bytes x before after × (r ≡ lengthReply x)
 
 abbrev pub RepliesText : List ℕ → List ℕ → TextReply → Type 0
 RepliesText bytes text r = (x : Declaration) × ReadsDeclaration bytes text x × (r ≡ textReply x)

@@ -4,7 +4,7 @@ use declaration_writing::Written;
 use intake::Acceptance;
 use model::Model;
 ghost use mathlib.Core.Path.{_≡_};
-ghost use Rattle.curlewsong.specs.Reply.{verdict, lengthReply, RepliesModel, RepliesWord, RepliesWritten, RepliesSample, RepliesText};
+ghost use Rattle.curlewsong.specs.Reply.{verdict, lengthReply, RepliesModel, RepliesWord, RepliesWritten, RepliesSample, RepliesDtd, RepliesText};
 
 // A model, or the empty one and why.
 #[repr(C)]
@@ -109,6 +109,14 @@ pub extern "C" fn curlewsong_write_from_sample(
     ensures { λ r. ⌜ RepliesSample (now (book .entry)) parent r (now (buffer .entry)) (now (buffer .exit)) ⌝ }
 {
     length_of(intake::write_from_sample(book, parent, buffer))
+}
+
+// Writes the declarations of all parents with a block: 1 to 7, 12.
+#[no_mangle]
+pub extern "C" fn curlewsong_write_dtd(book: &[u8], buffer: &mut [u8]) -> LengthReply
+    ensures { λ r. ⌜ RepliesDtd (now (book .entry)) r (now (buffer .entry)) (now (buffer .exit)) ⌝ }
+{
+    length_of(intake::write_dtd(book, buffer))
 }
 
 // Reads a declaration: 1 to 7, 13, 14, 15.

@@ -1,4 +1,4 @@
--- The three demands, over the five calls open to the outside, the same calls for C, and the program. Each statement
+-- The three demands, over the six calls open to the outside, the same calls for C, and the program. Each statement
 -- begins with `pub`; what follows, from `unfolding` or the repeated name on, is its proof: skip it. Quotes are from the
 -- demands, which call paper 01 "document 01", and from paper 01.
 -- In a quarter of an hour: `no-better-model` with specs/Results, the names that end in `-refusals` with
@@ -14,22 +14,25 @@ use mathlib.Core.Bool.{true, false}
 use mathlib.Core.List.{List, [], _∷_, _++_, List·Memᴰ, map}
 use mathlib.Core.Logic.{_↔_}
 use lib.ListN.{length, take}
-use Rattle.refusal.specs.Answer.{valueOr, outcomeNumber}
+use Rattle.refusal.specs.Answer.{given, valueOr, outcomeNumber}
 use Rattle.refusal.proofs.Laws.{refused-by}
 use Rattle.refusal.proofs.Answers.{outcome-refused}
 use Rattle.nameset.specs.Places.{places}
-use Rattle.book.specs.Book.{Book, IsBook}
-use Rattle.book.specs.Taken.{TakenAs}
-use Rattle.book.specs.Stops.{Whole}
+use Rattle.book.specs.Field.{Field}
+use Rattle.book.specs.Book.{Block, Book, IsBook}
+use Rattle.book.specs.Taken.{takenBook, TakenAs}
+use Rattle.book.specs.Stops.{BlocksBelow, Whole}
 use Rattle.book.proofs.Stops.{book-whole}
 use Rattle.book.proofs.Taken.{taken-law}
+use Rattle.book_blocks.specs.Gathers.{Gathers}
 use Rattle.model.specs.declared.Model.{Model}
 use Rattle.model.specs.Record.{factorOf, modeOf, IsChain, emptyModel, dueModel}
 use Rattle.model.specs.Accept.{Accepts, Names}
 use Rattle.model_language.specs.Word.{Point, name, end, Fact}
 use Rattle.model_language.specs.Reach.{Reach}
 use Rattle.follow.specs.Follow.{Follow, followOf, steps}
-use Rattle.follow.specs.Sample.{SameWords}
+use Rattle.follow.specs.Sample.{wordsOf, SameWords}
+use Rattle.follow_table.specs.Table.{tabled, Keeps}
 use Rattle.chain_levels.specs.Level.{OneGroup, IsLevel, Skipped}
 use Rattle.chain_levels.specs.Reach.{reaches, sameGroup, occurs}
 use Rattle.chain_levels.specs.Rank.{levelOf, lastLevel, skipped}
@@ -56,18 +59,22 @@ use Rattle.intake_sample.specs.Writing.{WritesSample}
 use Rattle.intake_word.proofs.Theorem.{yes-exactly}
 use Rattle.intake_sample.proofs.Samples.{no-word, some-word, sample-names}
 use Rattle.intake_sample.proofs.NoBetterModel as Model3
-use Rattle.dtd_output.specs.Output.{lineOf}
+use Rattle.dtd_lines.specs.Lines.{factLines, tableFacts}
+use Rattle.intake_dtd.specs.Dtd.{lineOf, dtdOf, WritesDtd}
+use Rattle.intake_dtd.proofs.Agree.{dtd-by-facts}
+use Rattle.dtd_output.specs.Output.{outputOf}
 use Rattle.demands_samples.specs.Samples.{lines, lineDeclaration, printedDeclaration}
 use Rattle.demands_samples.proofs.Samples.{marked}
 use Rattle.curlewsong.specs.declared.ModelReply.{ModelReply}
 use Rattle.curlewsong.specs.declared.Verdict.{Verdict}
 use Rattle.curlewsong.specs.declared.LengthReply.{LengthReply}
 use Rattle.curlewsong.specs.declared.TextReply.{TextReply}
-use Rattle.curlewsong.specs.Reply.{modelReply, verdict, lengthReply, textReply, RepliesModel, RepliesWord, RepliesWritten, RepliesSample, RepliesText}
-use Rattle.demands.specs.Conditions.{WordConditions, ModelConditions, WriteConditions, SampleConditions, ReadConditions}
+use Rattle.curlewsong.specs.Reply.{modelReply, verdict, lengthReply, textReply, RepliesModel, RepliesWord, RepliesWritten, RepliesSample, RepliesDtd, RepliesText}
+use Rattle.demands.specs.Conditions.{WordConditions, ModelConditions, WriteConditions, SampleConditions, DtdConditions, ReadConditions}
 use Rattle.demands.specs.Results.{Wrote, Asked, Minimal}
 use Rattle.demands.proofs.Refusals as Law
 use Rattle.demands.proofs.Texts as Text
+use Rattle.demands.proofs.SoFar as So
 
 -- ==== demand 1
 
@@ -105,6 +112,12 @@ sample-refusals bytes parent w before after call =
     subst (SampleConditions bytes parent (length before))
     (sym (ap (λ (x : Written). outcomeNumber (x .outcome)) (call .0)))
     (Law.sample-conditions bytes parent (length before))
+
+pub dtd-refusals : (bytes : List ℕ) (w : Written) (before after : List ℕ) (call : WritesDtd bytes w before after) →
+    DtdConditions bytes (length before) (outcomeNumber (w .outcome))
+unfolding written
+dtd-refusals bytes w before after call = subst (DtdConditions bytes (length before))
+    (sym (ap (λ (x : Written). outcomeNumber (x .outcome)) (call .0))) (Law.dtd-conditions bytes (length before))
 
 pub read-refusals : (bytes text : List ℕ) (r : Declaration) (call : ReadsDeclaration bytes text r) →
     ReadConditions bytes text (outcomeNumber (r .outcome))
@@ -145,6 +158,10 @@ pub sample-kept : (bytes : List ℕ) (parent : ℕ) (w : Written) (before after 
     0 < outcomeNumber (w .outcome) → (w .length ≡ 0) × (after ≡ before)
 sample-kept bytes parent w before after call = Text.writes-kept _ w before after call
 
+pub dtd-kept : (bytes : List ℕ) (w : Written) (before after : List ℕ) (call : WritesDtd bytes w before after) →
+    0 < outcomeNumber (w .outcome) → (w .length ≡ 0) × (after ≡ before)
+dtd-kept bytes w before after call = Text.writes-kept _ w before after call
+
 pub read-kept : (bytes text : List ℕ) (r : Declaration) (call : ReadsDeclaration bytes text r) →
     0 < outcomeNumber (r .outcome) →
     (r .parent ≡ 0) × (r .model ≡ emptyModel places)
@@ -162,14 +179,19 @@ accepted-exactly n m w r call = let h = yes-exactly n m w r call in (λ e. h .0 
 -- sample it is that of the model x which the call for the model answers.
 pub write-done : (bytes : List ℕ) (parent : ℕ) (m : Model) (w : Written) (before after : List ℕ)
     (call : WritesDeclaration bytes parent m w before after) →
-    outcomeNumber (w .outcome) ≡ 0 → (b : Book) × TakenAs bytes b × Wrote (b .names) parent m (w .length) before after
+    outcomeNumber (w .outcome) ≡ 0 → (b : Book) × TakenAs bytes b × Wrote (declaration (b .names) parent m) (w .length) before after
 write-done = Text.write-done
 
 pub sample-done : (bytes : List ℕ) (parent : ℕ) (w : Written) (before after : List ℕ)
     (call : WritesSample bytes parent w before after) → outcomeNumber (w .outcome) ≡ 0 →
-    (x : Inferred) → InfersModel bytes parent x → (b : Book) × TakenAs bytes b × Wrote (b .names) parent (x .model)
+    (x : Inferred) → InfersModel bytes parent x → (b : Book) × TakenAs bytes b × Wrote (declaration (b .names) parent (x .model))
     (w .length) before after
 sample-done bytes parent w before after call z x asked = Text.write-done bytes parent (x .model) w before after (Text.as-written bytes parent w before after call z x asked) z
+
+-- The whole DTD: `dtdOf b` has the line of each parent with a block, in rising number (`program-line` below).
+pub dtd-done : (bytes : List ℕ) (w : Written) (before after : List ℕ) (call : WritesDtd bytes w before after) →
+    outcomeNumber (w .outcome) ≡ 0 → (b : Book) × TakenAs bytes b × Wrote (dtdOf b) (w .length) before after
+dtd-done = Text.dtd-done
 
 -- "A model written as a declaration reads back as the same model."
 pub written-reads-back : (bytes : List ℕ) (parent : ℕ) (m : Model) (w : Written) (before after : List ℕ)
@@ -196,7 +218,7 @@ pub read-writes : (bytes text : List ℕ) (r : Declaration) (call : ReadsDeclara
     (w : Written) (before after : List ℕ) → WritesDeclaration bytes (r .parent) (r .model) w before after →
     longestDeclaration ≤ length before →
     (b : Book) × TakenAs bytes b ×
-    ((outcomeNumber (w .outcome) ≡ 0) × Wrote (b .names) (r .parent) (r .model) (w .length) before after)
+    ((outcomeNumber (w .outcome) ≡ 0) × Wrote (declaration (b .names) (r .parent) (r .model)) (w .length) before after)
 read-writes = Text.read-writes
 
 -- The canonical form is one of the spellings, and no text is a spelling of two declarations.
@@ -315,6 +337,28 @@ pub program-no-line : (b : Book) (parent : ℕ) → sampleOf b parent ≡ [] →
 unfolding lineOf
 program-no-line b parent e = rw (no-word (sampleOf b parent) .1 e)
 
+-- What the program prints for a book that is taken is what the call for the whole DTD writes.
+pub program-dtd : (bytes : List ℕ) (b : Book) → TakenAs bytes b → outputOf (takenBook bytes) ≡ dtdOf b
+unfolding outputOf
+program-dtd bytes b taken = ap outputOf taken
+
+-- ==== paper 02, request U2
+
+-- "After each block the facts of every parent are exactly those that the blocks so far show": t is the table before a
+-- block, which keeps the blocks bs, and u the table after it, as `gather_block` of crates/follow_table promises
+-- (`Gathers Keeps`). Then the steps that u has for a parent are those that its words in bs and in this block show.
+pub after-each-block : (n : ℕ) (bs : List Block) (block : Field Block) (t u : List ℕ) → n ≤ places →
+    BlocksBelow n (bs ++ (block .value ∷ [])) → Keeps bs t → (call : Gathers Keeps (given block) t u) →
+    (parent : ℕ) → parent < tabled → (x y : Point) →
+    steps (tableFacts n u parent) x y ↔ Fact (wordsOf parent (bs ++ (block .value ∷ []))) x y
+after-each-block n bs block t u few below kept call = So.facts-kept n (bs ++ (block .value ∷ [])) u few below (call bs kept)
+
+-- "The declarations come from these facts and the names alone": a book's DTD is `factLines` of its names and of the
+-- facts of each parent's words. `dtdOf` looks for each parent's words in all blocks; the code goes by `factLines`.
+pub dtd-from-facts : (bytes : List ℕ) (b : Book) → TakenAs bytes b →
+    dtdOf b ≡ factLines (b .names) (λ parent. followOf (length (b .names)) (sampleOf b parent)) 0 (length (b .names))
+dtd-from-facts bytes b taken = dtd-by-facts bytes b (taken-law bytes b .0 taken)
+
 -- ==== the calls for C and Rust
 
 -- Each of these makes the call in Rattle and passes on its answer as a struct r of C. Stated of r, one after another:
@@ -348,22 +392,31 @@ pub c-write : (bytes : List ℕ) (parent : ℕ) (m : Model) (r : LengthReply) (b
     (call : RepliesWritten bytes parent m r before after) →
     WriteConditions bytes parent m (length before) (r .refusal) ×
     (0 < r .refusal → (r .length ≡ 0) × (after ≡ before)) ×
-    (r .refusal ≡ 0 → (b : Book) × TakenAs bytes b × Wrote (b .names) parent m (r .length) before after)
+    (r .refusal ≡ 0 → (b : Book) × TakenAs bytes b × Wrote (declaration (b .names) parent m) (r .length) before after)
 unfolding lengthReply
 c-write bytes parent m r before after (x, call, e) =
     subst (λ (v : LengthReply). WriteConditions bytes parent m (length before) (v .refusal) × (0 < v .refusal → (v .length ≡ 0) × (after ≡ before)) ×
-    (v .refusal ≡ 0 → (b : Book) × TakenAs bytes b × Wrote (b .names) parent m (v .length) before after)) (sym e)
+    (v .refusal ≡ 0 → (b : Book) × TakenAs bytes b × Wrote (declaration (b .names) parent m) (v .length) before after)) (sym e)
     (write-refusals bytes parent m x before after call, write-kept bytes parent m x before after call, write-done bytes parent m x before after call)
 
 pub c-sample : (bytes : List ℕ) (parent : ℕ) (r : LengthReply) (before after : List ℕ)
     (call : RepliesSample bytes parent r before after) →
     SampleConditions bytes parent (length before) (r .refusal) × (0 < r .refusal → (r .length ≡ 0) × (after ≡ before)) ×
-    (r .refusal ≡ 0 → (y : Inferred) → InfersModel bytes parent y → (b : Book) × TakenAs bytes b × Wrote (b .names) parent (y .model) (r .length) before after)
+    (r .refusal ≡ 0 → (y : Inferred) → InfersModel bytes parent y → (b : Book) × TakenAs bytes b × Wrote (declaration (b .names) parent (y .model)) (r .length) before after)
 unfolding lengthReply
 c-sample bytes parent r before after (x, call, e) =
     subst (λ (v : LengthReply). SampleConditions bytes parent (length before) (v .refusal) × (0 < v .refusal → (v .length ≡ 0) × (after ≡ before)) ×
-    (v .refusal ≡ 0 → (y : Inferred) → InfersModel bytes parent y → (b : Book) × TakenAs bytes b × Wrote (b .names) parent (y .model) (v .length) before after)) (sym e)
+    (v .refusal ≡ 0 → (y : Inferred) → InfersModel bytes parent y → (b : Book) × TakenAs bytes b × Wrote (declaration (b .names) parent (y .model)) (v .length) before after)) (sym e)
     (sample-refusals bytes parent x before after call, sample-kept bytes parent x before after call, sample-done bytes parent x before after call)
+
+pub c-dtd : (bytes : List ℕ) (r : LengthReply) (before after : List ℕ) (call : RepliesDtd bytes r before after) →
+    DtdConditions bytes (length before) (r .refusal) × (0 < r .refusal → (r .length ≡ 0) × (after ≡ before)) ×
+    (r .refusal ≡ 0 → (b : Book) × TakenAs bytes b × Wrote (dtdOf b) (r .length) before after)
+unfolding lengthReply
+c-dtd bytes r before after (x, call, e) =
+    subst (λ (v : LengthReply). DtdConditions bytes (length before) (v .refusal) × (0 < v .refusal → (v .length ≡ 0) × (after ≡ before)) ×
+    (v .refusal ≡ 0 → (b : Book) × TakenAs bytes b × Wrote (dtdOf b) (v .length) before after)) (sym e)
+    (dtd-refusals bytes x before after call, dtd-kept bytes x before after call, dtd-done bytes x before after call)
 
 pub c-read : (bytes text : List ℕ) (r : TextReply) (call : RepliesText bytes text r) →
     ReadConditions bytes text (r .refusal) × (0 < r .refusal → (r .parent ≡ 0) × (r .model ≡ emptyModel places)) ×

@@ -1,3 +1,4 @@
 pub mod Refusals
 pub mod Texts
 pub mod Demands
+pub mod SoFar

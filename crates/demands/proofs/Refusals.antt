@@ -42,7 +42,8 @@ use Rattle.intake_word.proofs.Theorem.{good-word, word-good, bad-word}
 use Rattle.intake_sample.specs.Inference.{sampleOf, noWord, chainIn, modelIn, modelAnswer}
 use Rattle.intake_sample.specs.Writing.{sampleText}
 use Rattle.intake_sample.proofs.Samples.{no-word, some-word}
-use Rattle.demands.specs.Conditions.{OfBook, InRange, BookConditions, WordConditions, ModelConditions, WriteConditions, sampleDeclaration, SampleConditions, ReadConditions}
+use Rattle.intake_dtd.specs.Dtd.{dtdOf, dtdAnswer}
+use Rattle.demands.specs.Conditions.{OfBook, InRange, BookConditions, WordConditions, ModelConditions, WriteConditions, sampleDeclaration, SampleConditions, DtdConditions, ReadConditions}
 
 -- ---- what the tests mean
 
@@ -279,6 +280,20 @@ sample-conditions bytes parent room =
     (λ b. sampleDeclaration b parent) (λ b. onward (modelIn b parent) (λ m. fitted room (declaration (b .names) parent m)))
     (λ b. in-row BadParent NoBlock (chainIn b parent) (λ m. fitted room (declaration (b .names) parent m)) (badParent b parent) (noWord (sampleOf b parent))) in
     record { book = h .book; eight = h .eight; nine = h .middle; twelve = h .twelve; none = h .none; no-other = h .no-other }
+
+-- ---- the whole DTD written
+
+pub dtd-conditions : (bytes : List ℕ) (room : ℕ) → DtdConditions bytes room (answerNumber (dtdAnswer bytes room))
+unfolding dtdAnswer
+dtd-conditions bytes room =
+    let a = dtdAnswer bytes room in
+    let next : Book → Answer (List ℕ) = λ b. fitted room (dtdOf b) in
+    record {
+      book = book-rows bytes a (λ f l. book-first bytes next f l (λ b k e. subst (λ (r : Refusal). ofBook r ≡ false) (fitted-only room (dtdOf b) f e) refl));
+      twelve = row a BufferTooShort (in-book bytes next (λ b. room < length (dtdOf b)) BufferTooShort refl (λ b. short-law room (dtdOf b)));
+      none = row-0 a (in-given bytes next (λ b. length (dtdOf b) ≤ room) (λ b q. fits-law room (dtdOf b)));
+      no-other = no-other (λ k. k ≡ 12) bytes next (λ b f e. ap numberOf (sym (fitted-only room (dtdOf b) f e)));
+    }
 
 -- ---- a declaration read
 

@@ -7,12 +7,15 @@ use mathlib.Core.Bool.{true, false, false≢true}
 use mathlib.Core.List.{List, _++_}
 use mathlib.Core.Logic.{_↔_}
 use native.Mathlib.Omega.{arith}
+use lib.Dec.{ltb}
 use lib.ListN.{length, take, drop}
 use lib.Seq.{drop-append-seam}
+use borrow.Author.Tests.{ltb-false}
+use Rattle.refusal.specs.declared.Refusal.the-variants.{BufferTooShort}
 use Rattle.refusal.specs.declared.Outcome.the-variants.{Done}
 use Rattle.refusal.specs.Answer.{Answer, given, onward, valueOr, outcomeNumber}
 use Rattle.refusal.proofs.Laws.{refused-by, done-by}
-use Rattle.refusal.proofs.Answers.{onward-given, outcome-refused, outcome-given}
+use Rattle.refusal.proofs.Answers.{onward-given, check-given, given-same, outcome-refused, outcome-given}
 use Rattle.nameset.specs.Places.{places}
 use Rattle.book.specs.Book.{Book}
 use Rattle.book.specs.Taken.{takenBook, TakenAs}
@@ -20,10 +23,11 @@ use Rattle.book.proofs.Taken.{good-parent}
 use Rattle.model.specs.declared.Model.{Model}
 use Rattle.model.specs.Record.{IsChain, dueModel}
 use Rattle.model.proofs.Chain.{chain-law}
+use Rattle.declaration_spelling.specs.House.{declaration}
 use Rattle.declaration_spelling.specs.Length.{longestDeclaration}
 use Rattle.declaration_spelling.specs.Spelled.{Spelled}
 use Rattle.declaration_writing.specs.declared.Written.{Written}
-use Rattle.declaration_writing.specs.Write.{writeIn, writeAnswer, lengthDue, written, bufferAfter, Writes, WritesDeclaration}
+use Rattle.declaration_writing.specs.Write.{fitted, writeIn, writeAnswer, lengthDue, written, bufferAfter, Writes, WritesDeclaration}
 use Rattle.byte_buffer.proofs.Puts.{wrote-back}
 use Rattle.declaration_writing.proofs.Back.{Given, text-given, buffer-given, buffer-kept}
 use Rattle.declaration_reading.specs.declared.Declaration.{Declaration}
@@ -37,6 +41,7 @@ use Rattle.intake_sample.specs.Inference.{modelIn, modelAnswer, inferred, Infer
 use Rattle.intake_sample.specs.Writing.{sampleText, WritesSample}
 use Rattle.intake_sample.proofs.Writing.{model-given}
 use Rattle.intake_sample.proofs.NoBetterModel as Model3
+use Rattle.intake_dtd.specs.Dtd.{dtdOf, dtdAnswer, WritesDtd}
 use Rattle.demands.specs.Results.{Wrote}
 
 -- ---- a yes or no
@@ -90,7 +95,7 @@ module _ (a : Answer (List ℕ)) (w : Written) (before after : List ℕ) (call :
 -- ---- a declaration written with a record
 
 module _ (bytes : List ℕ) (parent : ℕ) (m : Model) (w : Written) (before after : List ℕ) (call : WritesDeclaration bytes parent m w before after) where
-  pub write-done : outcomeNumber (w .outcome) ≡ 0 → (b : Book) × TakenAs bytes b × Wrote (b .names) parent m (w .length) before after
+  pub write-done : outcomeNumber (w .outcome) ≡ 0 → (b : Book) × TakenAs bytes b × Wrote (declaration (b .names) parent m) (w .length) before after
   write-done z =
       let (t, e) = writes-given _ w before after call (done-by (w .outcome) z) in
       let g : Given bytes parent m (length before) t = text-given bytes parent m (length before) t e in (
@@ -108,6 +113,26 @@ module _ (bytes : List ℕ) (parent : ℕ) (m : Model) (w : Written) (before aft
       let (t, e) = writes-given _ w before after call (done-by (w .outcome) z) in
       let text : take (w .length) after ≡ t = writes-front _ w before after call t e (text-given bytes parent m (length before) t e .fits) in
       Reading.read-written bytes parent m (length before) t e r (subst (λ (s : List ℕ). ReadsDeclaration bytes s r) text reads)
+
+-- ---- the whole DTD written
+
+pub dtd-done : (bytes : List ℕ) (w : Written) (before after : List ℕ) → WritesDtd bytes w before after → outcomeNumber (w .outcome) ≡ 0 →
+    (b : Book) × TakenAs bytes b × Wrote (dtdOf b) (w .length) before after
+unfolding dtdAnswer fitted
+dtd-done bytes w before after call z =
+    let (t, e) = writes-given _ w before after call (done-by (w .outcome) z) in
+    let (b, taken, g) = onward-given (takenBook bytes) _ t e in
+    let (short, same) = check-given (ltb (length before) (length (dtdOf b))) BufferTooShort (given (dtdOf b)) t g in
+    let text : t ≡ dtdOf b = sym (given-same (dtdOf b) t same) in
+    let fits : length t ≤ length before = rw text (ltb-false (length before) (length (dtdOf b)) short) in (
+      b,
+      taken,
+      record {
+        size = writes-size _ w before after call t e ∙ ap length text;
+        front = writes-front _ w before after call t e fits ∙ text;
+        past = writes-past _ w before after call t e fits;
+      },
+    )
 
 -- ---- a declaration written from the sample
 
@@ -144,7 +169,7 @@ as-written bytes parent w before after call z x asked =
 
 pub read-writes : (bytes text : List ℕ) (r : Declaration) → ReadsDeclaration bytes text r → outcomeNumber (r .outcome) ≡ 0 →
     (w : Written) (before after : List ℕ) → WritesDeclaration bytes (r .parent) (r .model) w before after → longestDeclaration ≤ length before →
-    (b : Book) × TakenAs bytes b × ((outcomeNumber (w .outcome) ≡ 0) × Wrote (b .names) (r .parent) (r .model) (w .length) before after)
+    (b : Book) × TakenAs bytes b × ((outcomeNumber (w .outcome) ≡ 0) × Wrote (declaration (b .names) (r .parent) (r .model)) (w .length) before after)
 unfolding written
 read-writes bytes text r reads z w before after call room =
     let e = Reading.read-writes bytes text r reads (length before) room (done-by (r .outcome) z) .2 in

@@ -23,6 +23,7 @@ use Rattle.declaration_spelling.specs.Spelled.{Spelled}
 use Rattle.declaration_spelling.specs.Stops.{Form, modelNames, formNames, Twice, HasForm}
 use Rattle.intake_word.specs.Acceptance.{longestWord, Passes}
 use Rattle.intake_sample.specs.Inference.{sampleOf}
+use Rattle.intake_dtd.specs.Dtd.{dtdOf}
 
 -- k is the number of a refusal that concerns the book, 1 to 7.
 abbrev pub OfBook : ℕ → Type 0
@@ -97,6 +98,13 @@ pub record SampleConditions (bytes : List ℕ) (parent room : ℕ) (k : ℕ) : T
   pub none : (k ≡ 0) ↔ ((b : Book) × TakenAs bytes b ×
       ((parent < length (b .names)) × ((¬ (sampleOf b parent ≡ [])) × (length (sampleDeclaration b parent) ≤ room))))
   pub no-other : (k ≡ 0) ⊎ (OfBook k ⊎ ((k ≡ 8) ⊎ ((k ≡ 9) ⊎ (k ≡ 12))))
+
+-- The whole DTD written, into a buffer of `room` bytes.
+pub record DtdConditions (bytes : List ℕ) (room : ℕ) (k : ℕ) : Type 0 where
+  pub book : BookConditions bytes k
+  pub twelve : (k ≡ 12) ↔ ((b : Book) × TakenAs bytes b × (room < length (dtdOf b)))
+  pub none : (k ≡ 0) ↔ ((b : Book) × TakenAs bytes b × (length (dtdOf b) ≤ room))
+  pub no-other : (k ≡ 0) ⊎ (OfBook k ⊎ (k ≡ 12))
 
 -- A declaration read. d lists what the text spells: the parent's name, and each factor's names and mark.
 pub record ReadConditions (bytes text : List ℕ) (k : ℕ) : Type 0 where

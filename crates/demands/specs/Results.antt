@@ -11,15 +11,14 @@ use Rattle.model.specs.declared.Model.{Model}
 use Rattle.model.specs.Record.{IsChain}
 use Rattle.model.specs.Accept.{Accepts, Names}
 use Rattle.model_language.specs.Word.{AcceptsAll}
-use Rattle.declaration_spelling.specs.House.{declaration}
 use Rattle.intake_sample.specs.declared.Inferred.{Inferred}
 use Rattle.intake_sample.specs.Inference.{sampleOf, InfersModel}
 
--- The declaration of m for the parent is at the front of the buffer, in canonical form (paper 01's house spelling).
+-- The text is at the front of the buffer: a declaration in canonical form (paper 01's house spelling), or a whole DTD.
 -- Its length was answered, and the bytes behind it are those that the buffer held before.
-pub record Wrote (names : List (List ℕ)) (parent : ℕ) (m : Model) (answered : ℕ) (before after : List ℕ) : Type 0 where
-  pub size : answered ≡ length (declaration names parent m)
-  pub front : take answered after ≡ declaration names parent m
+pub record Wrote (text : List ℕ) (answered : ℕ) (before after : List ℕ) : Type 0 where
+  pub size : answered ≡ length text
+  pub front : take answered after ≡ text
   pub past : drop answered after ≡ drop answered before
 
 -- The call for a parent's model was made with bytes that are taken as the book b, which has a block of the parent: its

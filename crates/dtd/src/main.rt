@@ -21,7 +21,7 @@ fn print(text: &[u8]) {
 
 // Prints all that is due for these bytes as the book.
 fn print_output(bytes: &[u8]) {
-    let mut text = [0u8; dtd_output::LONGEST];
+    let mut text = [0u8; intake_dtd::LONGEST];
     let length = dtd_output::put_output(&mut text, bytes);
     print(&text[..length]);
 }

@@ -1,45 +1,60 @@
--- All output: the lines, or the text for a refused book.
+-- All output: the whole DTD, or the text for a refused book.
 -- Assumes nothing.
 use Prim.Native.Nat.{ℕ, _+_, _/_, _≤_}
-use mathlib.Core.Path.{_≡_, refl, sym, _∙_, ap}
+use mathlib.Core.Path.{_≡_, refl, sym, _∙_, ap, subst}
 use mathlib.Core.Bool.{cond}
-use mathlib.Core.List.{List}
+use mathlib.Core.List.{List, []}
+use mathlib.Core.Logic.{_⊎_, ⊎-elim}
 use native.Mathlib.Omega.{arith}
 use lib.Dec.{ltb}
 use lib.ListN.{length}
+use lib.Seq.{length-sets}
 use Rattle.refusal.specs.declared.Refusal.{Refusal}
 use Rattle.refusal.specs.declared.Outcome.the-variants.{Done, Refused}
 use Rattle.refusal.specs.Table.{numberOf}
-use Rattle.book.specs.declared.Reading.{Reading}
-use Rattle.book.specs.Layout.{readingOf}
+use Rattle.refusal.specs.Answer.{given, refused, outcomeOf}
+use Rattle.refusal.proofs.Answers.{outcome-refused, outcome-given}
 use Rattle.book.specs.Taken.{takenBook}
-use Rattle.book.proofs.Laws.{reading-refused}
-use Rattle.book.proofs.Taken as Taken
-use Rattle.byte_buffer.specs.Put.{Put}
-use Rattle.byte_buffer.proofs.Puts.{put-is}
-use Rattle.dtd_output.specs.Output.{linesFrom, refusedText, outputOf, longestOutput, bookIn}
-use Rattle.dtd_output.proofs.Lines.{lines-room}
+use Rattle.declaration_writing.specs.declared.Written.{Written}
+use Rattle.declaration_writing.specs.Write.{lengthDue, written, bufferAfter}
+use Rattle.byte_buffer.specs.Put.{wrote, Put}
+use Rattle.byte_buffer.proofs.Puts.{wrote-none, put-is}
+use Rattle.intake_dtd.specs.Dtd.{dtdOf, dtdAnswer, WritesDtd, longestDtd}
+use Rattle.intake_dtd.proofs.Short.{dtd-short, room-given, room-refused}
+use Rattle.dtd_output.specs.Output.{refusedText, outputOf}
 use Rattle.dtd_output.proofs.Refused.{room}
 
--- the place behind a text with room for it is within the buffer
-whole-put : (d text out : List ℕ) (to : ℕ) (e : List ℕ) → 0 + length text ≤ length d → text ≡ out → Put d 0 text to e → Put d 0 out to e × (to ≤ length e)
-whole-put d text out to e h is q = (put-is d 0 text out to e is q, omega (arith, q .place, q .same))
+module _ (s : List ℕ) (w : Written) (d e : List ℕ) (call : WritesDtd s w d e) (long : longestDtd ≤ length d) where
+  outcome-is : w .outcome ≡ outcomeOf (dtdAnswer s (length d))
+  unfolding written
+  outcome-is = ap (λ (x : Written). x .outcome) (call .0)
 
-module _ (s : List ℕ) (r : Reading) (read : r ≡ readingOf (takenBook s)) (d : List ℕ) (long : longestOutput ≤ length d) (to : ℕ) (e : List ℕ) where
-  pub refused-out : (f : Refusal) → r .outcome ≡ Refused f → Put d 0 (refusedText f) to e → Put d 0 (outputOf (takenBook s)) to e × (to ≤ length e)
-  unfolding outputOf
-  refused-out f o q =
-      whole-put d (refusedText f) (outputOf (takenBook s)) to e (room f (numberOf f) (cond (ltb (numberOf f) 10) 0 (48 + numberOf f / 10)) refl refl d long)
-      (rw (reading-refused (takenBook s) r f read o)) q
+  -- a refused book: nothing was written, and the refusal is the book's
+  module _ (f : Refusal) (o : w .outcome ≡ Refused f) where
+    answer-is : dtdAnswer s (length d) ≡ refused f
+    answer-is = outcome-refused (dtdAnswer s (length d)) f .0 (sym outcome-is ∙ o)
 
-  module _ (done : r .outcome ≡ Done) where
-    book-is : Taken.book s r read done ≡ bookIn s
-    book-is = λ i. record { names = sym (Taken.names-taken s r read done) i; blocks = sym (Taken.blocks-taken s r read done) i }
+    pub kept : e ≡ d
+    unfolding bufferAfter
+    kept = call .1 ∙ rw answer-is (wrote-none d 0)
 
-    lines-are : linesFrom (bookIn s) 0 (r .layout .names) ≡ outputOf (takenBook s)
+    pub still-long : longestDtd ≤ length e
+    still-long = rw kept long
+
+    pub refused-out : (to : ℕ) (g : List ℕ) → Put e 0 (refusedText f) to g → Put d 0 (outputOf (takenBook s)) to g × (to ≤ length g)
     unfolding outputOf
-    lines-are = (λ i. linesFrom (sym book-is i) 0 (Taken.names-are s r read done i)) ∙ ap outputOf (sym (Taken.taken s r read done))
+    refused-out to g q =
+        let fits = room f (numberOf f) (cond (ltb (numberOf f) 10) 0 (48 + numberOf f / 10)) refl refl e still-long in
+        let p : Put d 0 (refusedText f) to g = subst (λ (x : List ℕ). Put x 0 (refusedText f) to g) kept q in
+        (put-is d 0 (refusedText f) (outputOf (takenBook s)) to g (sym (ap outputOf (room-refused s (length d) f long answer-is))) p, omega (arith, q .place, q .same))
 
-    pub lines-out : Put d 0 (linesFrom (bookIn s) 0 (r .layout .names)) to e → Put d 0 (outputOf (takenBook s)) to e × (to ≤ length e)
-    lines-out q =
-        whole-put d (linesFrom (bookIn s) 0 (r .layout .names)) (outputOf (takenBook s)) to e (lines-room s (r .layout) (Taken.laid s r read done) d long) lines-are q
+  pub done-out : w .outcome ≡ Done → Put d 0 (outputOf (takenBook s)) (w .length) e × (w .length ≤ length e)
+  unfolding outputOf written bufferAfter wrote
+  done-out o =
+      let (text, g) = outcome-given (dtdAnswer s (length d)) .0 (sym outcome-is ∙ o) in
+      let (b, taken, same) = room-given s (length d) text long g in
+      let short : length text ≤ longestDtd = subst (λ (t : List ℕ). length t ≤ longestDtd) same (dtd-short s b taken) in
+      let size : w .length ≡ length text = ap (λ (x : Written). x .length) (call .0) ∙ ap lengthDue g in
+      let holds : e ≡ wrote d 0 text = call .1 ∙ ap (bufferAfter d) g in
+      let kept : length e ≡ length d = ap length holds ∙ length-sets d 0 text in
+      (put-is d 0 text (outputOf (takenBook s)) (w .length) e (sym same ∙ sym (ap outputOf taken)) (record { place = omega arith; holds = holds; same = kept }), omega arith)

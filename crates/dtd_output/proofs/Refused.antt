@@ -13,7 +13,8 @@ use Rattle.refusal.specs.declared.Refusal.{Refusal}
 use Rattle.refusal.specs.Table.{numberOf}
 use Rattle.byte_buffer.specs.Put.{Put, shown}
 use Rattle.byte_buffer.proofs.Puts.{Left, left-start, left-is, left-put, left-room, left-fits, left-last, shown-none, shown-one}
-use Rattle.dtd_output.specs.Output.{decimal, refusedWord, refusedText, longestOutput}
+use Rattle.intake_dtd.specs.Dtd.{longestDtd}
+use Rattle.dtd_output.specs.Output.{decimal, refusedWord, refusedText}
 
 -- the digit of the tens: none below 10
 pub no-tens : (n : ℕ) → n < 10 → 0 ≡ cond (ltb n 10) 0 (48 + n / 10)
@@ -43,7 +44,7 @@ shown-short b = go (ℕ-discrete b 0)
     go (yes e) = rw (shown-none b e) (omega arith)
     go (no d) = rw (shown-one b d) (omega arith)
 
-module _ (r : Refusal) (n t : ℕ) (number : n ≡ numberOf r) (ten : t ≡ cond (ltb n 10) 0 (48 + n / 10)) (d : List ℕ) (long : longestOutput ≤ length d) where
+module _ (r : Refusal) (n t : ℕ) (number : n ≡ numberOf r) (ten : t ≡ cond (ltb n 10) 0 (48 + n / 10)) (d : List ℕ) (long : longestDtd ≤ length d) where
   text-is : refusedText r ≡ (114 ∷ 101 ∷ 102 ∷ 117 ∷ 115 ∷ 101 ∷ 100 ∷ 32 ∷ []) ++ (shown t ++ (shown (48 + n % 10) ++ shown 10))
   unfolding refusedText refusedWord shown
   text-is = ap (λ (x : List ℕ). (114 ∷ 101 ∷ 102 ∷ 117 ∷ 115 ∷ 101 ∷ 100 ∷ 32 ∷ []) ++ x) (ap (λ (x : ℕ). decimal x ++ (10 ∷ [])) (sym number) ∙ digits n t (10 ∷ []) ten)

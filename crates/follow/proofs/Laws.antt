@@ -53,7 +53,7 @@ unfolding allBelow
 names-below n [] e = tt
 names-below n (x ∷ w) e = (ltb-true x n (and-left (ltb x n) (allBelow n w) e), names-below n w (and-right (ltb x n) (allBelow n w) e))
 
-words-over : (n parent : ℕ) (bs : List Block) → BlocksBelow n bs → Over n (wordsOf parent bs)
+pub words-over : (n parent : ℕ) (bs : List Block) → BlocksBelow n bs → Over n (wordsOf parent bs)
 unfolding wordsOf
 words-over n parent [] h = tt
 words-over n parent (b ∷ bs) h = go (words-over n parent bs (h .2)) (eqb (b .parent) parent)

@@ -1,59 +1,97 @@
-// Follow facts of one parent of a book that was read, with the number of its blocks.
-use book::Layout;
-use book_access::block_at_place;
+// A book read, and the follow facts of one parent gathered while it is read: the blocks are gone through once.
+use book::HEAD_SIZE;
+use book::Reading;
+use book_blocks::BlockStep;
+use book_blocks::BlocksEnd;
+use book_blocks::block_at;
 use book_bytes::part;
-use follow::Facts;
-use follow::add_pairs;
-use follow::or_empty;
-use follow::with_first;
-use follow::with_last;
-use nameset::NameSet;
-use nameset::ROWS;
+use book_bytes::wide;
+use book_reading::close_book;
+use book_reading::open_book;
+use follow_row::add_to_row;
+use refusal::Outcome;
 ghost use mathlib.Core.Path.{_≡_};
-ghost use lib.ListN.{length};
-ghost use Rattle.book.specs.Book.{blocksIn};
-ghost use Rattle.book.specs.Access.{LaidOut};
-ghost use Rattle.follow.specs.Sample.{wordsOf};
-ghost use Rattle.follow.specs.Adding.{factsOf};
+ghost use mathlib.Core.List.{[]};
+ghost use Prim.Native.Nat.{_≤_};
+ghost use lib.ListN.{length, drop};
+ghost use Rattle.nameset.specs.Places.{places};
+ghost use Rattle.book.specs.Book.{longestBook, blockOf, blocksOf};
+ghost use Rattle.book.specs.Layout.{readingOf};
+ghost use Rattle.book.specs.Taken.{takenBook};
+ghost use Rattle.book_blocks.specs.Tables.{blockStep, blocksEnd};
+ghost use Rattle.book_blocks.specs.Gathers.{Gathers, blocksFrom, GathersAll};
+ghost use Rattle.book_reading.specs.Opening.{blocksRead};
+ghost use Rattle.follow_row.specs.Row.{rowSize, RowKeeps};
 
-// How many blocks a parent has, and what their words show.
-pub struct ParentFacts {
-    pub blocks: usize,
-    pub facts: Facts,
+// The block at a place, checked; in the same step its word is added to the row, if the block is one of the parent's.
+fn gather_block(bytes: &[u8], n: usize, at: usize, parent: usize, row: &mut [u64]) -> BlockStep
+    requires { ⌜ (length (now bytes) ≤ longestBook) × (n ≤ places) × (length (now row) ≡ rowSize) ⌝ }
+    ensures { λ r. ⌜ (r ≡ blockStep (blockOf n (drop at (now (bytes .entry)))))
+        × Gathers (RowKeeps parent) (blockOf n (drop at (now (bytes .entry)))) (now (row .entry)) (now (row .exit))
+        × (length (now (row .exit)) ≡ rowSize) ⌝ }
+{
+    match block_at(bytes, n, at) {
+        BlockStep::Block(size) => {
+            if wide(bytes[at]) != parent {
+                return BlockStep::Block(size);
+            }
+            let from = at + HEAD_SIZE;
+            add_to_row(row, part(bytes, from, from + size));
+            BlockStep::Block(size)
+        }
+        BlockStep::Stopped(refusal) => BlockStep::Stopped(refusal),
+    }
 }
 
-// The facts of a parent in a book that was read, in one walk over its blocks.
-pub fn parent_facts(bytes: &[u8], layout: Layout, parent: usize) -> ParentFacts
-    requires { ⌜ LaidOut (now bytes) layout ⌝ }
-    ensures { λ r. ⌜ (r .blocks ≡ length (wordsOf parent (blocksIn (now (bytes .entry))))) × (r .facts ≡ factsOf (wordsOf parent (blocksIn (now (bytes .entry))))) ⌝ }
+// The m blocks from a place on, one after the other.
+fn gather_blocks(
+    bytes: &[u8],
+    n: usize,
+    m: usize,
+    from: usize,
+    parent: usize,
+    row: &mut [u64],
+) -> BlocksEnd
+    requires { ⌜ (from ≤ length (now bytes)) × (length (now bytes) ≤ longestBook) × (n ≤ places) × (length (now row) ≡ rowSize) ⌝ }
+    ensures { λ r. ⌜ (r ≡ blocksEnd from (blocksOf n m (drop from (now (bytes .entry)))))
+        × GathersAll (RowKeeps parent) (blocksFrom n m (drop from (now (bytes .entry)))) (now (row .entry)) (now (row .exit)) ⌝ }
 {
-    let mut starts = NameSet::empty();
-    let mut ends = NameSet::empty();
-    let mut rows = [0u64; ROWS];
-    let mut empty = false;
-    let mut blocks = 0;
-    let mut at = layout.body;
-    let mut left = layout.blocks;
+    let mut left = m;
+    let mut at = from;
     while 0 < left {
-        let block = block_at_place(bytes, at);
-        if block.parent == parent {
-            let word = part(bytes, block.from, block.to);
-            starts = with_first(starts, word);
-            ends = with_last(ends, word);
-            add_pairs(&mut rows, word);
-            empty = or_empty(empty, word);
-            blocks += 1;
+        match gather_block(bytes, n, at, parent, row) {
+            BlockStep::Block(size) => {
+                at = at + HEAD_SIZE + size;
+            }
+            BlockStep::Stopped(refusal) => {
+                return BlocksEnd::Stopped(refusal);
+            }
         }
-        at = block.to;
         left -= 1;
     }
-    ParentFacts {
-        blocks,
-        facts: Facts {
-            starts,
-            ends,
-            follows: rows,
-            empty,
-        },
+    BlocksEnd::End(at)
+}
+
+// The book as every call takes it, of any bytes whatever. The row, which keeps nothing before, then keeps what the
+// blocks that were read show of the parent: all blocks of a book that is not refused.
+pub fn take_parent(bytes: &[u8], parent: usize, row: &mut [u64]) -> Reading
+    requires { ⌜ RowKeeps parent [] (now row) ⌝ }
+    ensures { λ r. ⌜ (r ≡ readingOf (takenBook (now (bytes .entry))))
+        × RowKeeps parent (blocksRead (now (bytes .entry))) (now (row .exit)) ⌝ }
+{
+    let opened = open_book(bytes);
+    let outcome = opened.outcome;
+    if let Outcome::Refused(refusal) = outcome {
+        return book_reading::refused(refusal);
     }
+    let layout = opened.layout;
+    let blocks = gather_blocks(
+        bytes,
+        layout.names,
+        layout.blocks,
+        layout.body,
+        parent,
+        row,
+    );
+    close_book(bytes, layout, blocks)
 }

@@ -1,57 +1,66 @@
-// The follow facts of one parent, read from its row of the table of all parents.
-use follow::Facts;
-use follow_parent::ParentFacts;
-use follow_table::BLOCKS;
-use follow_table::EMPTY;
-use follow_table::ENDS;
-use follow_table::FOLLOWS;
-use follow_table::ROW;
-use follow_table::STARTS;
-use follow_table::TABLED;
-use nameset::ROWS;
+// The follow facts of one parent, kept as a row of words, and a word added to them.
+use follow::add_pairs;
+use follow::with_first;
+use follow::with_last;
+use nameset::PLACES;
+use nameset::put_row;
 use nameset::row_at;
 ghost use mathlib.Core.Path.{_≡_};
-ghost use Prim.Native.Nat.{_<_};
-ghost use lib.ListN.{length, drop};
-ghost use Rattle.follow_table.specs.Table.{tabled, rowHead, rowSize, tableSize, rowOf, factsIn, countIn};
+ghost use mathlib.Core.Bool.{true, _||_};
+ghost use lib.Dec.{eqb};
+ghost use lib.ListN.{length};
+ghost use Rattle.nameset.specs.Places.{places};
+ghost use Rattle.book.specs.Book.{allBelow};
+ghost use Rattle.follow.specs.Follow.{isEmpty};
+ghost use Rattle.follow_row.specs.Row.{rowSize, withEnds, HeadAdded, RowAdded};
 
-// The row of a parent.
-fn row_of(table: &[u64], parent: usize) -> &[u64]
-    requires { ⌜ (length (now table) ≡ tableSize) × (parent < tabled) ⌝ }
-    ensures { λ r. ⌜ (now r ≡ rowOf (now (table .entry)) parent) × (length (now r) ≡ rowSize) ⌝ }
+// A row: the set of starts and the set of ends, as rows of `nameset`; 1 where a word is empty; then the names that
+// follow each name.
+pub const STARTS: usize = 0;
+
+pub const ENDS: usize = 1;
+
+pub const EMPTY: usize = 2;
+
+pub const FOLLOWS: usize = 3;
+
+pub const ROW: usize = FOLLOWS + PLACES;
+
+// 1 where there was an empty word before, or this one is empty.
+fn mark_empty(mark: u64, word: &[u8]) -> u64
+    ensures { λ r. ⌜ eqb r 1 ≡ (eqb mark 1 || isEmpty (now (word .entry))) ⌝ }
 {
-    let from = parent * ROW;
-    let to = from + ROW;
-    &table[from..to]
+    if word.len() == 0 {
+        return 1;
+    }
+    mark
 }
 
-// The names that follow each name, of a row.
-fn follows_in(row: &[u64]) -> [u64; ROWS]
-    requires { ⌜ length (now row) ≡ rowSize ⌝ }
-    ensures { λ r. ⌜ r ≡ drop rowHead (now (row .entry)) ⌝ }
+// Puts the first name of a word into the starts of a row, and the last into the ends.
+fn add_ends(row: &mut [u64], word: &[u8])
+    requires { ⌜ (length (now row) ≡ rowSize) × (allBelow places (now word) ≡ true) ⌝ }
+    ensures { λ _. ⌜ (now (row .exit) ≡ withEnds (now (row .entry)) (now (word .entry))) × (length (now (row .exit)) ≡ rowSize) ⌝ }
 {
-    let mut rows = [0u64; ROWS];
-    let mut i = 0;
-    while i < TABLED {
-        rows[i] = row[FOLLOWS + i];
-        i += 1;
-    }
-    rows
+    let starts = with_first(row_at(row, STARTS), word);
+    put_row(row, STARTS, starts);
+    let ends = with_last(row_at(row, ENDS), word);
+    put_row(row, ENDS, ends);
 }
 
-// What the table keeps of a parent.
-pub fn facts_in(table: &[u64], parent: usize) -> ParentFacts
-    requires { ⌜ (length (now table) ≡ tableSize) × (parent < tabled) ⌝ }
-    ensures { λ r. ⌜ (r .blocks ≡ countIn (rowOf (now (table .entry)) parent)) × (r .facts ≡ factsIn (rowOf (now (table .entry)) parent)) ⌝ }
+// Adds a word to a row, all but its pairs.
+fn add_to_head(row: &mut [u64], word: &[u8])
+    requires { ⌜ (length (now row) ≡ rowSize) × (allBelow places (now word) ≡ true) ⌝ }
+    ensures { λ _. ⌜ HeadAdded (now (row .entry)) (now (word .entry)) (now (row .exit)) ⌝ }
 {
-    let row = row_of(table, parent);
-    ParentFacts {
-        blocks: row[BLOCKS] as usize,
-        facts: Facts {
-            starts: row_at(row, STARTS),
-            ends: row_at(row, ENDS),
-            follows: follows_in(row),
-            empty: row[EMPTY] == 1,
-        },
-    }
+    add_ends(row, word);
+    row[EMPTY] = mark_empty(row[EMPTY], word);
+}
+
+// Adds a word to a row: the facts change only by what that word shows (paper 01).
+pub fn add_to_row(row: &mut [u64], word: &[u8])
+    requires { ⌜ (length (now row) ≡ rowSize) × (allBelow places (now word) ≡ true) ⌝ }
+    ensures { λ _. ⌜ RowAdded (now (row .entry)) (now (word .entry)) (now (row .exit)) ⌝ }
+{
+    add_to_head(row, word);
+    add_pairs(&mut row[FOLLOWS..], word);
 }

@@ -1,3 +1,2 @@
 pub mod Parts
-pub mod Rows
-pub mod Walks
+pub mod Keeps

@@ -7,7 +7,8 @@ use native.Mathlib.Omega.{arith}
 use native.Mathlib.Decide.{decLt}
 use lib.ListN.{length, take, drop, replicate, length-drop, length-append, length-replicate, take-append-drop, replicate-append-replicate}
 use lib.Seq.{length-take-le, take-at, drop-at, take-append-le, drop-append-le, drop-append-add}
-use Rattle.follow_table.specs.Table.{tabled, rowSize, tableSize, rowOf, RowAdded, Added}
+use Rattle.follow_row.specs.Row.{rowSize, RowAdded}
+use Rattle.follow_table.specs.Table.{tabled, tableSize, rowOf, Added}
 
 -- the part of the table that the code takes is the row
 pub part-is : (t : List ℕ) (p : ℕ) → take (p * rowSize + rowSize - p * rowSize) (drop (p * rowSize) t) ≡ rowOf t p

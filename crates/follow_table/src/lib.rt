@@ -1,87 +1,50 @@
-// The follow facts of all parents of a book, gathered in one walk over its blocks into a table with a row of words for
-// each parent.
-use book::Layout;
-use book_access::block_at_place;
+// A book read, and the follow facts of all its parents gathered while it is read: the blocks are gone through once.
+use book::HEAD_SIZE;
+use book::Reading;
+use book_blocks::BlockStep;
+use book_blocks::BlocksEnd;
+use book_blocks::block_at;
 use book_bytes::part;
-use follow::add_pairs;
-use follow::with_first;
-use follow::with_last;
-use nameset::put_row;
-use nameset::row_at;
+use book_bytes::wide;
+use book_reading::close_book;
+use book_reading::open_book;
+use follow_row::ROW;
+use follow_row::add_to_row;
+use refusal::Outcome;
 ghost use mathlib.Core.Path.{_≡_};
-ghost use mathlib.Core.Bool.{true, _||_};
+ghost use mathlib.Core.Bool.{true};
+ghost use mathlib.Core.List.{[]};
 ghost use Prim.Native.Nat.{_≤_, _<_};
-ghost use lib.Dec.{eqb};
-ghost use lib.ListN.{length};
+ghost use lib.ListN.{length, drop};
 ghost use Rattle.nameset.specs.Places.{places};
-ghost use Rattle.book.specs.Book.{allBelow};
-ghost use Rattle.book.specs.Access.{LaidOut};
-ghost use Rattle.follow.specs.Follow.{isEmpty};
-ghost use Rattle.follow_table.specs.Table.{tabled, rowSize, tableSize, rowOf, withEnds, HasRoom, HeadAdded, RowAdded, Added, Gathered};
+ghost use Rattle.book.specs.Book.{longestBook, allBelow, blockOf, blocksOf};
+ghost use Rattle.book.specs.Layout.{readingOf};
+ghost use Rattle.book.specs.Taken.{takenBook};
+ghost use Rattle.book_blocks.specs.Tables.{blockStep, blocksEnd};
+ghost use Rattle.book_blocks.specs.Gathers.{Gathers, blocksFrom, GathersAll};
+ghost use Rattle.book_reading.specs.Opening.{blocksRead};
+ghost use Rattle.follow_row.specs.Row.{rowSize};
+ghost use Rattle.follow_table.specs.Table.{tabled, tableSize, rowOf, Keeps, Added};
 
 // A table serves books of up to so many names.
-pub const TABLED: usize = 64;
-
-// A row of the table: the set of starts and the set of ends, as rows of `nameset`; 1 where a word is empty; the number
-// of blocks; then the names that follow each name.
-pub const STARTS: usize = 0;
-
-pub const ENDS: usize = 1;
-
-pub const EMPTY: usize = 2;
-
-pub const BLOCKS: usize = 3;
-
-pub const FOLLOWS: usize = 4;
-
-pub const ROW: usize = FOLLOWS + TABLED;
+const TABLED: usize = 64;
 
 // The words of a table: a row for each name.
 pub const WORDS: usize = TABLED * ROW;
 
-// 1 where there was an empty word before, or this one is empty.
-fn mark_empty(mark: u64, word: &[u8]) -> u64
-    ensures { λ r. ⌜ eqb r 1 ≡ (eqb mark 1 || isEmpty (now (word .entry))) ⌝ }
+// The row of a parent.
+pub fn row_of(table: &[u64], parent: usize) -> &[u64]
+    requires { ⌜ (length (now table) ≡ tableSize) × (parent < tabled) ⌝ }
+    ensures { λ r. ⌜ (now r ≡ rowOf (now (table .entry)) parent) × (length (now r) ≡ rowSize) ⌝ }
 {
-    if word.len() == 0 {
-        return 1;
-    }
-    mark
-}
-
-// Puts the first name of a word into the starts of a row, and the last into the ends.
-fn add_ends(row: &mut [u64], word: &[u8])
-    requires { ⌜ (length (now row) ≡ rowSize) × (allBelow places (now word) ≡ true) ⌝ }
-    ensures { λ _. ⌜ (now (row .exit) ≡ withEnds (now (row .entry)) (now (word .entry))) × (length (now (row .exit)) ≡ rowSize) ⌝ }
-{
-    let starts = with_first(row_at(row, STARTS), word);
-    put_row(row, STARTS, starts);
-    let ends = with_last(row_at(row, ENDS), word);
-    put_row(row, ENDS, ends);
-}
-
-// Adds a block's word to a row, all but its pairs.
-fn add_to_head(row: &mut [u64], word: &[u8])
-    requires { ⌜ (length (now row) ≡ rowSize) × (allBelow places (now word) ≡ true) × HasRoom (now row) ⌝ }
-    ensures { λ _. ⌜ HeadAdded (now (row .entry)) (now (word .entry)) (now (row .exit)) ⌝ }
-{
-    add_ends(row, word);
-    row[EMPTY] = mark_empty(row[EMPTY], word);
-    row[BLOCKS] += 1;
-}
-
-// Adds a block's word to a row.
-fn add_to_row(row: &mut [u64], word: &[u8])
-    requires { ⌜ (length (now row) ≡ rowSize) × (allBelow places (now word) ≡ true) × HasRoom (now row) ⌝ }
-    ensures { λ _. ⌜ RowAdded (now (row .entry)) (now (word .entry)) (now (row .exit)) ⌝ }
-{
-    add_to_head(row, word);
-    add_pairs(&mut row[FOLLOWS..], word);
+    let from = parent * ROW;
+    let to = from + ROW;
+    &table[from..to]
 }
 
 // Adds a block's word to the row of its parent.
 fn add_to_table(table: &mut [u64], parent: usize, word: &[u8])
-    requires { ⌜ (length (now table) ≡ tableSize) × (parent < tabled) × (allBelow places (now word) ≡ true) × HasRoom (rowOf (now table) parent) ⌝ }
+    requires { ⌜ (length (now table) ≡ tableSize) × (parent < tabled) × (allBelow places (now word) ≡ true) ⌝ }
     ensures { λ _. ⌜ Added (now (table .entry)) parent (now (word .entry)) (now (table .exit)) ⌝ }
 {
     let from = parent * ROW;
@@ -89,20 +52,59 @@ fn add_to_table(table: &mut [u64], parent: usize, word: &[u8])
     add_to_row(&mut table[from..to], word);
 }
 
-// The table of a book that was read, of at most as many names as a table serves.
-pub fn gather_facts(bytes: &[u8], layout: Layout) -> [u64; WORDS]
-    requires { ⌜ LaidOut (now bytes) layout × (layout .names ≤ tabled) ⌝ }
-    ensures { λ r. ⌜ Gathered (now (bytes .entry)) r ⌝ }
+// The block at a place, checked; in the same step its word is added to the facts of its parent. A table that kept the
+// blocks before it then keeps this one too.
+pub fn gather_block(bytes: &[u8], n: usize, at: usize, table: &mut [u64]) -> BlockStep
+    requires { ⌜ (length (now bytes) ≤ longestBook) × (n ≤ tabled) × (length (now table) ≡ tableSize) ⌝ }
+    ensures { λ r. ⌜ (r ≡ blockStep (blockOf n (drop at (now (bytes .entry)))))
+        × Gathers Keeps (blockOf n (drop at (now (bytes .entry)))) (now (table .entry)) (now (table .exit))
+        × (length (now (table .exit)) ≡ tableSize) ⌝ }
 {
-    let mut table = [0u64; WORDS];
-    let mut at = layout.body;
-    let mut left = layout.blocks;
+    match block_at(bytes, n, at) {
+        BlockStep::Block(size) => {
+            let from = at + HEAD_SIZE;
+            add_to_table(table, wide(bytes[at]), part(bytes, from, from + size));
+            BlockStep::Block(size)
+        }
+        BlockStep::Stopped(refusal) => BlockStep::Stopped(refusal),
+    }
+}
+
+// The m blocks from a place on, one after the other.
+pub fn gather_blocks(bytes: &[u8], n: usize, m: usize, from: usize, table: &mut [u64]) -> BlocksEnd
+    requires { ⌜ (from ≤ length (now bytes)) × (length (now bytes) ≤ longestBook) × (n ≤ tabled) × (length (now table) ≡ tableSize) ⌝ }
+    ensures { λ r. ⌜ (r ≡ blocksEnd from (blocksOf n m (drop from (now (bytes .entry)))))
+        × GathersAll Keeps (blocksFrom n m (drop from (now (bytes .entry)))) (now (table .entry)) (now (table .exit)) ⌝ }
+{
+    let mut left = m;
+    let mut at = from;
     while 0 < left {
-        let block = block_at_place(bytes, at);
-        let word = part(bytes, block.from, block.to);
-        add_to_table(&mut table, block.parent, word);
-        at = block.to;
+        match gather_block(bytes, n, at, table) {
+            BlockStep::Block(size) => {
+                at = at + HEAD_SIZE + size;
+            }
+            BlockStep::Stopped(refusal) => {
+                return BlocksEnd::Stopped(refusal);
+            }
+        }
         left -= 1;
     }
-    table
+    BlocksEnd::End(at)
+}
+
+// The book as every call takes it, of any bytes whatever. The table, which keeps nothing before, then keeps what the
+// blocks that were read show of every parent: all blocks of a book that is not refused.
+pub fn take_table(bytes: &[u8], table: &mut [u64]) -> Reading
+    requires { ⌜ Keeps [] (now table) ⌝ }
+    ensures { λ r. ⌜ (r ≡ readingOf (takenBook (now (bytes .entry))))
+        × Keeps (blocksRead (now (bytes .entry))) (now (table .exit)) ⌝ }
+{
+    let opened = open_book(bytes);
+    let outcome = opened.outcome;
+    if let Outcome::Refused(refusal) = outcome {
+        return book_reading::refused(refusal);
+    }
+    let layout = opened.layout;
+    let blocks = gather_blocks(bytes, layout.names, layout.blocks, layout.body, table);
+    close_book(bytes, layout, blocks)
 }

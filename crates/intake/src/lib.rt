@@ -1,7 +1,8 @@
-// The five calls open to the outside, passed on from the crates that have them. None has a requirement: each says for
+// The six calls open to the outside, passed on from the crates that have them. None has a requirement: each says for
 // every input what it answers.
 pub use declaration_reading::read_declaration;
 pub use declaration_writing::write_declaration;
+pub use intake_dtd::write_dtd;
 pub use intake_sample::Inferred;
 pub use intake_sample::model_of_parent;
 pub use intake_sample::write_from_sample;

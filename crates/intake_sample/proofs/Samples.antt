@@ -1,7 +1,7 @@
 -- The sample of a parent of a book that is not refused: what the theorem of demand 3 asks of it, and the call's answer.
 -- Assumes nothing.
-use Prim.Native.Nat.{ℕ, suc, _≤_, _<_}
-use mathlib.Core.Path.{_≡_, refl, sym, ap, subst}
+use Prim.Native.Nat.{ℕ, _≤_, _<_}
+use mathlib.Core.Path.{_≡_, refl, sym, _∙_, ap, subst}
 use mathlib.Core.Bool.{Bool, true, false, cond, false≢true}
 use mathlib.Core.List.{List, [], _∷_, List·Memᴰ}
 use mathlib.Core.Logic.{_↔_}
@@ -9,21 +9,32 @@ use native.Mathlib.Omega.{arith}
 use lib.Dec.{eqb}
 use lib.ListN.{length}
 use borrow.Author.Tests.{eqb-true}
+use Rattle.refusal.specs.declared.Outcome.the-variants.{Done}
 use Rattle.refusal.specs.Answer.{given}
 use Rattle.nameset.specs.Places.{places}
 use Rattle.book.specs.Book.{Block, Book, IsBook}
-use Rattle.book.specs.Layout.{layoutOf}
+use Rattle.book.specs.declared.Reading.{Reading}
+use Rattle.book.specs.Layout.{layoutOf, readingOf}
 use Rattle.book.specs.Access.{LaidOut}
 use Rattle.book.specs.Stops.{BlocksBelow}
-use Rattle.book.specs.Taken.{TakenAs}
+use Rattle.book.specs.Taken.{takenBook, TakenAs}
 use Rattle.book.proofs.Taken.{taken-law, good-parent}
+use Rattle.book.proofs.Taken as Taken
 use Rattle.book.proofs.Laws.{few-names, blocks-in, blocks-within}
+use Rattle.book_reading.specs.Opening.{blocksRead}
+use Rattle.book_reading.proofs.Closing.{taken-blocks}
 use Rattle.model.specs.Record.{noFactor, IsChain}
 use Rattle.model.specs.Accept.{Names}
 use Rattle.follow.specs.Sample.{wordsOf, Over}
 use Rattle.follow.proofs.Laws.{over-in, sample-over}
+use Rattle.follow.specs.View.{viewOf}
+use Rattle.follow_row.specs.Row.{factsIn, RowKeeps, OfWords}
+use Rattle.follow_row.proofs.Keeps.{row-of-words}
+use Rattle.chain_levels.specs.Chain.{chainOf}
+use Rattle.chain_levels.proofs.Tests.{both-ways}
 use Rattle.chain_minimal.proofs.Demand as Demand
-use Rattle.chain_sample.specs.Sample.{chainOfWords}
+use Rattle.chain_sample.specs.Sample.{chainOfWords, showWord}
+use Rattle.chain_sample.proofs.Shown.{chain-is, shows-is}
 use Rattle.intake_sample.specs.Inference.{sampleOf, noWord, chainIn, modelIn, modelAnswer}
 
 -- a parent with a block is below n where every block's parent is
@@ -47,17 +58,6 @@ unfolding noWord
 some-word [] = (λ e. absurd (false≢true (sym e)), λ d. absurd (d refl))
 some-word (w ∷ ws) = (λ e z. let q : _≡_ {A = ℕ} (length (w ∷ ws)) 0 = ap length z in absurd (omega arith), λ d. refl)
 
--- the same by the number of words
-pub none-there : (ws : List (List ℕ)) → length ws ≡ 0 → noWord ws ≡ true
-none-there ws e = no-word ws .1 (nothing ws e)
-  where
-    nothing : (ws : List (List ℕ)) → length ws ≡ 0 → ws ≡ []
-    nothing [] e = refl
-    nothing (w ∷ ws) e = absurd (let z : _≡_ {A = ℕ} (suc (length ws)) 0 = e in omega arith)
-
-pub some-there : (ws : List (List ℕ)) → (length ws ≡ 0 → ⊥) → noWord ws ≡ false
-some-there ws d = some-word ws .1 (λ z. d (ap length z))
-
 module _ (bytes : List ℕ) (book : Book) (read : IsBook bytes book) where
   laid : LaidOut bytes (layoutOf book)
   laid = record { book = book; read = read; same = refl }
@@ -67,11 +67,12 @@ module _ (bytes : List ℕ) (book : Book) (read : IsBook bytes book) where
   few = few-names bytes (layoutOf book) laid
 
   module _ (parent : ℕ) where
-    pub sample-names : (w : List ℕ) → List·Memᴰ w (sampleOf book parent) → Names (length (book .names)) w
+    pub sample-words : Over (length (book .names)) (sampleOf book parent)
     unfolding layoutOf sampleOf laid
-    sample-names =
-        over-in (length (book .names)) (wordsOf parent (book .blocks))
-        (subst (λ (bs : List Block). Over (length (book .names)) (wordsOf parent bs)) (blocks-in bytes (layoutOf book) laid) (sample-over bytes (layoutOf book) parent laid))
+    sample-words = subst (λ (bs : List Block). Over (length (book .names)) (wordsOf parent bs)) (blocks-in bytes (layoutOf book) laid) (sample-over bytes (layoutOf book) parent laid)
+
+    pub sample-names : (w : List ℕ) → List·Memᴰ w (sampleOf book parent) → Names (length (book .names)) w
+    sample-names = over-in (length (book .names)) (sampleOf book parent) sample-words
 
     module _ (block : ¬ (sampleOf book parent ≡ [])) where
       -- a parent with a block is one of the book's names,
@@ -91,3 +92,38 @@ pub answer-given : (bytes : List ℕ) (book : Book) → TakenAs bytes book → (
 unfolding modelAnswer modelIn
 answer-given bytes book taken parent block =
     rw (taken, good-parent book parent .1 (has-block bytes book (taken-law bytes book .0 taken) parent block), some-word (sampleOf book parent) .1 block)
+
+-- ---- a book that was taken, and the row of a parent
+
+module _ (s : List ℕ) (r : Reading) (read : r ≡ readingOf (takenBook s)) (done : r .outcome ≡ Done) (p : ℕ) (row : List ℕ) (kept : RowKeeps p (blocksRead s) row) where
+  abbrev pub book : Book
+  book = Taken.book s r read done
+
+  pub blocks-are : blocksRead s ≡ book .blocks
+  blocks-are = taken-blocks s book (Taken.taken s r read done)
+
+  pub within : BlocksBelow (r .layout .names) (book .blocks)
+  within = subst (BlocksBelow (r .layout .names)) (Taken.blocks-taken s r read done) (blocks-within s (r .layout) (Taken.laid s r read done))
+
+  pub few-taken : r .layout .names ≤ places
+  few-taken = few-names s (r .layout) (Taken.laid s r read done)
+
+  -- the row keeps the facts of the parent's sample,
+  abbrev pub row-kept : OfWords (r .layout .names) row
+  row-kept = row-of-words (r .layout .names) p (book .blocks) row within (subst (λ (bs : List Block). RowKeeps p bs row) blocks-are kept)
+
+  -- so they show a word exactly where it has one,
+  pub none-shown : showWord places (viewOf (r .layout .names) (factsIn row)) ≡ false → noWord (sampleOf book p) ≡ true
+  unfolding sampleOf
+  none-shown e = no-word (wordsOf p (book .blocks)) .1 (shows-is (r .layout .names) row few-taken row-kept .0 e)
+
+  pub some-shown : showWord places (viewOf (r .layout .names) (factsIn row)) ≡ true → noWord (sampleOf book p) ≡ false
+  unfolding sampleOf
+  some-shown e = some-word (wordsOf p (book .blocks)) .1 (λ z. both-ways _ e (shows-is (r .layout .names) row few-taken row-kept .1 z))
+
+  -- and give its chain.
+  pub chain-shown : chainOf places (viewOf (r .layout .names) (factsIn row)) ≡ chainIn book p
+  unfolding chainIn sampleOf
+  chain-shown =
+      chain-is (r .layout .names) row few-taken row-kept
+      ∙ ap (λ (n : ℕ). chainOfWords places n (wordsOf p (book .blocks))) (Taken.names-are s r read done)

@@ -2,6 +2,10 @@
 use super::Inferred;
 use super::InferredIn;
 use book::Reading;
+use chain_sample::row_chain;
+use chain_sample::shows_word;
+use follow_parent::take_parent;
+use follow_row::ROW;
 use model::Model;
 use refusal::Outcome;
 use refusal::Refusal;
@@ -27,7 +31,8 @@ fn stopped(reading: Reading, refusal: Refusal) -> InferredIn
 pub fn find_model(bytes: &[u8], parent: usize) -> InferredIn
     ensures { λ r. ⌜ r ≡ inferredIn (readingOf (takenBook (now (bytes .entry)))) (modelAnswer (now (bytes .entry)) parent) ⌝ }
 {
-    let reading = book_reading::take_book(bytes);
+    let mut row = [0u64; ROW];
+    let reading = take_parent(bytes, parent, &mut row);
     let outcome = reading.outcome;
     if let Outcome::Refused(refusal) = outcome {
         return stopped(reading, refusal);
@@ -36,11 +41,10 @@ pub fn find_model(bytes: &[u8], parent: usize) -> InferredIn
     if layout.names <= parent {
         return stopped(reading, Refusal::BadParent);
     }
-    let sample = chain_sample::sample_chain(bytes, layout, parent);
-    if sample.blocks == 0 {
+    if !shows_word(&row) {
         return stopped(reading, Refusal::NoBlock);
     }
-    let model = sample.model;
+    let model = row_chain(&row, layout.names);
     InferredIn {
         outcome: Outcome::Done,
         layout,

@@ -1,7 +1,6 @@
 -- `reach_rows` meets its contract.
 -- Assumes nothing.
 use Prim.Native.Nat.{_-_, _≤_}
-use mathlib.Core.Path.{refl}
 use native.Mathlib.Omega.{arith}
 use borrow.Author.Needs.{needs}
 use Rattle.nameset.specs.Places.{places}
@@ -10,13 +9,13 @@ use Rattle.chain_reach.proofs.reach_rows.Statement.{statement}
 use Rattle.chain_reach.proofs.reach_rows.Tie as tie
 
 abbrev Inv-loop : tie.InvT-loop
-Inv-loop n rows₀ k₀ rows k = (k ≤ n) × (n ≤ places) × Rounds n rows₀ rows k
+Inv-loop follows n rows₀ k₀ rows k = (k ≤ n) × (n ≤ places) × Rounds n follows rows k
 
 abbrev μ-loop : tie.MeasureT-loop
-μ-loop n rows₀ k₀ rows k = n - k
+μ-loop follows n rows₀ k₀ rows k = n - k
 
 loop-holds : tie.Need-loop-holds Inv-loop μ-loop
-loop-holds c = (omega arith, omega arith, rounds-none _ (c .before .args .facts) (search needs) (search needs))
+loop-holds c = (omega arith, omega arith, rounds-none _ _ _ (search needs) (c .copied .ensures))
 
 round-requires : tie.Need-round-requires Inv-loop μ-loop
 round-requires c κs = let inv = c .before .before .loop .inv in (omega arith, inv .1, inv .2 .names)
@@ -25,10 +24,10 @@ loop-again : tie.Need-loop-again Inv-loop μ-loop
 loop-again c = let turn = c .before in let inv = turn .before .before .before .loop .inv in (omega arith, inv .1, rounds-more (inv .2) _ (turn .round .ensures))
 
 returns : tie.Need-returns Inv-loop μ-loop
-returns c = rounds-all (c .before .loop .inv .2) _ refl (c .before .before .before .pre .1) (omega arith)
+returns c = rounds-all (c .before .loop .inv .2) (omega arith)
 
 pub reach-rows-spec : {M : Type 1} → statement M
 reach-rows-spec =
     tie.close
-    (tie.spec Inv-loop μ-loop loop-holds (λ c. search needs) round-requires (λ c. search needs) (λ c. search needs)
-    loop-again returns)
+    (tie.spec Inv-loop μ-loop (λ c κs. search needs) loop-holds (λ c. search needs) round-requires (λ c. search needs)
+    (λ c. search needs) loop-again returns)

@@ -9,7 +9,7 @@ add-to-row-requires : tie.Need-add-to-row-requires
 add-to-row-requires c κs =
     let f = c .before .before .before in
     let row = part-is (f .args .table .now) (f .args .parent) in
-    (rw row (length-row _ _ (f .pre .0) (f .pre .1)), f .pre .2, rw row (f .pre .3))
+    (rw row (length-row _ _ (f .pre .0) (f .pre .1)), f .pre .2)
 
 returns : tie.Need-returns
 returns c =

@@ -1,0 +1,117 @@
+-- A loop over the blocks that gathers what they show: block after block, it is what the blocks so far show.
+-- Assumes nothing.
+use Prim.Native.Nat.{ℕ, zero, suc, _+_, _-_, _≤_, _<_}
+use mathlib.Core.Path.{_≡_, refl, sym, _∙_, ap, subst}
+use mathlib.Core.List.{List, [], _∷_, _++_, append-assoc, append-nil}
+use native.Mathlib.Omega.{arith}
+use lib.ListN.{length, drop}
+use Rattle.refusal.specs.declared.Refusal.{Refusal}
+use Rattle.refusal.specs.Answer.{Answer, given, refused, onward}
+use Rattle.refusal.proofs.Answers.{onward-given, given-same}
+use Rattle.book.specs.Field.{Field, field}
+use Rattle.book.specs.Book.{Block, blockOf, blocksOf}
+use Rattle.book.specs.Bytes.{headSize}
+use Rattle.book.specs.Stops.{BlocksBelow}
+use Rattle.book.proofs.Told.{block-told}
+use Rattle.book_blocks.specs.declared.BlocksEnd.the-variants.{End, Stopped}
+use Rattle.book_blocks.specs.Tables.{blocksEnd}
+use Rattle.book_blocks.specs.Gathers.{Gathers, withOthers, blocksFrom, GathersAll}
+use Rattle.book_blocks.proofs.Steps.{BlockRead}
+use Rattle.book_blocks.proofs.Walk.{Walk, walk-none, walk-done, walk-stopped, walk-more}
+
+-- ---- the blocks from the front of some bytes
+
+from-none : (n m : ℕ) (s : List ℕ) → m ≤ 0 → blocksFrom n m s ≡ []
+unfolding blocksFrom
+from-none n zero s h = refl
+from-none n (suc m) s h = absurd (omega arith)
+
+-- where none of the blocks is refused, they are all of them
+pub from-all : (n m : ℕ) (s : List ℕ) (f : Field (List Block)) → blocksOf n m s ≡ given f → blocksFrom n m s ≡ f .value
+unfolding blocksOf blocksFrom withOthers
+from-all n zero s f e = ap (λ (x : Field (List Block)). x .value) (given-same (field [] s) f e)
+from-all n (suc m) s f e = more (λ t g. from-all n m t g) (onward-given (blockOf n s) _ f e)
+  where
+    more : ((t : List ℕ) (g : Field (List Block)) → blocksOf n m t ≡ given g → blocksFrom n m t ≡ g .value) →
+        ((b : Field Block) × (blockOf n s ≡ given b) × (onward (blocksOf n m (b .rest)) (λ others. given (field (b .value ∷ others .value) (others .rest))) ≡ given f)) →
+        withOthers (blockOf n s) (blocksFrom n m) ≡ f .value
+    more again (b, h, e) =
+        let o = onward-given (blocksOf n m (b .rest)) _ f e in
+        ap (λ (a : Answer (Field Block)). withOthers a (blocksFrom n m)) h
+        ∙ ap (λ (bs : List Block). b .value ∷ bs) (again (b .rest) (o .0) (o .1))
+        ∙ ap (λ (x : Field (List Block)). x .value) (given-same _ f (o .2))
+
+-- each of them is a block over n names
+pub from-below : (n m : ℕ) (s : List ℕ) → BlocksBelow n (blocksFrom n m s)
+unfolding blocksFrom withOthers
+from-below n zero s = tt
+from-below n (suc m) s = go (λ t. from-below n m t) (blockOf n s) refl
+  where
+    go : ((t : List ℕ) → BlocksBelow n (blocksFrom n m t)) → (a : Answer (Field Block)) → blockOf n s ≡ a → BlocksBelow n (withOthers a (blocksFrom n m))
+    go again (given b) e = let t = block-told n s b e in (t .parent, t .children, again (b .rest))
+    go again (refused r) e = tt
+
+-- ---- one step
+
+module _ (K : List Block → List ℕ → Type 0) (n : ℕ) (s : List ℕ) (at : ℕ) (t u : List ℕ) where
+  pub gathers-block : (size : ℕ) (b : BlockRead n s at size) → Gathers K (given (b .block)) t u → Gathers K (blockOf n (drop at s)) t u
+  gathers-block size b h = subst (λ (a : Answer (Field Block)). Gathers K a t u) (sym (b .read)) h
+
+  pub gathers-none : (r : Refusal) → blockOf n (drop at s) ≡ refused r → u ≡ t → Gathers K (blockOf n (drop at s)) t u
+  gathers-none r e h = subst (λ (a : Answer (Field Block)). Gathers K a t u) (sym e) h
+
+-- ---- the loop
+
+-- Where the loop is: it has gathered the blocks `seen`, and `left` are due from `at` on.
+pub record Gathering (K : List Block → List ℕ → Type 0) (s : List ℕ) (n m from : ℕ) (t₀ : List ℕ) (left at : ℕ) (t : List ℕ) : Type 0 where
+  pub walk : Walk s n m from left at
+  pub seen : List Block
+  pub kept : GathersAll K seen t₀ t
+  pub split : blocksFrom n m (drop from s) ≡ seen ++ blocksFrom n left (drop at s)
+
+-- the answer of the whole loop, and what it has gathered
+abbrev pub Gathered : (List Block → List ℕ → Type 0) → List ℕ → ℕ → ℕ → ℕ → List ℕ → List ℕ → Type 0
+Gathered K s n m from t₀ t = GathersAll K (blocksFrom n m (drop from s)) t₀ t
+
+module _ (K : List Block → List ℕ → Type 0) (s : List ℕ) (n m from : ℕ) where
+  pub gather-none : (t : List ℕ) → from ≤ length s → Gathering K s n m from t m from t
+  gather-none t h =
+      record {
+        walk = walk-none s n m from h;
+        seen = [];
+        kept = λ bs k. subst (λ (cs : List Block). K cs t) (sym (append-nil bs)) k;
+        split = refl;
+      }
+
+  module _ (t₀ : List ℕ) (left at : ℕ) (t : List ℕ) (g : Gathering K s n m from t₀ left at t) where
+    all-seen : g .seen ≡ blocksFrom n m (drop from s) → (u : List ℕ) → u ≡ t → Gathered K s n m from t₀ u
+    all-seen e u q bs k = rw (q, ← e) (g .kept bs k)
+
+    pub gather-done : left ≤ 0 → Gathered K s n m from t₀ t
+    gather-done h = all-seen (sym (g .split ∙ ap (λ (bs : List Block). g .seen ++ bs) (from-none n left (drop at s) h) ∙ append-nil (g .seen))) t refl
+
+    module _ (more : 0 < left) where
+      first : blocksFrom n left (drop at s) ≡ withOthers (blockOf n (drop at s)) (blocksFrom n (left - 1))
+      unfolding blocksFrom
+      first = ap (λ (l : ℕ). blocksFrom n l (drop at s)) (let k : left ≡ suc (left - 1) = omega arith in k)
+
+      pub gather-stopped : (r : Refusal) → blockOf n (drop at s) ≡ refused r → (u : List ℕ) → Gathers K (blockOf n (drop at s)) t u → Gathered K s n m from t₀ u
+      unfolding withOthers
+      gather-stopped r e u step =
+          let same : u ≡ t = subst (λ (a : Answer (Field Block)). Gathers K a t u) e step in
+          all-seen (sym (g .split ∙ ap (λ (bs : List Block). g .seen ++ bs) (first ∙ rw e) ∙ append-nil (g .seen))) u same
+
+      pub gather-more : (size : ℕ) → BlockRead n s at size → (u : List ℕ) → Gathers K (blockOf n (drop at s)) t u → Gathering K s n m from t₀ (left - 1) (at + headSize + size) u
+      unfolding withOthers
+      gather-more size b u step =
+          let own : Gathers K (given (b .block)) t u = subst (λ (a : Answer (Field Block)). Gathers K a t u) (b .read) step in
+          let one : List Block = b .block .value ∷ [] in
+          record {
+            walk = walk-more s n m from left at (g .walk) more size b;
+            seen = g .seen ++ one;
+            kept = λ bs k. subst (λ (cs : List Block). K cs u) (append-assoc bs (g .seen) one) (own (bs ++ g .seen) (g .kept bs k));
+            split =
+              g .split
+              ∙ ap (λ (bs : List Block). g .seen ++ bs) (first ∙ rw (b .read, b .rest))
+              ∙ sym (append-assoc (g .seen) one (blocksFrom n (left - 1) (drop (at + headSize + size) s)));
+          }

@@ -1,0 +1,88 @@
+-- What a row keeps: nothing at first, then one block more after the other.
+-- Assumes nothing.
+use Prim.Native.Nat.{ℕ, _+_, _-_, _≤_}
+use mathlib.Core.Path.{_≡_, refl, sym, _∙_, ap, subst}
+use mathlib.Core.Bool.{Bool, true, false, cond}
+use mathlib.Core.List.{List, [], _∷_, _++_}
+use native.Mathlib.Nat.{lt-of-lt-of-le}
+use lib.Dec.{eqb, ltb}
+use lib.ListN.{take, drop, replicate, length-replicate}
+use borrow.Author.Tests.{eq-eqb, ne-eqb, ltb-true, lt-ltb}
+use Rattle.nameset.specs.Places.{places}
+use Rattle.nameset.specs.Rows.{rowAt, noRows}
+use Rattle.book.specs.Book.{Block, allBelow}
+use Rattle.book.specs.Bytes.{headSize}
+use Rattle.book.specs.Stops.{BlocksBelow}
+use Rattle.book_blocks.proofs.Steps.{BlockRead, part-read}
+use Rattle.model.proofs.Tests.{both, and-left, and-right}
+use Rattle.follow.specs.declared.Facts.{Facts}
+use Rattle.follow.specs.Sample.{wordsOf}
+use Rattle.follow.specs.Adding.{noFacts, withWord, withWords, factsOf}
+use Rattle.follow.proofs.Laws.{words-over}
+use Rattle.follow_row.specs.Row.{rowSize, factsIn, RowKeeps, OfWords, RowAdded}
+
+-- ---- the words of one block more
+
+words-own : (p : ℕ) (bs : List Block) (b : Block) → eqb (b .parent) p ≡ true → wordsOf p (bs ++ (b ∷ [])) ≡ wordsOf p bs ++ (b .word ∷ [])
+unfolding wordsOf
+words-own p [] b e = rw e
+words-own p (c ∷ bs) b e = go (eqb (c .parent) p) (words-own p bs b e)
+  where
+    go : (own : Bool) → wordsOf p (bs ++ (b ∷ [])) ≡ wordsOf p bs ++ (b .word ∷ []) →
+        cond own (c .word ∷ wordsOf p (bs ++ (b ∷ []))) (wordsOf p (bs ++ (b ∷ []))) ≡ cond own (c .word ∷ wordsOf p bs) (wordsOf p bs) ++ (b .word ∷ [])
+    go true ih = ap (λ (ws : List (List ℕ)). c .word ∷ ws) ih
+    go false ih = ih
+
+words-other : (p : ℕ) (bs : List Block) (b : Block) → eqb (b .parent) p ≡ false → wordsOf p (bs ++ (b ∷ [])) ≡ wordsOf p bs
+unfolding wordsOf
+words-other p [] b e = rw e
+words-other p (c ∷ bs) b e = ap (λ (ws : List (List ℕ)). cond (eqb (c .parent) p) (c .word ∷ ws) ws) (words-other p bs b e)
+
+more-words : (f : Facts) (ws : List (List ℕ)) (w : List ℕ) → withWords f (ws ++ (w ∷ [])) ≡ withWord (withWords f ws) w
+unfolding withWords
+more-words f [] w = refl
+more-words f (v ∷ ws) w = more-words (withWord f v) ws w
+
+more-facts : (ws : List (List ℕ)) (w : List ℕ) → factsOf (ws ++ (w ∷ [])) ≡ withWord (factsOf ws) w
+unfolding factsOf
+more-facts ws w = more-words noFacts ws w
+
+-- ---- what a row keeps
+
+pub row-none : (p n : ℕ) → n ≡ rowSize → RowKeeps p [] (replicate n 0)
+unfolding wordsOf factsOf withWords factsIn noFacts noRows rowAt
+row-none p n e = rw e (record { size = length-replicate {A = ℕ} rowSize 0; facts = refl })
+
+module _ (p : ℕ) (bs : List Block) (b : Block) (u : List ℕ) (k : RowKeeps p bs u) where
+  -- a block of the parent
+  pub row-own : (v : List ℕ) → b .parent ≡ p → RowAdded u (b .word) v → RowKeeps p (bs ++ (b ∷ [])) v
+  row-own v e a =
+      record {
+        size = a .size;
+        facts =
+          a .facts
+          ∙ ap (λ (f : Facts). withWord f (b .word)) (k .facts)
+          ∙ sym (ap factsOf (words-own p bs b (eq-eqb (b .parent) p e)) ∙ more-facts (wordsOf p bs) (b .word));
+      }
+
+  -- a block of another parent
+  pub row-other : (b .parent ≡ p → ⊥) → RowKeeps p (bs ++ (b ∷ [])) u
+  row-other d = record { size = k .size; facts = k .facts ∙ sym (ap factsOf (words-other p bs b (ne-eqb (b .parent) p d))) }
+
+-- a word over n names is one over more of them
+all-below-more : (n m : ℕ) (w : List ℕ) → n ≤ m → allBelow n w ≡ true → allBelow m w ≡ true
+unfolding allBelow
+all-below-more n m [] l h = refl
+all-below-more n m (x ∷ w) l h =
+    both (ltb x m) (allBelow m w)
+    (lt-ltb x m (lt-of-lt-of-le (ltb-true x n (and-left (ltb x n) (allBelow n w) h)) l))
+    (all-below-more n m w l (and-right (ltb x n) (allBelow n w) h))
+
+-- so the children of a block that was read can be added to a row
+pub word-below : (n : ℕ) (s : List ℕ) (at size : ℕ) (b : BlockRead n s at size) (w : List ℕ) →
+    w ≡ take (at + headSize + size - (at + headSize)) (drop (at + headSize) s) → n ≤ places → allBelow places w ≡ true
+word-below n s at size b w part few = rw (part-read n s at size b w part) (all-below-more n places (b .block .value .word) few (b .children))
+
+-- a row that keeps blocks over n names keeps the facts of words over n names
+abbrev pub row-of-words : (n p : ℕ) (bs : List Block) (row : List ℕ) → BlocksBelow n bs → RowKeeps p bs row → OfWords n row
+row-of-words n p bs row below k = record { size = k .size; words = wordsOf p bs; over = words-over n p bs below; facts = k .facts }

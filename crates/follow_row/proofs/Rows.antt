@@ -1,0 +1,67 @@
+-- A word added to a row.
+-- Assumes nothing.
+use Prim.Native.Nat.{ℕ, suc, _-_}
+use mathlib.Core.Path.{_≡_, refl, _∙_, ap}
+use mathlib.Core.Bool.{_||_}
+use mathlib.Core.List.{List, [], _∷_, _++_, append-nil}
+use native.Mathlib.Omega.{arith}
+use lib.Dec.{eqb}
+use lib.ListN.{length, getD, set, take, drop, length-drop, drop-of-length-le}
+use lib.Seq.{take-all}
+use Rattle.nameset.specs.Places.{places}
+use Rattle.nameset.specs.declared.NameSet.{NameSet}
+use Rattle.nameset.specs.Rows.{rowAt, putRow}
+use Rattle.nameset.proofs.Rows.{row-kept}
+use Rattle.follow.specs.Follow.{isEmpty}
+use Rattle.follow.specs.Adding.{withFirst, withLast, withPairs}
+use Rattle.follow.proofs.Words.{word-added}
+use Rattle.follow_row.specs.Row.{rowSize, factsIn, withEnds, HeadAdded, RowAdded}
+
+-- the two sets, read and put by the code: u₁ is the row after the first
+pub ends-put : (u u₁ v w : List ℕ) (p s q e : NameSet) → p ≡ rowAt u 0 → s ≡ withFirst p w → u₁ ≡ putRow u 0 s →
+    q ≡ rowAt u₁ 1 → e ≡ withLast q w → v ≡ putRow u₁ 1 e → v ≡ withEnds u w
+unfolding withEnds
+ends-put u u₁ v w p s q e ep es eu eq ee ev =
+    let z : q ≡ rowAt u 1 = eq ∙ ap (λ (r : List ℕ). rowAt r 1) eu ∙ row-kept u 0 1 s (λ n. omega arith) in
+    rw (ev, eu, ee, z, es, ep)
+
+-- behind the two sets the mark is written
+pub head-added : (u v w : List ℕ) (m : ℕ) → v ≡ withEnds u w → length u ≡ rowSize → eqb m 1 ≡ (eqb (getD v 2 0) 1 || isEmpty w) → HeadAdded u w (set v 2 m)
+unfolding withEnds rowAt putRow
+head-added u v w m e l em = rw e (at u l (em ∙ ap (λ (r : List ℕ). eqb (getD r 2 0) 1 || isEmpty w) e))
+  where
+    at : (u : List ℕ) → length u ≡ rowSize → eqb m 1 ≡ (eqb (getD (withEnds u w) 2 0) 1 || isEmpty w) → HeadAdded u w (set (withEnds u w) 2 m)
+    at [] l = absurd (omega arith)
+    at (a ∷ []) l = absurd (omega arith)
+    at (a ∷ (b ∷ [])) l = absurd (omega arith)
+    at (a ∷ (b ∷ (c ∷ f))) l = λ em. record { size = l; starts = refl; ends = refl; empty = em; follows = refl }
+
+module _ (v : List ℕ) (l : length v ≡ rowSize) where
+  left-long : length (drop 3 v) ≡ places
+  left-long = let e : length (drop 3 v) ≡ length v - 3 = length-drop 3 v in omega arith
+
+  -- the part behind the first three words is all of it
+  part-all : take (length v - 3) (drop 3 v) ≡ drop 3 v
+  part-all = take-all (length v - 3) (drop 3 v) (omega (arith, left-long))
+
+  none-behind : drop (length v - 3) (drop 3 v) ≡ []
+  none-behind = drop-of-length-le (drop 3 v) {i = length v - 3} (omega (arith, left-long))
+
+-- then the pairs
+pairs-added : (u w r : List ℕ) (v : List ℕ) → HeadAdded u w v → r ≡ withPairs (drop 3 u) w → length r ≡ places → RowAdded u w (take 3 v ++ r)
+unfolding factsIn rowAt
+pairs-added u w r [] h = absurd (omega (arith, h .size))
+pairs-added u w r (a ∷ []) h = absurd (omega (arith, h .size))
+pairs-added u w r (a ∷ (b ∷ [])) h = absurd (omega (arith, h .size))
+pairs-added u w r (a ∷ (b ∷ (c ∷ f))) h =
+    λ er lr.
+    record {
+      size = ap (λ (n : ℕ). suc (suc (suc n))) lr;
+      facts = word-added (factsIn u) _ _ r w _ (h .starts) (h .ends) er (h .empty);
+    }
+
+pub row-added : (u w v r : List ℕ) → HeadAdded u w v → r ≡ withPairs (take (length v - 3) (drop 3 v)) w → length r ≡ places →
+    RowAdded u w (take 3 v ++ (r ++ drop (length v - 3) (drop 3 v)))
+row-added u w v r h er lr =
+    rw (none-behind v (h .size), append-nil r)
+    (pairs-added u w r v h (er ∙ ap (λ (p : List ℕ). withPairs p w) (part-all v (h .size) ∙ h .follows)) lr)

@@ -1,0 +1,59 @@
+-- A means: the follow facts of one parent, kept as a row of words. `facts-shown` in crates/follow/proofs/Laws.antt joins
+-- `factsOf` to the facts of words. To be believed is `RowKeeps`.
+-- Assumes nothing.
+use Prim.Native.Nat.{ℕ, _+_}
+use mathlib.Core.Path.{_≡_}
+use mathlib.Core.Bool.{_||_}
+use mathlib.Core.List.{List}
+use lib.Dec.{eqb}
+use lib.ListN.{length, getD, drop}
+use Rattle.nameset.specs.Places.{places}
+use Rattle.nameset.specs.Rows.{rowsLength, rowAt, putRow}
+use Rattle.book.specs.Book.{Block}
+use Rattle.follow.specs.declared.Facts.{Facts}
+use Rattle.follow.specs.Follow.{isEmpty}
+use Rattle.follow.specs.Sample.{wordsOf, Over}
+use Rattle.follow.specs.Adding.{withFirst, withLast, withWord, factsOf}
+
+-- The words of a row before those of the following names: two sets and a mark.
+abbrev pub rowHead : ℕ
+rowHead = rowsLength 2 + 1
+
+-- The words of a row.
+abbrev pub rowSize : ℕ
+rowSize = rowHead + rowsLength places
+
+-- The facts that a row keeps: the set of starts, the set of ends, 1 where a word is empty, then the names that follow
+-- each name.
+unfoldable pub factsIn : List ℕ → Facts
+factsIn row =
+    record { starts = rowAt row 0; ends = rowAt row 1; follows = drop rowHead row; empty = eqb (getD row (rowsLength 2) 0) 1 }
+
+-- The row keeps what the blocks bs show of parent p: the facts of its words, and nothing else.
+pub record RowKeeps (p : ℕ) (bs : List Block) (row : List ℕ) : Type 0 where
+  pub size : length row ≡ rowSize
+  pub facts : factsIn row ≡ factsOf (wordsOf p bs)
+
+-- The row keeps the facts of some words over n names.
+pub record OfWords (n : ℕ) (row : List ℕ) : Type 0 where
+  pub size : length row ≡ rowSize
+  pub words : List (List ℕ)
+  pub over : Over n words
+  pub facts : factsIn row ≡ factsOf words
+
+-- The row with the first name of a word put into its starts, and the last into its ends.
+unfoldable pub withEnds : List ℕ → List ℕ → List ℕ
+withEnds row w = putRow (putRow row 0 (withFirst (rowAt row 0) w)) 1 (withLast (rowAt row 1) w)
+
+-- The row v is the row u with a word w added, all but the pairs of the word.
+pub record HeadAdded (u w v : List ℕ) : Type 0 where
+  pub size : length v ≡ rowSize
+  pub starts : rowAt v 0 ≡ withFirst (rowAt u 0) w
+  pub ends : rowAt v 1 ≡ withLast (rowAt u 1) w
+  pub empty : eqb (getD v (rowsLength 2) 0) 1 ≡ (eqb (getD u (rowsLength 2) 0) 1 || isEmpty w)
+  pub follows : drop rowHead v ≡ drop rowHead u
+
+-- The row v is the row u with a word w added.
+pub record RowAdded (u w v : List ℕ) : Type 0 where
+  pub size : length v ≡ rowSize
+  pub facts : factsIn v ≡ withWord (factsIn u) w

@@ -1,0 +1,89 @@
+-- No DTD is longer than the longest: a buffer of that length is never too short.
+-- Assumes nothing.
+use Prim.Native.Nat.{ℕ, zero, suc, _+_, _*_, _≤_, _<_}
+use mathlib.Core.Path.{_≡_, refl, sym, _∙_, ap, subst}
+use mathlib.Core.Bool.{Bool, true, false, cond}
+use mathlib.Core.List.{List, [], _∷_, _++_}
+use native.Mathlib.Omega.{arith}
+use lib.Dec.{ltb}
+use lib.ListN.{length, length-append}
+use borrow.Author.Tests.{le-ltb}
+use Rattle.refusal.specs.declared.Refusal.{Refusal}
+use Rattle.refusal.specs.declared.Refusal.the-variants.{BufferTooShort}
+use Rattle.refusal.specs.Answer.{Answer, given, refused, onward}
+use Rattle.refusal.proofs.Answers.{given-same, refused-same, given-refused}
+use Rattle.nameset.specs.Places.{places}
+use Rattle.book.specs.Book.{Book, namesIn}
+use Rattle.book.specs.Layout.{layoutOf}
+use Rattle.book.specs.Access.{LaidOut}
+use Rattle.book.specs.Taken.{takenBook, TakenAs}
+use Rattle.book.proofs.Taken.{taken-law}
+use Rattle.book.proofs.Laws.{names-in}
+use Rattle.declaration_spelling.specs.House.{declaration}
+use Rattle.declaration_spelling.specs.Length.{longestDeclaration}
+use Rattle.declaration_text.proofs.Whole.{declaration-short}
+use Rattle.declaration_writing.specs.Write.{fitted}
+use Rattle.intake_sample.specs.Inference.{sampleOf, noWord, chainIn}
+use Rattle.intake_sample.proofs.Samples.{some-word, few, sample-chain}
+use Rattle.dtd_lines.specs.Lines.{longestLine}
+use Rattle.intake_dtd.specs.Dtd.{lineOf, linesFrom, dtdOf, dtdAnswer, longestDtd}
+
+module _ (s : List ℕ) (b : Book) (taken : TakenAs s b) where
+  laid : LaidOut s (layoutOf b)
+  laid = record { book = b; read = taken-law s b .0 taken; same = refl }
+
+  text-short : (p : ℕ) → p < length (b .names) → ¬ (sampleOf b p ≡ []) → length (declaration (b .names) p (chainIn b p)) ≤ longestDeclaration
+  unfolding layoutOf laid
+  text-short p below some =
+      subst (λ (names : List (List ℕ)). length (declaration names p (chainIn b p)) ≤ longestDeclaration) (names-in s (layoutOf b) laid)
+      (declaration-short s (layoutOf b) laid p below (chainIn b p) (sample-chain s b (taken-law s b .0 taken) p some))
+
+  line-short : (p : ℕ) → p < length (b .names) → length (lineOf b p) ≤ longestLine
+  unfolding lineOf
+  line-short p below = go (noWord (sampleOf b p)) refl
+    where
+      go : (none : Bool) → noWord (sampleOf b p) ≡ none → length (cond none [] (declaration (b .names) p (chainIn b p) ++ (10 ∷ []))) ≤ longestLine
+      go true e = omega arith
+      go false e =
+          let h : length (declaration (b .names) p (chainIn b p)) ≤ longestDeclaration = text-short p below (some-word (sampleOf b p) .0 e) in
+          let k : length (declaration (b .names) p (chainIn b p) ++ (10 ∷ [])) ≡ length (declaration (b .names) p (chainIn b p)) + 1 = length-append (declaration (b .names) p (chainIn b p)) (10 ∷ []) in
+          omega arith
+
+  lines-short : (k p : ℕ) → p + k ≤ length (b .names) → length (linesFrom b p k) ≤ k * longestLine
+  unfolding linesFrom
+  lines-short zero p h = omega arith
+  lines-short (suc k) p h =
+      let first : length (lineOf b p) ≤ longestLine = line-short p (omega arith) in
+      let others : length (linesFrom b (suc p) k) ≤ k * longestLine = lines-short k (suc p) (omega arith) in
+      let e : length (lineOf b p ++ linesFrom b (suc p) k) ≡ length (lineOf b p) + length (linesFrom b (suc p) k) = length-append (lineOf b p) (linesFrom b (suc p) k) in
+      omega arith
+
+  pub dtd-short : length (dtdOf b) ≤ longestDtd
+  unfolding dtdOf
+  dtd-short =
+      let h : length (linesFrom b 0 (length (b .names))) ≤ length (b .names) * longestLine = lines-short (length (b .names)) 0 (omega arith) in
+      let n : length (b .names) ≤ places = few s b (taken-law s b .0 taken) in
+      omega arith
+
+-- so with such a buffer the answer is the book's DTD, or the book's refusal
+module _ (s : List ℕ) (room : ℕ) where
+  with-room : longestDtd ≤ room → (a : Answer Book) → takenBook s ≡ a → onward a (λ b. fitted room (dtdOf b)) ≡ onward a (λ b. given (dtdOf b))
+  unfolding fitted
+  with-room long (given b) e = rw (le-ltb room (length (dtdOf b)) (omega (arith, dtd-short s b e)))
+  with-room long (refused f) e = refl
+
+  pub room-given : (text : List ℕ) → longestDtd ≤ room → dtdAnswer s room ≡ given text → (b : Book) × (takenBook s ≡ given b) × (dtdOf b ≡ text)
+  unfolding dtdAnswer
+  room-given text long e = go (takenBook s) refl (sym (with-room long (takenBook s) refl) ∙ e)
+    where
+      go : (a : Answer Book) → takenBook s ≡ a → onward a (λ b. given (dtdOf b)) ≡ given text → (b : Book) × (takenBook s ≡ given b) × (dtdOf b ≡ text)
+      go (given b) q h = (b, q, given-same (dtdOf b) text h)
+      go (refused f) q h = absurd (given-refused text f (sym h))
+
+  pub room-refused : (f : Refusal) → longestDtd ≤ room → dtdAnswer s room ≡ refused f → takenBook s ≡ refused f
+  unfolding dtdAnswer
+  room-refused f long e = go (takenBook s) refl (sym (with-room long (takenBook s) refl) ∙ e)
+    where
+      go : (a : Answer Book) → takenBook s ≡ a → onward a (λ b. given (dtdOf b)) ≡ refused f → takenBook s ≡ refused f
+      go (given b) q h = absurd (given-refused (dtdOf b) f h)
+      go (refused g) q h = q ∙ ap refused (refused-same {A = List ℕ} g f h)
