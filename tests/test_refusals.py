@@ -9,17 +9,19 @@ import refusals_check as checker
 
 FILES = {place.file for place in checker.PLACES} | set(checker.TABLES_OF_CALLS) | {checker.HEADER, checker.CONDITIONS}
 
+TWELVE = "the output buffer is shorter than the text to be written"
+
 # A row in each place, and what the check says of it where its text or its name is changed.
 ROWS = [
     (checker.LIST, "Refusal::NoBlock => 9,", "Refusal::BadWord => 9,"),
     (checker.TABLE, "numberOf NoBlock = 9", "numberOf BadWord = 9"),
     (checker.CONDITIONS, "(k ≡ 3) ↔ Stops bytes BadNameCount", "(k ≡ 3) ↔ Stops bytes BadName"),
-    (checker.HEADER, "*   12  the output buffer is shorter than the declaration", "*   12  the buffer is too short"),
-    ("rust/curlewsong/src/lib.rs", '12 => "the output buffer is shorter than the declaration",', '12 => "too short",'),
+    (checker.HEADER, f"*   12  {TWELVE}", "*   12  the buffer is too short"),
+    ("rust/curlewsong/src/lib.rs", f'12 => "{TWELVE}",', '12 => "too short",'),
     ("tools/book.py", '3: "the count of names is 0 or above 64",', '3: "the count of names is above 64",'),
     ("docs/REFUSALS.md", "| `NoBlock` |", "| `BadWord` |"),
-    ("docs/REFUSALS.md", "| the output buffer is shorter than the declaration |", "| the buffer is too short |"),
-    ("docs/FORMAT.md", "| the output buffer is shorter than the declaration |", "| the buffer is too short |"),
+    ("docs/REFUSALS.md", f"| {TWELVE} |", "| the buffer is too short |"),
+    ("docs/FORMAT.md", f"| {TWELVE} |", "| the buffer is too short |"),
 ]
 
 
@@ -54,8 +56,7 @@ class Refusals(unittest.TestCase):
                 self.assertIn(right, should)
 
     def test_another_text_in_the_list(self):
-        text = "the output buffer is shorter than the declaration"
-        found, _ = self.planted(checker.LIST, f"// 12: {text}.", "// 12: too short.")
+        found, _ = self.planted(checker.LIST, f"// 12: {TWELVE}.", "// 12: too short.")
         self.assertEqual([one.split(":")[0] for one in found],
                          [checker.HEADER, "rust/curlewsong/src/lib.rs", "docs/REFUSALS.md", "docs/FORMAT.md"])
 
