@@ -39,15 +39,15 @@
  * with 3, although bytes are missing further on.
  *
  * A refused call changes nothing that it borrows. The rest of its answer is then: the model with count 0, every factor
- * 255 and every mode 0; no; length 0; parent 0. All of these but length 0 are also answers of calls that were not
- * refused, so look at the refusal first.
+ * 255 and every mode 0; no; length 0; parent 0. All of these are also answers of calls that were not refused, so look at
+ * the refusal first.
  *
  * What a caller has to see to, since no call can check it: a pointer is not NULL, also where its length is 0. It points
  * to that many bytes that can be read (those of a buffer also written). While the call runs nobody else writes to them,
  * nor reads those of a buffer. A buffer overlaps nothing else that is passed to the same call.
  *
  * docs/FORMAT.md has the bytes of a book, the order of the checks and the text of a declaration. They are those of
- * paper 01, for reading with request U1 of paper 02; the papers decide.
+ * paper 01, with requests U1 (reading) and U2 (the whole DTD) of paper 02; the papers decide.
  */
 #ifndef CURLEWSONG_H
 #define CURLEWSONG_H
@@ -66,6 +66,8 @@ extern "C" {
 #define CURLEWSONG_NONE 255
 /* No book's declaration has more bytes: a buffer of this length is never too short. */
 #define CURLEWSONG_LONGEST_DECLARATION 2253
+/* No book's DTD has more bytes: 64 declarations of that length, each with a line feed. */
+#define CURLEWSONG_LONGEST_DTD 144256
 
 /* A content model: `count` factors in order. factor[x] is the factor, from 0, that holds the name with number x, or
  * CURLEWSONG_NONE. mode[i] is the mark of factor i: 0 none, 1 '?', 2 '+', 3 '*'. A call takes any values and refuses
@@ -118,6 +120,13 @@ curlewsong_written curlewsong_write_declaration(const uint8_t *book, size_t book
  * book's (1 to 7), 8, 9, 12. */
 curlewsong_written curlewsong_write_from_sample(const uint8_t *book, size_t book_length, size_t parent,
                                                 uint8_t *buffer, size_t buffer_length);
+
+/* Writes the whole DTD of the book to the front of the buffer, and answers its length: for each parent with a block, in
+ * rising number, the declaration of its model from its blocks, in canonical form, and a line feed. For a book that is
+ * not refused this is what the program dtd prints. A book without blocks has the length 0. The bytes behind the text
+ * keep their values, and no NUL is written. The blocks are read once for all parents, so this takes less time than a
+ * call for each parent. Refusals, in this order: the book's (1 to 7), 12. */
+curlewsong_written curlewsong_write_dtd(const uint8_t *book, size_t book_length, uint8_t *buffer, size_t buffer_length);
 
 /* The parent and the model of a declaration over the names of the book. The parent needs no block. A text that
  * curlewsong_write_declaration wrote for this book reads back as the same parent and model, and one that

@@ -1,4 +1,5 @@
-/* Calls each function of the static library from C, on the example of paper 01. Prints what differs; the status is then 1.
+/* Calls each function of the static library from C, on the example of paper 01 and on small books. Prints what differs;
+ * the status is then 1.
  *
  *     cc -Iinclude tests/header_check.c -Ltarget/staticlib -lcurlewsong -o target/header_check && target/header_check
  */
@@ -36,6 +37,52 @@ static const char declaration[] = "<!ELEMENT entry (member,(contribution|leaver)
 static bool same(const curlewsong_model *a, const curlewsong_model *b) {
     return a->count == b->count && memcmp(a->factor, b->factor, CURLEWSONG_PLACES) == 0
         && memcmp(a->mode, b->mode, CURLEWSONG_PLACES) == 0;
+}
+
+/* The names a, b and c; two blocks of c and two of a, by turns; none of b. */
+static const uint8_t two_parents[] = {
+    3, 0,
+    1, 'a', 1, 'b', 1, 'c',
+    4, 0,
+    2, 1, 0,
+    0, 2, 1, 1,
+    2, 2, 0, 1,
+    0, 0,
+};
+
+static const char dtd[] = "<!ELEMENT a (b*)>\n<!ELEMENT c (a,b?)>\n";
+
+static bool all_seven(const uint8_t *bytes, size_t length) {
+    size_t i = 0;
+    while (i < length && bytes[i] == 7) {
+        i++;
+    }
+    return i == length;
+}
+
+static void check_write_dtd(void) {
+    const size_t length = sizeof dtd - 1, book_length = sizeof two_parents;
+    static uint8_t buffer[CURLEWSONG_LONGEST_DTD];
+    memset(buffer, 7, sizeof buffer);
+    curlewsong_written written = curlewsong_write_dtd(two_parents, book_length - 1, buffer, sizeof buffer);
+    expect(written.refusal == 2 && written.length == 0, "a cut book has no DTD");
+    written = curlewsong_write_dtd(two_parents, book_length - 1, buffer, 0);
+    expect(written.refusal == 2 && written.length == 0, "the book is checked before the buffer");
+    written = curlewsong_write_dtd(two_parents, book_length, buffer, length - 1);
+    expect(written.refusal == 12 && written.length == 0, "a buffer one byte shorter than the DTD is refused");
+    expect(all_seven(buffer, sizeof buffer), "a refused call writes nothing");
+    written = curlewsong_write_dtd(two_parents, book_length, buffer, length);
+    expect(written.refusal == 0 && written.length == length, "a buffer of the DTD's length is long enough");
+    expect(memcmp(buffer, dtd, length) == 0, "the DTD has a line for each parent with a block");
+    expect(all_seven(buffer + length, sizeof buffer - length), "the bytes behind the DTD are kept");
+
+    const uint8_t no_block[] = {1, 0, 1, 'a', 0, 0};
+    memset(buffer, 7, sizeof buffer);
+    written = curlewsong_write_dtd(no_block, sizeof no_block, buffer, 0);
+    expect(written.refusal == 0 && written.length == 0, "a book without blocks has an empty DTD");
+    written = curlewsong_write_dtd(no_block, sizeof no_block, buffer, sizeof buffer);
+    expect(written.refusal == 0 && written.length == 0, "also where the buffer is long");
+    expect(all_seven(buffer, sizeof buffer), "an empty DTD changes no byte");
 }
 
 int main(void) {
@@ -78,8 +125,10 @@ int main(void) {
     read = curlewsong_read_declaration(book, sizeof book, buffer, length - 1);
     expect(read.refusal == 13 && read.parent == 0 && same(&read.model, &empty), "a cut text is refused");
 
+    check_write_dtd();
+
     if (failures == 0) {
-        printf("header_check: every call of include/curlewsong.h answers as paper 01 has it\n");
+        printf("header_check: every call of include/curlewsong.h answers as the papers have it\n");
     }
     return failures != 0;
 }

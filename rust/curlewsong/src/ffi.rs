@@ -59,5 +59,6 @@ extern "C" {
         buffer: *mut u8,
         buffer_length: usize,
     ) -> Written;
+    pub fn curlewsong_write_dtd(book: *const u8, book_length: usize, buffer: *mut u8, buffer_length: usize) -> Written;
     pub fn curlewsong_read_declaration(book: *const u8, book_length: usize, text: *const u8, text_length: usize) -> Read;
 }

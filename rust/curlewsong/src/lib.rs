@@ -14,6 +14,9 @@ pub const NONE: u8 = 255;
 /// The longest declaration: a buffer of this length is never too short.
 pub const LONGEST_DECLARATION: usize = 2253;
 
+/// The longest DTD of a book: a buffer of this length is never too short.
+pub const LONGEST_DTD: usize = 144_256;
+
 /// The model that accepts the empty word alone; also what a refused call has in the place of a model.
 pub const EMPTY: Model = Model { count: 0, factor: [NONE; PLACES], mode: [0; PLACES] };
 
@@ -79,6 +82,13 @@ pub fn write_from_sample(book: &[u8], parent: usize, buffer: &mut [u8]) -> Resul
     answer(a.0, a.1)
 }
 
+/// Writes the DTD of a book into the front of the buffer, and answers its length: for each parent with a block, in rising
+/// number, the declaration of its model from its blocks and a line feed.
+pub fn write_dtd(book: &[u8], buffer: &mut [u8]) -> Result<usize, Refusal> {
+    let a = raw::write_dtd(book, buffer);
+    answer(a.0, a.1)
+}
+
 /// The parent and the model of a declaration over the names of a book.
 pub fn read_declaration(book: &[u8], text: &[u8]) -> Result<(usize, Model), Refusal> {
     let a = raw::read_declaration(book, text);
@@ -113,6 +123,11 @@ pub mod raw {
     pub fn write_from_sample(book: &[u8], parent: usize, buffer: &mut [u8]) -> (u8, usize) {
         let a =
             unsafe { ffi::curlewsong_write_from_sample(book.as_ptr(), book.len(), parent, buffer.as_mut_ptr(), buffer.len()) };
+        (a.refusal, a.length)
+    }
+
+    pub fn write_dtd(book: &[u8], buffer: &mut [u8]) -> (u8, usize) {
+        let a = unsafe { ffi::curlewsong_write_dtd(book.as_ptr(), book.len(), buffer.as_mut_ptr(), buffer.len()) };
         (a.refusal, a.length)
     }
 

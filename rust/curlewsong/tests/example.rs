@@ -51,6 +51,45 @@ fn written_and_read() {
     assert_eq!(raw::read_declaration(&book(), b""), (13, 0, EMPTY));
 }
 
+/// The names a, b and c; two blocks of c and two of a, by turns; none of b.
+const TWO_PARENTS: &[u8] = &[3, 0, 1, b'a', 1, b'b', 1, b'c', 4, 0, 2, 1, 0, 0, 2, 1, 1, 2, 2, 0, 1, 0, 0];
+
+#[test]
+fn the_whole_dtd() {
+    let text = b"<!ELEMENT a (b*)>\n<!ELEMENT c (a,b?)>\n";
+    for size in 0..text.len() + 9 {
+        let mut buffer = vec![7; size];
+        let answer = write_dtd(TWO_PARENTS, &mut buffer);
+        if size < text.len() {
+            assert_eq!((answer, buffer), (Err(Refusal(12)), vec![7; size]));
+        } else {
+            assert_eq!(answer, Ok(text.len()));
+            assert_eq!(buffer, [&text[..], &vec![7; size - text.len()]].concat());
+        }
+    }
+    let mut buffer = vec![7; LONGEST_DTD];
+    let size = write_dtd(&book(), &mut buffer).unwrap();
+    assert_eq!((&buffer[..size - 1], buffer[size - 1]), (TEXT, b'\n'));
+    assert!(buffer[size..].iter().all(|&b| b == 7));
+}
+
+#[test]
+fn no_dtd() {
+    // The last child is missing; a number is too large; bytes are left over.
+    let last = TWO_PARENTS.len() - 1;
+    for (bad, number) in
+        [(TWO_PARENTS[..last].to_vec(), 2), ([&TWO_PARENTS[..last], &[1, 3]].concat(), 6), ([TWO_PARENTS, &[0]].concat(), 7)]
+    {
+        let mut buffer = [7; 99];
+        assert_eq!(write_dtd(&bad, &mut buffer), Err(Refusal(number)));
+        assert_eq!(raw::write_dtd(&bad, &mut buffer), (number, 0));
+        assert_eq!(buffer, [7; 99]);
+        assert_eq!(write_dtd(&bad, &mut []), Err(Refusal(number)));
+    }
+    // A book without blocks.
+    assert_eq!(write_dtd(&[1, 0, 1, b'a', 0, 0], &mut []), Ok(0));
+}
+
 #[test]
 fn reasons() {
     assert_eq!(Refusal(9).to_string(), "refused 9: no block in the book has the parent whose model is wanted from the sample");
