@@ -74,18 +74,28 @@ pub fn read_declaration(bytes: &[u8], text: &[u8]) -> Result<(usize, Record), Re
     declaration::read(&book.names, text)
 }
 
-/// What the program prints of a book.
-pub fn dtd(bytes: &[u8]) -> Vec<u8> {
-    let book = match book::read(bytes) {
-        Ok(book) => book,
-        Err(number) => return format!("refused {number}\n").into_bytes(),
-    };
+/// For each parent with a block, in rising number, its declaration and a line feed.
+fn lines(book: &Book) -> Vec<u8> {
     let mut out = Vec::new();
     for parent in 0..book.names.len() as u8 {
-        if let Ok(record) = model_in(&book, parent) {
+        if let Ok(record) = model_in(book, parent) {
             out.extend(declaration::written(&book.names, parent as usize, &record));
             out.push(b'\n');
         }
     }
     out
+}
+
+/// The length of the whole DTD of a book, written into the buffer: 1 to 7, 12.
+pub fn write_dtd(bytes: &[u8], buffer: &mut [u8]) -> Result<usize, Refusal> {
+    let book = book::read(bytes)?;
+    put(&lines(&book), buffer)
+}
+
+/// What the program prints of a book.
+pub fn dtd(bytes: &[u8]) -> Vec<u8> {
+    match book::read(bytes) {
+        Ok(book) => lines(&book),
+        Err(number) => format!("refused {number}\n").into_bytes(),
+    }
 }

@@ -1,4 +1,5 @@
-//! Every line under the samples of paper 01, its traps, its example and its limits; the texts of request U1 of paper 02.
+//! Every line under the samples of paper 01, its traps, its example and its limits; the texts of request U1 and the whole DTD of
+//! request U2 of paper 02.
 
 use second::book::{self, bytes_of, Block};
 use second::calls::*;
@@ -138,6 +139,71 @@ fn the_longest_declaration() {
         longest = longest.max(write_declaration(&bytes, 0, &Record::of(&factors), &mut buffer).unwrap());
     }
     assert_eq!(longest, 2253);
+}
+
+/// What the call that writes the whole DTD does with a buffer of every length up to some bytes more than the text has.
+fn writes_dtd(book: &[u8], text: &[u8]) {
+    for size in 0..text.len() + 5 {
+        let mut buffer = vec![7u8; size];
+        let answer = write_dtd(book, &mut buffer);
+        if size < text.len() {
+            assert_eq!((answer, buffer), (Err(12), vec![7; size]));
+        } else {
+            assert_eq!((answer, buffer), (Ok(text.len()), [text, &vec![7; size - text.len()]].concat()));
+        }
+    }
+}
+
+#[test]
+fn the_whole_dtd() {
+    let names: Vec<Vec<u8>> = (b'a'..=b'e').map(|b| vec![b]).collect();
+    let block = |parent: &str, children: &str| Block { parent: word(parent)[0], word: word(children) };
+    let blocks = [block("e", "a"), block("b", "-"), block("e", "ab"), block("a", "cc"), block("a", "-"), block("b", "-")];
+    // After each block, what the blocks so far show. Lines are in the order of the parents, whatever that of the blocks is.
+    let printed = [
+        "",
+        "<!ELEMENT e (a)>\n",
+        "<!ELEMENT b EMPTY>\n<!ELEMENT e (a)>\n",
+        "<!ELEMENT b EMPTY>\n<!ELEMENT e (a,b?)>\n",
+        "<!ELEMENT a (c+)>\n<!ELEMENT b EMPTY>\n<!ELEMENT e (a,b?)>\n",
+        "<!ELEMENT a (c*)>\n<!ELEMENT b EMPTY>\n<!ELEMENT e (a,b?)>\n",
+        "<!ELEMENT a (c*)>\n<!ELEMENT b EMPTY>\n<!ELEMENT e (a,b?)>\n",
+    ];
+    for (m, text) in printed.iter().enumerate() {
+        let book = bytes_of(&names, &blocks[..m]);
+        assert_eq!(dtd(&book), text.as_bytes());
+        writes_dtd(&book, text.as_bytes());
+    }
+}
+
+#[test]
+fn no_dtd_of_a_refused_book() {
+    let good = letters("ab, b");
+    let cut = good[..good.len() - 1].to_vec();
+    let mut far = good.clone();
+    *far.last_mut().unwrap() = 13;
+    for (bytes, number) in [(cut, 2), (far, 6), ([&good[..], &[0]].concat(), 7), (vec![0, 0], 3), (vec![0; 60_001], 1)] {
+        for size in [0, 99] {
+            let mut buffer = vec![7u8; size];
+            assert_eq!(write_dtd(&bytes, &mut buffer), Err(number));
+            assert_eq!(buffer, vec![7; size]);
+        }
+    }
+}
+
+#[test]
+fn the_longest_dtd() {
+    let names: Vec<Vec<u8>> = (0..64).map(|i| format!("n{i:031}").into_bytes()).collect();
+    // A word for each pair makes it a loop group of its own.
+    let words = |parent| (0..64).step_by(2).map(move |x| Block { parent, word: vec![x, x + 1, x] });
+    let blocks: Vec<Block> = (0..64).flat_map(words).collect();
+    let bytes = bytes_of(&names, &blocks);
+    let mut buffer = vec![7u8; 144_256];
+    assert_eq!(write_dtd(&bytes, &mut buffer[1..]), Err(12));
+    assert!(buffer.iter().all(|&b| b == 7));
+    assert_eq!(write_dtd(&bytes, &mut buffer), Ok(144_256));
+    assert_eq!(buffer, dtd(&bytes));
+    assert!(buffer.chunks(2254).all(|line| line.starts_with(b"<!ELEMENT ") && line.ends_with(b">\n")));
 }
 
 #[test]
