@@ -9,6 +9,7 @@ pub trait Calls {
     fn accepts_word(&mut self, names: usize, record: &Record, word: &[u8]) -> (u8, bool);
     fn write_declaration(&mut self, book: &[u8], parent: usize, record: &Record, buffer: &mut [u8]) -> (u8, usize);
     fn write_from_sample(&mut self, book: &[u8], parent: usize, buffer: &mut [u8]) -> (u8, usize);
+    fn write_dtd(&mut self, book: &[u8], buffer: &mut [u8]) -> (u8, usize);
     fn read_declaration(&mut self, book: &[u8], text: &[u8]) -> (u8, usize, Record);
     /// What the program prints; None where no program is compared.
     fn dtd(&mut self, book: &[u8]) -> Option<Vec<u8>>;
@@ -45,6 +46,10 @@ impl Calls for Second {
         or(second::calls::write_from_sample(book, parent, buffer), 0)
     }
 
+    fn write_dtd(&mut self, book: &[u8], buffer: &mut [u8]) -> (u8, usize) {
+        or(second::calls::write_dtd(book, buffer), 0)
+    }
+
     fn read_declaration(&mut self, book: &[u8], text: &[u8]) -> (u8, usize, Record) {
         let (number, (parent, record)) = or(second::calls::read_declaration(book, text), (0, EMPTY));
         (number, parent, record)
@@ -62,6 +67,7 @@ pub enum Call {
     AcceptsWord { names: usize, record: Record, word: Vec<u8> },
     WriteDeclaration { book: Vec<u8>, parent: usize, record: Record, buffer: Vec<u8> },
     WriteFromSample { book: Vec<u8>, parent: usize, buffer: Vec<u8> },
+    WriteDtd { book: Vec<u8>, buffer: Vec<u8> },
     ReadDeclaration { book: Vec<u8>, text: Vec<u8> },
     Dtd { book: Vec<u8> },
 }
@@ -102,6 +108,11 @@ impl Call {
                 let (number, length) = calls.write_from_sample(book, *parent, &mut after);
                 Answer::Written(number, length, after)
             }
+            Call::WriteDtd { book, buffer } => {
+                let mut after = buffer.clone();
+                let (number, length) = calls.write_dtd(book, &mut after);
+                Answer::Written(number, length, after)
+            }
             Call::ReadDeclaration { book, text } => {
                 let (number, parent, record) = calls.read_declaration(book, text);
                 Answer::Read(number, parent, record)
@@ -116,6 +127,7 @@ impl Call {
             Call::AcceptsWord { .. } => "accepts_word",
             Call::WriteDeclaration { .. } => "write_declaration",
             Call::WriteFromSample { .. } => "write_from_sample",
+            Call::WriteDtd { .. } => "write_dtd",
             Call::ReadDeclaration { .. } => "read_declaration",
             Call::Dtd { .. } => "dtd",
         }
@@ -146,6 +158,10 @@ impl Call {
                 bytes("buffer", buffer);
                 let _ = writeln!(out, "parent: {parent}");
             }
+            Call::WriteDtd { book, buffer } => {
+                bytes("book", book);
+                bytes("buffer", buffer);
+            }
             Call::ReadDeclaration { book, text } => {
                 bytes("book", book);
                 bytes("text", text);
@@ -162,6 +178,7 @@ impl Answer {
     pub fn kind(&self) -> String {
         match self {
             Answer::Verdict(0, yes) => String::from(if *yes { "yes" } else { "no" }),
+            Answer::Written(0, 0, _) => String::from("nothing"),
             Answer::Model(0, _) | Answer::Written(0, ..) | Answer::Read(0, ..) => String::from("0"),
             Answer::Model(n, _) | Answer::Verdict(n, _) | Answer::Written(n, ..) | Answer::Read(n, ..) => n.to_string(),
             Answer::Printed(out) => match out.strip_prefix(b"refused ") {

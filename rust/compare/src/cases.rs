@@ -3,7 +3,7 @@
 use crate::calls::{Answer, Call};
 use crate::chance::Chance;
 use crate::make::*;
-use crate::{forms, symbols};
+use crate::{dtds, forms, symbols};
 use second::book::{bytes_of, Block};
 use second::record::{Record, EMPTY};
 
@@ -39,6 +39,7 @@ pub const KINDS: &[Kind] = &[
     Kind { name: "writing", cases: 1500, fixed: false, make: writing },
     Kind { name: "damaged", cases: 2000, fixed: false, make: damaged },
     Kind { name: "small", cases: 1000, fixed: false, make: small },
+    Kind { name: "dtds", cases: 400, fixed: false, make: dtds::calls },
     Kind { name: "large", cases: 12, fixed: false, make: large },
     Kind { name: "symbols", cases: symbols::CASES, fixed: true, make: symbols::calls },
 ];
@@ -103,6 +104,7 @@ fn small(c: &mut Chance, case: u64) -> Vec<Due> {
     for parent in parents {
         calls_of_parent(c, &parts, &book, parent, &mut calls);
     }
+    calls.extend(dtds::calls_of_buffers(c, &book));
     if case % 8 == 0 {
         calls.push(Call::Dtd { book });
     }
@@ -123,14 +125,16 @@ fn large(c: &mut Chance, case: u64) -> Vec<Due> {
         let parent = parts.blocks[c.below(parts.blocks.len())].parent as usize;
         calls_of_parent(c, &parts, &book, parent, &mut calls);
     }
+    calls.extend(dtds::calls_of_buffers(c, &book));
     calls.push(Call::Dtd { book: book.clone() });
     let mut longer = book.clone();
     longer.extend(vec![0; 60_001 - size]);
-    calls.push(Call::Dtd { book: longer.clone() });
-    calls.push(Call::ModelOfParent { book: longer, parent: 0 });
     let bad = damaged_book(c, &book);
-    calls.push(Call::ModelOfParent { book: bad.clone(), parent: 0 });
-    calls.push(Call::Dtd { book: bad });
+    for book in [longer, bad] {
+        calls.push(Call::ModelOfParent { book: book.clone(), parent: 0 });
+        calls.push(Call::WriteDtd { book: book.clone(), buffer: buffer(c, dtds::LONGEST) });
+        calls.push(Call::Dtd { book });
+    }
     undue(calls)
 }
 
@@ -141,6 +145,7 @@ fn calls_of_book(c: &mut Chance, book: &[u8], parent: usize) -> Vec<Call> {
         Call::ModelOfParent { book: book(), parent },
         Call::WriteFromSample { book: book(), parent, buffer: buffer(c, 40) },
         Call::WriteDeclaration { book: book(), parent, record: EMPTY, buffer: buffer(c, 60) },
+        Call::WriteDtd { book: book(), buffer: buffer(c, 40) },
         Call::ReadDeclaration { book: book(), text: b"<!ELEMENT a EMPTY>".to_vec() },
     ]
 }
@@ -336,7 +341,7 @@ fn limits(c: &mut Chance, _: u64) -> Vec<Due> {
             // A refused book refuses every call, with the same number.
             let due = (number != 0).then(|| match &call {
                 Call::ModelOfParent { .. } => Answer::Model(number, EMPTY),
-                Call::WriteFromSample { buffer, .. } | Call::WriteDeclaration { buffer, .. } => {
+                Call::WriteFromSample { buffer, .. } | Call::WriteDeclaration { buffer, .. } | Call::WriteDtd { buffer, .. } => {
                     Answer::Written(number, 0, buffer.clone())
                 }
                 _ => Answer::Read(number, 0, EMPTY),
@@ -369,14 +374,14 @@ pub fn letters() -> Vec<Vec<u8>> {
     (b'a'..=b'z').map(|b| vec![b]).collect()
 }
 
-/// The longest declaration, with a buffer one byte short of it, and the longest output of the program: that declaration for each
-/// of 64 parents.
+/// The longest declaration and the longest DTD, which has that declaration for each of 64 parents, each with a buffer one byte
+/// short of it too; and the longest output of the program.
 fn longest() -> Vec<Due> {
     let names: Vec<String> = (0..64).map(|i| format!("n{i:031}")).collect();
     let pairs: Vec<String> = names.chunks(2).map(|pair| format!("({})*", pair.join("|"))).collect();
     let texts: Vec<String> = names.iter().map(|parent| format!("<!ELEMENT {parent} ({})>", pairs.join(","))).collect();
     let printed: String = texts.iter().map(|text| format!("{text}\n")).collect();
-    assert_eq!((texts[0].len(), printed.len()), (2253, 144_256));
+    assert_eq!((texts[0].len(), printed.len()), (2253, dtds::LONGEST));
 
     // A word for each pair makes it a loop group of its own.
     let words = |parent| (0..64).step_by(2).map(move |i| Block { parent, word: vec![i, i + 1, i] });
@@ -385,11 +390,27 @@ fn longest() -> Vec<Due> {
     let record = Record::of(&(0..32).map(|i| (vec![2 * i, 2 * i + 1], 3)).collect::<Vec<_>>());
     let book = bytes_of(&names, &blocks);
     let write = |size| Call::WriteDeclaration { book: book.clone(), parent: 0, record, buffer: vec![1; size] };
+    let write_dtd = |size| Call::WriteDtd { book: book.clone(), buffer: vec![1; size] };
+    let short = dtds::LONGEST - 1;
     vec![
         (write(2252), Some(Answer::Written(12, 0, vec![1; 2252]))),
         (write(2253), Some(Answer::Written(0, 2253, texts[0].clone().into_bytes()))),
+        (write_dtd(short), Some(Answer::Written(12, 0, vec![1; short]))),
+        (write_dtd(dtds::LONGEST), Some(Answer::Written(0, dtds::LONGEST, printed.clone().into_bytes()))),
         (Call::Dtd { book: book.clone() }, Some(Answer::Printed(printed.into_bytes()))),
     ]
+}
+
+/// Buffers for a text with what is due of them: exact, one byte short, and with bytes behind the text.
+fn exact_short_longer(text: &[u8]) -> [(Vec<u8>, Answer); 3] {
+    [text.len(), text.len().saturating_sub(1), text.len() + 9].map(|size| {
+        let buffer = vec![0xa5; size];
+        let due = match buffer.get(text.len()..) {
+            Some(behind) => Answer::Written(0, text.len(), [text, behind].concat()),
+            None => Answer::Written(12, 0, buffer.clone()),
+        };
+        (buffer, due)
+    })
 }
 
 /// What the papers write out: the samples of paper 01, what stands under them, its example, and texts of declarations.
@@ -417,18 +438,14 @@ fn paper(_: &mut Chance, _: u64) -> Vec<Due> {
         let parent = parent as usize;
         calls.push((Call::ModelOfParent { book: book.clone(), parent }, Some(Answer::Model(0, *record))));
         let line = [&text[..], b"\n"].concat();
+        for (buffer, due) in exact_short_longer(&line) {
+            calls.push((Call::WriteDtd { book: book.clone(), buffer }, Some(due)));
+        }
         calls.push((Call::Dtd { book: book.clone() }, Some(Answer::Printed(line))));
         for w in sample.split(' ') {
             calls.push((Call::AcceptsWord { names: 26, record: *record, word: word(w) }, Some(Answer::Verdict(0, true))));
         }
-        // The exact buffer, one byte short, and one with bytes behind the text.
-        for size in [text.len(), text.len() - 1, text.len() + 9] {
-            let buffer = vec![0xa5; size];
-            let due = if size < text.len() {
-                Answer::Written(12, 0, buffer.clone())
-            } else {
-                Answer::Written(0, text.len(), [&text[..], &buffer[text.len()..]].concat())
-            };
+        for (buffer, due) in exact_short_longer(&text) {
             let call = Call::WriteFromSample { book: book.clone(), parent, buffer: buffer.clone() };
             calls.push((call, Some(due.clone())));
             calls.push((Call::WriteDeclaration { book: book.clone(), parent, record: *record, buffer }, Some(due)));
@@ -454,12 +471,17 @@ fn paper(_: &mut Chance, _: u64) -> Vec<Due> {
     let book = bytes_of(&feed, &blocks);
     let model = Record::of(&[(vec![3], 0), (vec![0, 2], 0), (vec![4, 5], 0)]);
     let text = b"<!ELEMENT entry (member,(contribution|leaver),(reason|total))>";
-    calls.push((Call::Dtd { book: book.clone() }, Some(Answer::Printed([&text[..], b"\n"].concat()))));
+    let no_block = bytes_of(&feed, &[]);
+    for (book, printed) in [(book.clone(), [&text[..], b"\n"].concat()), (no_block, vec![])] {
+        for (buffer, due) in exact_short_longer(&printed) {
+            calls.push((Call::WriteDtd { book: book.clone(), buffer }, Some(due)));
+        }
+        calls.push((Call::Dtd { book }, Some(Answer::Printed(printed))));
+    }
     calls.push((Call::ModelOfParent { book: book.clone(), parent: 1 }, Some(Answer::Model(0, model))));
     calls.push((Call::ModelOfParent { book: book.clone(), parent: 0 }, Some(Answer::Model(9, EMPTY))));
     calls.push((Call::ModelOfParent { book: book.clone(), parent: 6 }, Some(Answer::Model(8, EMPTY))));
     calls.push((Call::AcceptsWord { names: 6, record: model, word: vec![3, 0, 2, 4] }, Some(Answer::Verdict(0, false))));
-    calls.push((Call::Dtd { book: bytes_of(&feed, &[]) }, Some(Answer::Printed(vec![]))));
 
     calls.extend(longest());
     calls.extend(forms::texts());

@@ -4,6 +4,7 @@
 pub mod calls;
 pub mod cases;
 pub mod chance;
+pub mod dtds;
 pub mod forms;
 pub mod make;
 pub mod program;
@@ -27,6 +28,7 @@ const DUE: &[(&str, &str)] = &[
     ("accepts_word", "yes no 3 10 11"),
     ("write_declaration", "0 1 2 3 4 5 6 7 8 10 12"),
     ("write_from_sample", "0 1 2 3 4 5 6 7 8 9 12"),
+    ("write_dtd", "0 nothing 1 2 3 4 5 6 7 12"),
     ("read_declaration", "0 1 2 3 4 5 6 7 13 14 15"),
     ("dtd", "0 nothing 1 2 3 4 5 6 7"),
 ];

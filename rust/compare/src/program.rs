@@ -68,6 +68,10 @@ mod library {
             raw::write_from_sample(book, parent, buffer)
         }
 
+        fn write_dtd(&mut self, book: &[u8], buffer: &mut [u8]) -> (u8, usize) {
+            raw::write_dtd(book, buffer)
+        }
+
         fn read_declaration(&mut self, book: &[u8], text: &[u8]) -> (u8, usize, Record) {
             let (number, parent, model) = raw::read_declaration(book, text);
             (number, parent, back(model))
@@ -95,6 +99,10 @@ impl Calls for Proved {
     }
 
     fn write_from_sample(&mut self, _: &[u8], _: usize, _: &mut [u8]) -> (u8, usize) {
+        unreachable!()
+    }
+
+    fn write_dtd(&mut self, _: &[u8], _: &mut [u8]) -> (u8, usize) {
         unreachable!()
     }
 

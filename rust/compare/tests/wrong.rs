@@ -1,11 +1,12 @@
-//! The comparison finds wrong programs: the traps and worthless versions of paper 01, answers that are wrong at one limit, and
-//! readers that take less or more than request U1 of paper 02 allows. Each is the second implementation with one fault.
+//! The comparison finds wrong programs: the traps and worthless versions of paper 01, answers that are wrong at one limit, readers
+//! that take less or more than request U1 of paper 02 allows, and DTDs that are not those of request U2. Each is the second
+//! implementation with one fault.
 
 use compare::calls::{Calls, Second};
 use compare::cases::{Kind, KINDS};
 use compare::make::{LATER, WHITE};
 use compare::{run, run_kinds, Reached, SEED};
-use second::book;
+use second::book::{self, Block, Book};
 use second::chain::Graph;
 use second::declaration::written;
 use second::facts::{Facts, Point};
@@ -62,6 +63,32 @@ faults! {
     RefusedWrites,
     LengthOneMore,
     NothingWritten,
+    // Of the whole DTD: the facts of all parents,
+    WordForNextParent,
+    WordForParentOfBlockBefore,
+    FirstBlockNotAdded,
+    LastBlockNotAdded,
+    EmptyWordNotAdded,
+    FactsOfParentsBefore,
+    // its lines,
+    NoBlockIsEmptyLine,
+    LastParentLeftOut,
+    ParentsFall,
+    ParentsByFirstBlock,
+    LastLineFeedLeftOut,
+    // a refused book,
+    RefusedBookWritten,
+    RefusedBookTaken,
+    BufferBeforeBook,
+    // and the buffer.
+    LinesWrittenWhereShort,
+    LineFeedNotCountedWhereShort,
+    EmptyBufferRefused,
+    DtdExactRefused,
+    DtdLengthOneMore,
+    DtdLengthOneLess,
+    ZeroBehindDtd,
+    DtdNotWritten,
     // Of the reader: texts that it takes,
     LineFeedBehindTaken,
     FormFeedTaken,
@@ -268,6 +295,15 @@ impl Calls for Wrong {
         }
     }
 
+    fn write_dtd(&mut self, bytes: &[u8], buffer: &mut [u8]) -> (u8, usize) {
+        let number = self.number(bytes, book::read(bytes).err().unwrap_or(0));
+        match book::read(bytes) {
+            Ok(book) if number == 0 => self.put_dtd(&self.lines(&book), buffer),
+            Ok(_) => (number, 0),
+            Err(_) => self.refused_dtd(bytes, number, buffer),
+        }
+    }
+
     fn read_declaration(&mut self, book: &[u8], text: &[u8]) -> (u8, usize, Record) {
         let (number, parent, record) = Second.read_declaration(book, text);
         match number {
@@ -284,6 +320,127 @@ impl Calls for Wrong {
     fn dtd(&mut self, book: &[u8]) -> Option<Vec<u8>> {
         Second.dtd(book)
     }
+}
+
+/// The faults of the whole DTD.
+impl Wrong {
+    /// The facts of all parents with a block, by one pass over the blocks.
+    fn facts_of_all(&self, book: &Book) -> Vec<Option<Facts>> {
+        let mut all: Vec<Option<Facts>> = book.names.iter().map(|_| Option::None).collect();
+        let last = book.blocks.len().wrapping_sub(1);
+        for (i, block) in book.blocks.iter().enumerate() {
+            let parent = block.parent as usize;
+            let (before, next) = (book.blocks[i.saturating_sub(1)].parent as usize, (parent + 1) % all.len());
+            let to = match self.0 {
+                FirstBlockNotAdded if i == 0 => continue,
+                LastBlockNotAdded if i == last => continue,
+                EmptyWordNotAdded if block.word.is_empty() => continue,
+                // Where these parents have no block so far, the word goes where it belongs.
+                WordForNextParent if all[next].is_some() => next,
+                WordForParentOfBlockBefore => before,
+                _ => parent,
+            };
+            all[parent].get_or_insert_default();
+            all[to].get_or_insert_default().add(&block.word);
+        }
+        all
+    }
+
+    /// For each parent with a block, in rising number, its declaration and a line feed.
+    fn lines(&self, book: &Book) -> Vec<u8> {
+        let n = book.names.len();
+        let first = |parent: &usize| book.blocks.iter().position(|block| block.parent as usize == *parent);
+        let mut parents: Vec<usize> = (0..n - usize::from(self.is(LastParentLeftOut))).collect();
+        match self.0 {
+            ParentsFall => parents.reverse(),
+            ParentsByFirstBlock => parents.sort_by_key(first),
+            _ => {}
+        }
+        let all = self.facts_of_all(book);
+        let mut out = Vec::new();
+        for parent in parents {
+            let record = match &all[parent] {
+                Some(_) if self.is(FactsOfParentsBefore) => {
+                    let upto = |block: &&Block| block.parent as usize <= parent;
+                    self.chain(&Facts::of(book.blocks.iter().filter(upto).map(|block| &block.word[..])))
+                }
+                Some(facts) => self.chain(facts),
+                Option::None if self.is(NoBlockIsEmptyLine) => EMPTY,
+                Option::None => continue,
+            };
+            out.extend(written(&book.names, parent, &record));
+            out.push(b'\n');
+        }
+        if self.is(LastLineFeedLeftOut) {
+            out.pop();
+        }
+        out
+    }
+
+    /// What is answered for a book that is refused, and what is then in the buffer.
+    fn refused_dtd(&self, bytes: &[u8], number: u8, buffer: &mut [u8]) -> (u8, usize) {
+        let so_far = book_so_far(bytes).map_or(vec![], |book| self.lines(&book));
+        match self.0 {
+            BufferBeforeBook if buffer.len() < so_far.len() => (12, 0),
+            RefusedBookTaken if !so_far.is_empty() => self.put_dtd(&so_far, buffer),
+            RefusedBookWritten if buffer.len() >= so_far.len() => {
+                buffer[..so_far.len()].copy_from_slice(&so_far);
+                (number, 0)
+            }
+            _ => (number, 0),
+        }
+    }
+
+    fn put_dtd(&self, text: &[u8], buffer: &mut [u8]) -> (u8, usize) {
+        let (size, room) = (text.len(), buffer.len());
+        if self.is(LineFeedNotCountedWhereShort) && room + 1 == size {
+            buffer.copy_from_slice(&text[..room]);
+            return (0, room);
+        }
+        let wanted = match self.0 {
+            EmptyBufferRefused => size.max(1),
+            DtdExactRefused if size > 0 => size + 1,
+            _ => size,
+        };
+        if room < wanted {
+            if self.is(LinesWrittenWhereShort) {
+                let lines = text[..room.min(size)].iter().rposition(|b| *b == b'\n').map_or(0, |at| at + 1);
+                buffer[..lines].copy_from_slice(&text[..lines]);
+            }
+            return (12, 0);
+        }
+        if !self.is(DtdNotWritten) {
+            buffer[..size].copy_from_slice(text);
+        }
+        if self.is(ZeroBehindDtd) && size < room {
+            buffer[size] = 0;
+        }
+        match self.0 {
+            DtdLengthOneMore => (0, size + 1),
+            DtdLengthOneLess => (0, size.saturating_sub(1)),
+            _ => (0, size),
+        }
+    }
+}
+
+/// The book with the blocks that are whole and good at the front of these bytes; none where the names are bad.
+fn book_so_far(bytes: &[u8]) -> Option<Book> {
+    let mut at = 2;
+    for _ in 0..*bytes.first()? {
+        at += 1 + *bytes.get(at)? as usize;
+    }
+    let mut book = book::read(&[bytes.get(..at)?, &[0, 0]].concat()).ok()?;
+    let good = |x: &u8| (*x as usize) < book.names.len();
+    let mut left = bytes.get(at + 2..)?;
+    while let Some((&[parent, size], rest)) = left.split_first_chunk() {
+        let Some((word, rest)) = rest.split_at_checked(size as usize) else { break };
+        if !good(&parent) || !word.iter().all(good) {
+            break;
+        }
+        book.blocks.push(Block { parent, word: word.to_vec() });
+        left = rest;
+    }
+    Some(book)
 }
 
 /// The faults of the reader.
@@ -434,6 +591,14 @@ fn every_fault_is_found() {
 fn kind(name: &str) -> &'static [Kind] {
     let at = KINDS.iter().position(|kind| kind.name == name).unwrap();
     &KINDS[at..=at]
+}
+
+#[test]
+fn every_fault_of_the_whole_dtd_is_found_by_its_own_kind() {
+    let of_dtd = FAULTS.iter().skip_while(|fault| **fault != WordForNextParent);
+    for &fault in of_dtd.take_while(|fault| **fault != LineFeedBehindTaken) {
+        found(fault, kind("dtds"));
+    }
 }
 
 #[test]

@@ -330,20 +330,29 @@ pub fn read_declaration(bytes: &[u8], text: &[u8]) -> Result<(usize, Model), u8>
     declaration::read(&names, text)
 }
 
-/// What the program prints of a book, put behind what `out` holds.
-pub fn dtd(bytes: &[u8], out: &mut Vec<u8>) {
+/// For each parent with a block, in rising number, its declaration and a line feed, by one pass over the blocks.
+fn lines(bytes: &[u8]) -> Result<Vec<u8>, u8> {
     let mut all = vec![NO_FACTS; PLACES];
-    match read_book(bytes, |parent, word| all[parent as usize].add(word)) {
-        Ok(names) => {
-            let mut text = [0u8; declaration::LONGEST];
-            for (parent, facts) in all[..names.count].iter().enumerate() {
-                if facts.seen {
-                    let size = declaration::write(&names, parent, &chain(facts), &mut text);
-                    out.extend_from_slice(&text[..size]);
-                    out.push(b'\n');
-                }
-            }
+    let names = read_book(bytes, |parent, word| all[parent as usize].add(word))?;
+    let mut out = Vec::new();
+    let mut text = [0u8; declaration::LONGEST];
+    for (parent, facts) in all[..names.count].iter().enumerate() {
+        if facts.seen {
+            let size = declaration::write(&names, parent, &chain(facts), &mut text);
+            out.extend_from_slice(&text[..size]);
+            out.push(b'\n');
         }
-        Err(number) => out.extend_from_slice(format!("refused {number}\n").as_bytes()),
     }
+    Ok(out)
+}
+
+pub fn write_dtd(bytes: &[u8], buffer: &mut [u8]) -> Result<usize, u8> {
+    let text = lines(bytes)?;
+    buffer.get_mut(..text.len()).ok_or(12)?.copy_from_slice(&text);
+    Ok(text.len())
+}
+
+/// What the program prints of a book.
+pub fn dtd(bytes: &[u8]) -> Vec<u8> {
+    lines(bytes).unwrap_or_else(|number| format!("refused {number}\n").into_bytes())
 }

@@ -40,15 +40,17 @@ impl Calls for Plain {
         or(plain::write_from_sample(book, parent, buffer), 0)
     }
 
+    fn write_dtd(&mut self, book: &[u8], buffer: &mut [u8]) -> (u8, usize) {
+        or(plain::write_dtd(book, buffer), 0)
+    }
+
     fn read_declaration(&mut self, book: &[u8], text: &[u8]) -> (u8, usize, Record) {
         let (number, (parent, model)) = or(plain::read_declaration(book, text), (0, EMPTY));
         (number, parent, back(model))
     }
 
     fn dtd(&mut self, book: &[u8]) -> Option<Vec<u8>> {
-        let mut out = Vec::new();
-        plain::dtd(book, &mut out);
-        Some(out)
+        Some(plain::dtd(book))
     }
 }
 
@@ -64,8 +66,7 @@ fn books_of_the_benchmark() {
     for (kind, make) in plain::books::KINDS {
         let book = make();
         assert!(book.len() <= 60_000 && book.len() > 59_700, "{kind}: {} bytes", book.len());
-        let mut out = Vec::new();
-        plain::dtd(&book, &mut out);
+        let out = plain::dtd(&book);
         assert!(out == second::calls::dtd(&book), "{kind}");
         assert!(out.starts_with(b"<!ELEMENT"), "{kind}");
     }
