@@ -51,6 +51,11 @@ pub fn long_words() -> Vec<u8> {
     book(&names(64), |i| ((i % 64) as u8, (0..255).map(|k| ((k / 4 + next.below(2)) as u8).min(63)).collect()))
 }
 
+/// Empty words alone, for all 64 parents.
+pub fn empty_words() -> Vec<u8> {
+    book(&names(64), |i| ((i % 64) as u8, vec![]))
+}
+
 /// All names in one loop group, for eight parents.
 pub fn one_group() -> Vec<u8> {
     let mut next = Next(3);
@@ -61,6 +66,12 @@ pub fn one_group() -> Vec<u8> {
 pub fn many_levels() -> Vec<u8> {
     let mut next = Next(4);
     book(&names(64), |i| ((i % 64) as u8, (0..64u8).filter(|_| i < 64 || next.below(8) > 0).collect()))
+}
+
+/// The same in falling order, the name with the largest number first.
+pub fn falling_levels() -> Vec<u8> {
+    let mut next = Next(4);
+    book(&names(64), |i| ((i % 64) as u8, (0..64u8).rev().filter(|_| i < 64 || next.below(8) > 0).collect()))
 }
 
 /// One parent with words of several kinds.
@@ -83,14 +94,45 @@ pub fn feed() -> Vec<u8> {
     book(&names, |i| (1, [[3, 0, 5], [3, 2, 4], [3, 0, 4]][i % 3].to_vec()))
 }
 
+/// A chain expression by chance over some of 64 names: the names of each factor and its mode.
+fn chain(next: &mut Next) -> Vec<(Vec<u8>, usize)> {
+    let mut left: Vec<u8> = (0..64).collect();
+    let mut factors = Vec::new();
+    for _ in 0..5 + next.below(16) {
+        let names = (0..1 + next.below(4)).map(|_| left.swap_remove(next.below(left.len()))).collect();
+        factors.push((names, next.below(4)));
+    }
+    factors
+}
+
+/// A word of the chain, drawn by chance.
+fn word_of(chain: &[(Vec<u8>, usize)], next: &mut Next) -> Vec<u8> {
+    let mut word = Vec::new();
+    for (names, mode) in chain {
+        let many = [1, next.below(2), 1 + next.below(3), next.below(4)][*mode];
+        word.extend((0..many).map(|_| names[next.below(names.len())]));
+    }
+    word
+}
+
+/// For each of the 64 parents words of a chain of its own.
+pub fn hidden_chain() -> Vec<u8> {
+    let mut next = Next(6);
+    let chains: Vec<_> = (0..64).map(|_| chain(&mut next)).collect();
+    book(&names(64), |i| ((i % 64) as u8, word_of(&chains[i % 64], &mut next)))
+}
+
 /// A kind of book: its name, and what makes it.
 pub type Kind = (&'static str, fn() -> Vec<u8>);
 
 pub const KINDS: &[Kind] = &[
     ("many short words", short_words),
     ("words of 255 names", long_words),
+    ("empty words", empty_words),
     ("one loop group of all names", one_group),
     ("no loops, many levels", many_levels),
+    ("no loops, names falling", falling_levels),
     ("one parent", one_parent),
     ("the feed repeated", feed),
+    ("words of a hidden chain", hidden_chain),
 ];

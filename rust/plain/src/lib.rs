@@ -165,57 +165,72 @@ impl Building {
     }
 }
 
-/// The chain that the levels of these facts give.
-pub fn chain(facts: &Facts) -> Model {
-    let held = facts.follow.iter().fold(facts.start, |all, row| all | row);
-    // Reach: one more name may stand in the middle in each round.
-    let mut reach = facts.follow;
-    for k in Members(held) {
+/// What each name reaches by one or more steps: in each round one more name may stand in the middle.
+fn reach_of(follow: [u64; PLACES]) -> [u64; PLACES] {
+    let mut reach = follow;
+    for k in 0..PLACES {
         let row = reach[k];
-        for x in Members(held) {
-            if reach[x] >> k & 1 == 1 {
-                reach[x] |= row;
+        if row != 0 {
+            // Without a branch, so that the compiler can take several rows at once.
+            for other in &mut reach {
+                *other |= row & (*other >> k & 1).wrapping_neg();
             }
         }
     }
-    let mut reached_by = [0u64; PLACES];
-    for x in Members(held) {
-        for y in Members(reach[x]) {
-            reached_by[y] |= 1 << x;
+    reach
+}
+
+/// Rows and columns exchanged: in blocks of 32, then in each of those in blocks of 16, and so on.
+fn transposed(mut rows: [u64; PLACES]) -> [u64; PLACES] {
+    let mut size = PLACES / 2;
+    let mut mask = u64::MAX >> size;
+    while size > 0 {
+        for i in (0..PLACES).filter(|i| i & size == 0) {
+            let exchanged = (rows[i] >> size ^ rows[i + size]) & mask;
+            rows[i] ^= exchanged << size;
+            rows[i + size] ^= exchanged;
         }
+        size /= 2;
+        mask ^= mask << size;
     }
+    rows
+}
+
+/// The chain that the levels of these facts give.
+pub fn chain(facts: &Facts) -> Model {
+    let mut left = facts.follow.iter().fold(facts.start, |all, row| all | row);
+    if left == 0 {
+        return EMPTY;
+    }
+    let reach = reach_of(facts.follow);
+    let reached_by = transposed(reach);
+    let group_of = |x: usize| reach[x] & reached_by[x];
     let mut building = Building(EMPTY);
-    let mut left = held;
     let mut below = 0u64;
-    // What one step leads to from a lower level.
+    // What one step leads to: from the level below, and from any lower level.
     let mut next = facts.start;
+    let mut next_of_lower = facts.start;
     while left != 0 {
-        // Names that stand behind no other that is left, outside their own group.
-        let behind = Members(left).fold(0, |all, x| all | (reach[x] & !reached_by[x]));
-        let level = left & !behind;
-        let above = left & behind;
-        let skipped = facts.empty || facts.end & below != 0 || next & above != 0;
-        let loops = Members(level).filter(|&x| reach[x] >> x & 1 == 1).fold(0, |all, x| all | 1u64 << x);
+        // The points behind the level below that no other point which is left reaches.
+        let first = |x: &usize| reached_by[*x] & !reach[*x] & left == 0;
+        let level = Members(next & left).filter(first).fold(0, |all, x| all | 1 << x | group_of(x));
+        let above = left & !level;
+        let skipped = facts.empty || facts.end & below != 0 || next_of_lower & above != 0;
+        let mut loops = Members(level).filter(|&x| reach[x] >> x & 1 == 1).fold(0, |all, x| all | 1 << x);
         let singles = level & !loops;
-        let one_group = loops != 0 && {
-            let x = loops.trailing_zeros() as usize;
-            reach[x] & reached_by[x] == loops
-        };
+        let one_group = loops != 0 && group_of(loops.trailing_zeros() as usize) == loops;
         let alone = !skipped && (loops == 0 || (singles == 0 && one_group));
         if singles != 0 {
             building.factor(singles, if alone { 0 } else { 1 });
         }
-        let mut rest = loops;
-        while rest != 0 {
-            let x = rest.trailing_zeros() as usize;
-            let group = reach[x] & reached_by[x];
+        while loops != 0 {
+            let group = group_of(loops.trailing_zeros() as usize);
             building.factor(group, if alone { 2 } else { 3 });
-            rest &= !group;
+            loops &= !group;
         }
         below |= level;
-        for x in Members(level) {
-            next |= facts.follow[x];
-        }
+        next = Members(level).fold(0, |all, x| all | facts.follow[x]);
+        next_of_lower |= next;
         left = above;
     }
     building.0
