@@ -12,22 +12,26 @@ ROOT = pathlib.Path(__file__).resolve().parent.parent
 sys.path.insert(0, str(ROOT / "tools"))
 import two_builds  # noqa: E402
 
-PRINTED = """many short words: 60000 bytes
-  all declarations, one pass   plain         50.0000 µs least      51.0000 µs median
+PRINTED = """many short words: 60000 bytes, a word of 255 names
+  whole DTD                    rescan        50.0000 µs least      51.0000 µs median
   model of one parent          library       70.0000 µs least      71.0000 µs median
   model of one parent          plain         40.0000 µs least      41.0000 µs median
-  word of 255 names            library        0.3500 µs least       0.3600 µs median
-one parent: 59999 bytes
-  word of 255 names            library        0.5000 µs least       0.6000 µs median
+  a word accepted or not       library        0.3500 µs least       0.3600 µs median
+one parent: 59999 bytes, a word of 255 names
+  a word accepted or not       library        0.5000 µs least       0.6000 µs median
+
+| book | model of one parent |
+|---|---|
+| many short words | 70.00 / 40.00 = 1.75 |
 """
 MODEL = ("many short words", "model of one parent")
-WORD = ("many short words", "word of 255 names")
-LAST = ("one parent", "word of 255 names")
+WORD = ("many short words", "a word accepted or not")
+LAST = ("one parent", "a word accepted or not")
 TABLE = """\
-book                         call                        old, µs    new, µs  ratio
-many short words             model of one parent              70         70  1.000
-many short words             word of 255 names               0.2       0.25  1.250
-one parent                   word of 255 names               0.5       0.75  1.500 above"""
+book                         call                          old, µs    new, µs  ratio
+many short words             model of one parent                70         70  1.000
+many short words             a word accepted or not            0.2       0.25  1.250
+one parent                   a word accepted or not            0.5       0.75  1.500 above"""
 
 
 def told(model, word, last):
@@ -45,9 +49,9 @@ class TwoBuilds(unittest.TestCase):
     def test_what_the_benchmark_prints_is_what_is_read(self):
         bench = (ROOT / "rust" / "plain" / "src" / "bench.rs").read_text(encoding="utf-8")
         for part in [
-            '"{what:<30} {who:<8} {:>12.4} µs least {:>12.4} µs median"',
-            'println!("{kind}: {} bytes"',
-            'line("  model of one parent", "library"',
+            '"  {figure:<28} {who:<8} {least:>12.4} µs least {median:>12.4} µs median"',
+            'println!("{kind}: {} bytes, ',
+            'work(MODEL, "library", ',
         ]:
             self.assertIn(part, bench)
 

@@ -101,11 +101,11 @@ def timed(built):
 
 def table(old, new, limit):
     """A heading, and a line for each figure: old time, new time, ratio, and a mark where that is above the limit."""
-    lines = [f"{'book':<28} {'call':<24} {'old, µs':>10} {'new, µs':>10} {'ratio':>6}"]
+    lines = [f"{'book':<28} {'call':<26} {'old, µs':>10} {'new, µs':>10} {'ratio':>6}"]
     for book, call in old:
         before, after = old[book, call], new[book, call]
         mark = " above" if after > limit * before else ""
-        lines.append(f"{book:<28} {call:<24} {before:>10.4g} {after:>10.4g} {after / before:>6.3f}{mark}")
+        lines.append(f"{book:<28} {call:<26} {before:>10.4g} {after:>10.4g} {after / before:>6.3f}{mark}")
     return lines
 
 

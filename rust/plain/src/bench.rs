@@ -1,104 +1,53 @@
 //! bench [--program PROGRAM]..
+//! bench --books FOLDER
+//! bench --list
+//! bench --once FIGURE WHO KIND N
 //!
-//! Times on books near 60,000 bytes, each the least and the median of many runs in one process after a warm-up: all
-//! declarations of a book, in one pass and a parent at a time, the model of one parent, a word of 255 names, a
-//! declaration written and read. With the feature `library` the static library is timed beside the plain code on the
-//! same inputs. Output buffers are lent as they are and not cleared between runs.
-//! --program times whole programs from start to end, a book on standard input.
+//! Times on books near 60,000 bytes, each the least and the median of many runs in one process after a warm-up: the whole DTD of a
+//! book, all its declarations a parent at a time, the model of one parent, a word accepted or not, a declaration written and read.
+//! The plain code is timed, for the whole DTD also the program that rescans for each parent, and with the feature `library` the
+//! static library, all on the same inputs. Output buffers are lent as they are and not cleared between runs. Behind the times are
+//! tables of them in Markdown.
+//! --program times whole programs from start to end, a book on standard input; the table has the first beside each other one.
+//! --books writes the books into a folder, as files KIND.book.
+//! --list prints what is timed: lines of figure, who and kind, with tabs between.
+//! --once makes N calls of one of these and prints nothing: for a count of instructions (tools/instructions.py).
 
+use plain::books::KINDS;
+use std::collections::BTreeMap;
 use std::hint::black_box;
 use std::io::Write;
-use std::process::{Command, Stdio};
+use std::path::Path;
+use std::process::{exit, Command, Stdio};
 use std::time::{Duration, Instant};
 
-/// The least and the median of many runs, in nanoseconds.
-fn timed<T>(mut work: impl FnMut() -> T) -> (f64, f64) {
-    // As many calls in one run as take about half a millisecond.
-    let mut calls = 1u32;
-    loop {
-        let start = Instant::now();
-        for _ in 0..calls {
-            black_box(work());
-        }
-        if start.elapsed() > Duration::from_micros(500) || calls > 1 << 20 {
-            break;
-        }
-        calls *= 2;
-    }
-    let mut runs: Vec<f64> = Vec::new();
-    let until = Instant::now() + Duration::from_millis(150);
-    while runs.len() < 15 || (Instant::now() < until && runs.len() < 500) {
-        let start = Instant::now();
-        for _ in 0..calls {
-            black_box(work());
-        }
-        runs.push(start.elapsed().as_nanos() as f64 / f64::from(calls));
-    }
-    runs.sort_by(f64::total_cmp);
-    (runs[0], runs[runs.len() / 2])
+const WHOLE: &str = "whole DTD";
+const ONE_AT_A_TIME: &str = "all parents, one at a time";
+const MODEL: &str = "model of one parent";
+const WORD: &str = "a word accepted or not";
+const WRITTEN: &str = "declaration written";
+const READ: &str = "declaration read";
+const PROGRAM: &str = "whole program";
+
+/// The figures in the order of the tables' columns.
+const FIGURES: &[&str] = &[WHOLE, ONE_AT_A_TIME, MODEL, WORD, WRITTEN, READ];
+
+/// What is timed on one book: the book, its first parent with a block, that parent's model and declaration, and a word.
+struct Input {
+    book: Vec<u8>,
+    parent: usize,
+    model: plain::Model,
+    text: Vec<u8>,
+    word: Vec<u8>,
 }
 
-fn line(what: &str, who: &str, (least, median): (f64, f64)) {
-    println!("{what:<30} {who:<8} {:>12.4} µs least {:>12.4} µs median", least / 1000.0, median / 1000.0);
-}
-
-/// One program from start to end.
-fn program(path: &str, book: &[u8]) {
-    let mut child = Command::new(path).stdin(Stdio::piped()).stdout(Stdio::null()).spawn().expect("the program starts");
-    let _ = child.stdin.take().unwrap().write_all(book);
-    assert!(child.wait().expect("the program ends").success());
-}
-
-fn main() {
-    let mut programs = Vec::new();
-    let mut arguments = std::env::args().skip(1);
-    while let Some(argument) = arguments.next() {
-        match (&argument[..], arguments.next()) {
-            ("--program", Some(path)) => programs.push(path),
-            _ => {
-                eprintln!("usage: bench [--program PROGRAM]..");
-                std::process::exit(2);
-            }
-        }
-    }
-    for (kind, make) in plain::books::KINDS {
-        let book = make();
-        println!("{kind}: {} bytes", book.len());
+impl Input {
+    fn of(book: Vec<u8>) -> Input {
         let parent = (0..64).find(|&p| plain::model_of_parent(&book, p).is_ok()).unwrap();
         let model = plain::model_of_parent(&book, parent).unwrap();
-        let word = a_word(&model);
-        let mut out = Vec::with_capacity(1 << 18);
-        let mut buffer = [0u8; 2253];
+        let mut buffer = [0u8; plain::declaration::LONGEST];
         let size = plain::write_declaration(&book, parent, &model, &mut buffer).unwrap();
-        let text = buffer[..size].to_vec();
-        line("  all declarations, one pass", "plain", timed(|| plain::dtd(black_box(&book))));
-        line(
-            "  all, a parent at a time",
-            "plain",
-            timed(|| {
-                out.clear();
-                for p in 0..book[0] as usize {
-                    if let Ok(size) = plain::write_from_sample(black_box(&book), p, &mut buffer) {
-                        out.extend_from_slice(&buffer[..size]);
-                        out.push(b'\n');
-                    }
-                }
-                black_box(&out);
-            }),
-        );
-        line("  model of one parent", "plain", timed(|| plain::model_of_parent(black_box(&book), parent)));
-        line(
-            &format!("  word of {} names", word.len()),
-            "plain",
-            timed(|| plain::accepts_word(64, black_box(&model), black_box(&word))),
-        );
-        line("  declaration written", "plain", timed(|| plain::write_declaration(black_box(&book), parent, &model, &mut buffer)));
-        line("  declaration read", "plain", timed(|| plain::read_declaration(black_box(&book), black_box(&text))));
-        #[cfg(feature = "library")]
-        library(&book, parent, &model, &word, &text);
-        for path in &programs {
-            line("  whole program", path, timed(|| program(path, &book)));
-        }
+        Input { parent, model, text: buffer[..size].to_vec(), word: a_word(&model), book }
     }
 }
 
@@ -121,32 +70,236 @@ fn a_word(m: &plain::Model) -> Vec<u8> {
     word
 }
 
+/// One implementation's call for one figure.
+struct Work<'a> {
+    figure: &'static str,
+    who: &'static str,
+    call: Box<dyn FnMut() + 'a>,
+}
+
+fn work<'a, T>(figure: &'static str, who: &'static str, mut call: impl FnMut() -> T + 'a) -> Work<'a> {
+    let call = move || {
+        black_box(call());
+    };
+    Work { figure, who, call: Box::new(call) }
+}
+
+/// All declarations of a book by one call for each parent.
+fn one_at_a_time(book: &[u8], out: &mut Vec<u8>, write: impl Fn(&[u8], usize, &mut [u8]) -> Option<usize>) {
+    let mut buffer = [0u8; plain::declaration::LONGEST];
+    out.clear();
+    for parent in 0..book[0] as usize {
+        if let Some(size) = write(black_box(book), parent, &mut buffer) {
+            out.extend_from_slice(&buffer[..size]);
+            out.push(b'\n');
+        }
+    }
+}
+
+fn plain_works(input: &Input) -> Vec<Work<'_>> {
+    let Input { book, parent, model, text, word } = input;
+    let mut dtd = vec![0u8; plain::LONGEST_DTD];
+    let mut buffer = [0u8; plain::declaration::LONGEST];
+    let mut out = Vec::new();
+    let write = |book: &[u8], parent, buffer: &mut [u8]| plain::write_from_sample(book, parent, buffer).ok();
+    vec![
+        work(WHOLE, "plain", move || plain::write_dtd(black_box(book), &mut dtd)),
+        work(WHOLE, "rescan", move || plain::rescan::rescan(black_box(book))),
+        work(ONE_AT_A_TIME, "plain", move || one_at_a_time(book, &mut out, write)),
+        work(MODEL, "plain", move || plain::model_of_parent(black_box(book), *parent)),
+        work(WORD, "plain", move || plain::accepts_word(64, black_box(model), black_box(word))),
+        work(WRITTEN, "plain", move || plain::write_declaration(black_box(book), *parent, model, &mut buffer)),
+        work(READ, "plain", move || plain::read_declaration(black_box(book), black_box(text))),
+    ]
+}
+
 #[cfg(feature = "library")]
-fn library(book: &[u8], parent: usize, model: &plain::Model, word: &[u8], text: &[u8]) {
-    let m = curlewsong::Model { count: model.count, factor: model.factor, mode: model.mode };
-    let mut buffer = [0u8; 2253];
-    let mut out: Vec<u8> = Vec::with_capacity(1 << 18);
-    let n = book[0] as usize;
-    line(
-        "  all, a parent at a time",
-        "library",
-        timed(|| {
-            out.clear();
-            for p in 0..n {
-                if let Ok(size) = curlewsong::write_from_sample(black_box(book), p, &mut buffer) {
-                    out.extend_from_slice(&buffer[..size]);
-                    out.push(b'\n');
-                }
-            }
-            black_box(&out);
-        }),
-    );
-    line("  model of one parent", "library", timed(|| curlewsong::model_of_parent(black_box(book), parent)));
-    line(
-        &format!("  word of {} names", word.len()),
-        "library",
-        timed(|| curlewsong::accepts_word(64, black_box(m), black_box(word))),
-    );
-    line("  declaration written", "library", timed(|| curlewsong::write_declaration(black_box(book), parent, m, &mut buffer)));
-    line("  declaration read", "library", timed(|| curlewsong::read_declaration(black_box(book), black_box(text))));
+fn library_works(input: &Input) -> Vec<Work<'_>> {
+    let Input { book, parent, model, text, word } = input;
+    let model = curlewsong::Model { count: model.count, factor: model.factor, mode: model.mode };
+    let mut dtd = vec![0u8; curlewsong::LONGEST_DTD];
+    let mut buffer = [0u8; curlewsong::LONGEST_DECLARATION];
+    let mut out = Vec::new();
+    let write = |book: &[u8], parent, buffer: &mut [u8]| curlewsong::write_from_sample(book, parent, buffer).ok();
+    vec![
+        work(WHOLE, "library", move || curlewsong::write_dtd(black_box(book), &mut dtd)),
+        work(ONE_AT_A_TIME, "library", move || one_at_a_time(book, &mut out, write)),
+        work(MODEL, "library", move || curlewsong::model_of_parent(black_box(book), *parent)),
+        work(WORD, "library", move || curlewsong::accepts_word(64, black_box(model), black_box(word))),
+        work(WRITTEN, "library", move || curlewsong::write_declaration(black_box(book), *parent, model, &mut buffer)),
+        work(READ, "library", move || curlewsong::read_declaration(black_box(book), black_box(text))),
+    ]
+}
+
+#[cfg(not(feature = "library"))]
+fn library_works(_: &Input) -> Vec<Work<'_>> {
+    vec![]
+}
+
+fn works(input: &Input) -> Vec<Work<'_>> {
+    plain_works(input).into_iter().chain(library_works(input)).collect()
+}
+
+/// The least and the median of many runs, in microseconds.
+fn timed(mut call: impl FnMut()) -> (f64, f64) {
+    // As many calls in one run as take about half a millisecond.
+    let mut calls = 1u32;
+    loop {
+        let start = Instant::now();
+        for _ in 0..calls {
+            call();
+        }
+        if start.elapsed() > Duration::from_micros(500) || calls > 1 << 20 {
+            break;
+        }
+        calls *= 2;
+    }
+    let mut runs: Vec<f64> = Vec::new();
+    let until = Instant::now() + Duration::from_millis(150);
+    while runs.len() < 15 || (Instant::now() < until && runs.len() < 500) {
+        let start = Instant::now();
+        for _ in 0..calls {
+            call();
+        }
+        runs.push(start.elapsed().as_nanos() as f64 / f64::from(calls) / 1000.0);
+    }
+    runs.sort_by(f64::total_cmp);
+    (runs[0], runs[runs.len() / 2])
+}
+
+/// One program from start to end.
+fn program(path: &str, book: &[u8]) {
+    let mut child = Command::new(path).stdin(Stdio::piped()).stdout(Stdio::null()).spawn().expect("the program starts");
+    let _ = child.stdin.take().unwrap().write_all(book);
+    assert!(child.wait().expect("the program ends").success());
+}
+
+/// The least times of one book, by figure and who.
+type Times = BTreeMap<(&'static str, String), f64>;
+
+/// Times all of one book, and prints a line for each time.
+fn times_of(input: &Input, programs: &[String]) -> Times {
+    let mut times = Times::new();
+    let mut line = |figure: &'static str, who: &str, (least, median): (f64, f64)| {
+        println!("  {figure:<28} {who:<8} {least:>12.4} µs least {median:>12.4} µs median");
+        times.insert((figure, who.to_string()), least);
+    };
+    for Work { figure, who, call } in works(input) {
+        line(figure, who, timed(call));
+    }
+    for path in programs {
+        line(PROGRAM, path, timed(|| program(path, &input.book)));
+    }
+    times
+}
+
+/// A column of a table: its head, the figure, and the two whose times it has with their ratio.
+struct Column<'a> {
+    head: String,
+    figure: &'static str,
+    first: &'a str,
+    second: &'a str,
+}
+
+impl Column<'_> {
+    /// Two times in microseconds, with at least three digits each, and their ratio.
+    fn cell(&self, times: &Times) -> String {
+        let [first, second] = [self.first, self.second].map(|who| times[&(self.figure, who.to_string())]);
+        let digits = |time: f64| match time {
+            ..1.0 => 3,
+            ..100.0 => 2,
+            ..1000.0 => 1,
+            _ => 0,
+        };
+        format!("{first:.*} / {second:.*} = {:.2}", digits(first), digits(second), first / second)
+    }
+}
+
+fn table(title: &str, columns: &[Column], rows: &[(&str, Times)]) {
+    let heads: Vec<&str> = columns.iter().map(|column| &column.head[..]).collect();
+    println!("\n{title}\n\n| book | {} |\n|---|{}", heads.join(" | "), "---|".repeat(columns.len()));
+    for (kind, times) in rows {
+        let cells: Vec<String> = columns.iter().map(|column| column.cell(times)).collect();
+        println!("| {kind} | {} |", cells.join(" | "));
+    }
+}
+
+/// The tables that the times of a run give.
+fn tables(programs: &[String], rows: &[(&str, Times)]) {
+    let whole = |first, second| Column { head: format!("{first} / {second}"), figure: WHOLE, first, second };
+    if cfg!(feature = "library") {
+        table("The whole DTD:", &[whole("library", "plain"), whole("library", "rescan")], rows);
+        let of_figure = |figure: &&'static str| Column { head: figure.to_string(), figure, first: "library", second: "plain" };
+        let columns: Vec<Column> = FIGURES.iter().map(of_figure).collect();
+        table("library / plain:", &columns, rows);
+    } else {
+        table("The whole DTD:", &[whole("plain", "rescan")], rows);
+    }
+    if let [first, others @ ..] = programs {
+        let name = |path: &str| Path::new(path).file_name().map_or(path.into(), |name| name.to_string_lossy().into_owned());
+        let beside = |second| Column { head: format!("`{}` / `{}`", name(first), name(second)), figure: PROGRAM, first, second };
+        let columns: Vec<Column> = others.iter().map(|second| beside(second)).collect();
+        table("Whole programs:", &columns, rows);
+    }
+}
+
+fn time_all(programs: &[String]) {
+    let mut rows = Vec::new();
+    for (kind, make) in KINDS {
+        let input = Input::of(make());
+        println!("{kind}: {} bytes, a word of {} names", input.book.len(), input.word.len());
+        rows.push((*kind, times_of(&input, programs)));
+    }
+    tables(programs, &rows);
+}
+
+fn list() {
+    for (kind, make) in KINDS {
+        for work in works(&Input::of(make())) {
+            println!("{}\t{}\t{kind}", work.figure, work.who);
+        }
+    }
+}
+
+fn once(figure: &str, who: &str, kind: &str, calls: &str) {
+    let (_, make) = KINDS.iter().find(|(name, _)| *name == kind).unwrap_or_else(|| usage(&format!("no kind {kind}")));
+    let calls: usize = calls.parse().unwrap_or_else(|_| usage(&format!("{calls} is no number of calls")));
+    let input = Input::of(make());
+    let mut work = works(&input).into_iter().find(|work| (work.figure, work.who) == (figure, who));
+    let Some(work) = &mut work else { usage(&format!("{who} has no figure {figure}: see bench --list")) };
+    for _ in 0..calls {
+        (work.call)();
+    }
+}
+
+fn write_books(folder: &str) {
+    for (kind, make) in KINDS {
+        let file = Path::new(folder).join(format!("{kind}.book"));
+        if let Err(error) = std::fs::write(&file, make()) {
+            usage(&format!("{}: {error}", file.display()));
+        }
+    }
+}
+
+fn usage(why: &str) -> ! {
+    eprintln!("bench: {why}");
+    eprintln!("usage: bench [--program PROGRAM].. | --books FOLDER | --list | --once FIGURE WHO KIND N");
+    exit(2)
+}
+
+fn main() {
+    let arguments: Vec<String> = std::env::args().skip(1).collect();
+    let arguments: Vec<&str> = arguments.iter().map(|argument| &argument[..]).collect();
+    match &arguments[..] {
+        ["--books", folder] => write_books(folder),
+        ["--list"] => list(),
+        ["--once", figure, who, kind, calls] => once(figure, who, kind, calls),
+        pairs => {
+            let program_of = |pair: &[&str]| match pair {
+                ["--program", path] => path.to_string(),
+                _ => usage(&format!("what is {}?", pair.join(" "))),
+            };
+            time_all(&pairs.chunks(2).map(program_of).collect::<Vec<_>>())
+        }
+    }
 }

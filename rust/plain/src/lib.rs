@@ -3,9 +3,16 @@
 
 pub mod books;
 pub mod declaration;
+/// The program that rescans for each parent, for the benchmark; its `main` is not used here.
+#[allow(dead_code)]
+#[path = "../../../docs/src/rescan.rs"]
+pub mod rescan;
 
 pub const PLACES: usize = 64;
 pub const NONE: u8 = 255;
+
+/// The longest DTD of a book: the longest declaration and a line feed for each name.
+pub const LONGEST_DTD: usize = PLACES * (declaration::LONGEST + 1);
 
 #[derive(Clone, Copy, PartialEq, Eq, Debug)]
 pub struct Model {

@@ -68,6 +68,7 @@ fn books_of_the_benchmark() {
         assert!(book.len() <= 60_000 && book.len() > 59_700, "{kind}: {} bytes", book.len());
         let out = plain::dtd(&book);
         assert!(out == second::calls::dtd(&book), "{kind}");
+        assert!(out == plain::rescan::rescan(&book), "{kind}");
         assert!(out.starts_with(b"<!ELEMENT"), "{kind}");
     }
 }
