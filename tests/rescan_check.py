@@ -109,7 +109,7 @@ def main(arguments):
             print(f"rescan_check: {label}: {difference(ours, theirs)}")
             print(f"    the book, {len(book)} bytes: {book[:300].hex()}{'..' if len(book) > 300 else ''}")
     if failed:
-        sys.exit(f"rescan_check: {failed} of {count} books differ. Correct docs/src/rescan.rs if dtd is right by paper 01.")
+        sys.exit(f"rescan_check: {failed} of {count} books differ. Where dtd is right, correct docs/src/rescan.rs.")
     print(f"rescan_check: rescan and dtd print the same for {count} books")
 
 

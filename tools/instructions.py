@@ -1,0 +1,101 @@
+#!/usr/bin/env python3
+"""The instructions of one call of each implementation on each book of the benchmark, as tables in Markdown.
+
+  instructions.py [--figure FIGURE]..   FIGURE is one that `bench --list` names; all of them unless given
+
+The library is target/staticlib/libcurlewsong.a, or the one in the folder CURLEWSONG_LIB. Each call is made once and
+eleven times under valgrind's callgrind; a count is a tenth of the difference, in thousands. So what is done before the
+first call does not count. Exits 2 where nothing can be counted. All figures take about five minutes.
+"""
+import argparse
+import pathlib
+import re
+import shutil
+import subprocess
+import sys
+
+ROOT = pathlib.Path(__file__).resolve().parent.parent
+BENCH = ROOT / "rust" / "target" / "release" / "bench"
+BUILD = ["cargo", "build", "--offline", "--release", "--quiet", "--manifest-path", str(ROOT / "rust" / "Cargo.toml"),
+         "-p", "plain", "--features", "library", "--bin", "bench"]
+TOOLS = {"cargo": "https://rustup.rs", "valgrind": "the Debian package valgrind"}
+COLLECTED = re.compile(r"Collected : (\d+)")
+FEW, MANY = 1, 11
+WHOLE = "whole DTD"
+
+
+def fail(why):
+    print(f"instructions: {why}", file=sys.stderr)
+    sys.exit(2)
+
+
+def run(*command):
+    """What the command prints, on standard output and on standard error."""
+    done = subprocess.run(command, stdout=subprocess.PIPE, stderr=subprocess.PIPE, encoding="utf-8")
+    if done.returncode:
+        fail(f"{command[0]} ended with status {done.returncode}: {done.stderr.strip()}")
+    return done.stdout, done.stderr
+
+
+def collected(figure, who, kind, calls):
+    """The instructions of the whole run with so many calls."""
+    _, said = run("valgrind", "--tool=callgrind", "--callgrind-out-file=/dev/null",
+                  str(BENCH), "--once", figure, who, kind, str(calls))
+    found = COLLECTED.search(said)
+    return int(found[1]) if found else fail(f"valgrind printed no count: {said.strip()}")
+
+
+def counted(figure, who, kind):
+    """The instructions of one call, in thousands."""
+    print(f"counting {figure}, {who}, {kind}", file=sys.stderr)
+    return (collected(figure, who, kind, MANY) - collected(figure, who, kind, FEW)) / (MANY - FEW) / 1000
+
+
+def short(count):
+    return f"{count:,.0f}" if count >= 100 else f"{count:.1f}"
+
+
+def cell(counts, kind, figure, first, second):
+    """Two counts and their ratio."""
+    one, other = counts[figure, first, kind], counts[figure, second, kind]
+    return f"{short(one)} / {short(other)} = {one / other:.2f}"
+
+
+def table(heads, rows):
+    lines = [["book", *heads], *rows]
+    first, *others = ["| " + " | ".join(line) + " |" for line in lines]
+    return "\n".join([first, "|" + "---|" * len(lines[0]), *others])
+
+
+def tables(counts):
+    """The whole DTD beside both others, and each figure beside plain."""
+    kinds = list(dict.fromkeys(kind for _, _, kind in counts))
+    figures = list(dict.fromkeys(figure for figure, _, _ in counts))
+    if WHOLE in figures:
+        yield table(["library / plain", "library / rescan"],
+                    [[kind] + [cell(counts, kind, WHOLE, "library", other) for other in ("plain", "rescan")]
+                     for kind in kinds])
+    yield table(figures, [[kind] + [cell(counts, kind, figure, "library", "plain") for figure in figures]
+                          for kind in kinds])
+
+
+def main(arguments):
+    parser = argparse.ArgumentParser(description=__doc__, formatter_class=argparse.RawDescriptionHelpFormatter)
+    parser.add_argument("--figure", action="append", metavar="FIGURE")
+    given = parser.parse_args(arguments)
+    for tool, source in TOOLS.items():
+        if not shutil.which(tool):
+            fail(f"{tool} is missing. Get it from {source}.")
+    run(*BUILD)
+    works = [line.split("\t") for line in run(str(BENCH), "--list")[0].splitlines()]
+    known = list(dict.fromkeys(figure for figure, _, _ in works))
+    for figure in set(given.figure or []) - set(known):
+        fail(f"there is no figure {figure}; the figures are: {', '.join(known)}")
+    counts = {(figure, who, kind): counted(figure, who, kind) for figure, who, kind in works
+              if figure in (given.figure or known)}
+    print(*tables(counts), sep="\n\n")
+    return 0
+
+
+if __name__ == "__main__":
+    sys.exit(main(sys.argv[1:]))
