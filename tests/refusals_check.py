@@ -56,6 +56,7 @@ CALLS = {
     "model_of_parent": "ModelConditions",
     "write_declaration": "WriteConditions",
     "write_from_sample": "SampleConditions",
+    "write_dtd": "DtdConditions",
     "read_declaration": "ReadConditions",
     "dtd": "BookConditions",
 }
