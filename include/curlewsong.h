@@ -39,8 +39,8 @@
  * with 3, although bytes are missing further on.
  *
  * A refused call changes nothing that it borrows. The rest of its answer is then: the model with count 0, every factor
- * 255 and every mode 0; no; length 0; parent 0. All of these are also answers of calls that were not refused, so look at
- * the refusal first.
+ * 255 and every mode 0; no; length 0; parent 0. All of these are also answers of calls that were not refused, so look
+ * at the refusal first.
  *
  * What a caller has to see to, since no call can check it: a pointer is not NULL, also where its length is 0. It points
  * to that many bytes that can be read (those of a buffer also written). While the call runs nobody else writes to them,

@@ -1,6 +1,6 @@
-//! The comparison finds wrong programs: the traps and worthless versions of paper 01, answers that are wrong at one limit, readers
-//! that take less or more than request U1 of paper 02 allows, and DTDs that are not those of request U2. Each is the second
-//! implementation with one fault.
+//! The comparison finds wrong programs: the traps and worthless versions of paper 01, answers that are wrong at one limit,
+//! readers that take less or more than request U1 of paper 02 allows, and DTDs that are not those of request U2. Each is the
+//! second implementation with one fault.
 
 use compare::calls::{Calls, Second};
 use compare::cases::{Kind, KINDS};

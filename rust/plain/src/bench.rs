@@ -3,11 +3,12 @@
 //! bench --list
 //! bench --once FIGURE WHO KIND N
 //!
-//! Times on books near 60,000 bytes, each the least and the median of many runs in one process after a warm-up: the whole DTD of a
-//! book, all its declarations a parent at a time, the model of one parent, a word accepted or not, a declaration written and read.
-//! The plain code is timed, for the whole DTD also the program that rescans for each parent, and with the feature `library` the
-//! static library, all on the same inputs. Output buffers are lent as they are and not cleared between runs. Behind the times are
-//! tables of them in Markdown.
+//! Times on books near 60,000 bytes, each the least and the median of many runs in one process after a warm-up: the whole DTD
+//! of a book, all its declarations a parent at a time, the model of one parent, a word accepted or not, a declaration written
+//! and read. The plain code is timed, for the whole DTD also the program that rescans for each parent, and with the feature
+//! `library` the static library, all on the same inputs. Output buffers are lent as they are and not cleared between runs.
+//! Behind the times are tables of them in Markdown.
+//!
 //! --program times whole programs from start to end, a book on standard input; the table has the first beside each other one.
 //! --books writes the books into a folder, as files KIND.book.
 //! --list prints what is timed: lines of figure, who and kind, with tabs between.

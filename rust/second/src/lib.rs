@@ -1,6 +1,6 @@
 //! A second implementation of paper 01 and of requests U1 and U2 of paper 02, written from their text and not from the proved
-//! crates. It is made to be compared with, so it follows the papers' sentences and takes the slow way wherever that is the clearer
-//! one: the facts of a parent come from a look at all blocks of the book, and so does every parent's line of a DTD.
+//! crates. It is made to be compared with, so it follows the papers' sentences and takes the slow way wherever that is the
+//! clearer one: each line of a DTD comes from a look at all blocks of the book.
 //!
 //! A refusal is the number that paper 01's table gives it.
 
