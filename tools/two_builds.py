@@ -6,7 +6,7 @@
 The time of the same machine code depends on where it lies in memory. So each library is timed in three layouts: as it
 is linked, and with every function at a multiple of 32 and of 64 bytes. The benchmark runs four times for each library
 and layout, in turn. A figure is the least time over all layouts and runs. Exits 1 where a ratio NEW / OLD is above
-the limit, and 2 where nothing can be timed. It takes about five minutes.
+the limit, and 2 where nothing can be timed. It takes about ten minutes.
 """
 import argparse
 import os
