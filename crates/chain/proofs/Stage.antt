@@ -27,14 +27,14 @@ use Rattle.chain_peel.specs.Shown.{Shown}
 use Rattle.chain_peel.specs.Sets.{isLower, isAt, isHigher, inRows, stepsOver}
 use Rattle.chain_levels.proofs.Tests.{and-is, not-is, eqb-is, some-is, some-within, refuted, both-ways}
 use Rattle.chain_levels.proofs.Below.{first-le, first-is, count-past, count-lt}
-use Rattle.chain_levels.proofs.Reach.{reaches-below, group-is}
+use Rattle.chain_levels.proofs.Reach.{reaches-trans, reaches-below, group-is}
 use Rattle.chain_peel.proofs.Reaching.{occurs-small}
 use Rattle.chain_peel.proofs.Peel.{at-is, higher-is, higher-first, lower-first, higher-next, lower-next, single-at, leads-at, peel, level-left, level-none, level-found}
 use Rattle.chain_peel.proofs.Skips.{skipped-over}
 use Rattle.chain_peel.proofs.Counting.{level-room}
-use Rattle.chain_rows.specs.Rows.{inRow, leadsAway, OneWay}
+use Rattle.chain_rows.specs.Rows.{inRow, Transitive}
 use Rattle.chain_reach.specs.Reached.{Reached}
-use Rattle.chain_groups.specs.Groups.{groupIn, holdsIn, loopsIn, smallestIn, leadsIn}
+use Rattle.chain_groups.specs.Groups.{groupIn, holdsIn, together, leadsAway, smallest, Grouped}
 use Rattle.chain_groups.proofs.Groups.{group-members}
 use Rattle.chain_factors.proofs.Factors.{each-upto}
 
@@ -53,57 +53,70 @@ both-reach true true = refl
 both-reach true false = refl
 both-reach false b = refl
 
-leads-smallest : (f : Follow) (x : ℕ) → (sameGroup f x x && not (anyBelow x (sameGroup f x))) ≡ leads f x
+leads-smallest : (f : Follow) (x : ℕ) → (reaches f x x && not (anyBelow x (sameGroup f x))) ≡ leads f x
 unfolding leads loops
 leads-smallest f x =
-    same-test (sameGroup f x x && not (anyBelow x (sameGroup f x))) (reaches f x x && eqb (firstBelow (f .names) (sameGroup f x)) x) to from
+    same-test (reaches f x x && not (anyBelow x (sameGroup f x))) (reaches f x x && eqb (firstBelow (f .names) (sameGroup f x)) x) to from
   where
-    to : (sameGroup f x x && not (anyBelow x (sameGroup f x))) ≡ true → (reaches f x x && eqb (firstBelow (f .names) (sameGroup f x)) x) ≡ true
+    to : (reaches f x x && not (anyBelow x (sameGroup f x))) ≡ true → (reaches f x x && eqb (firstBelow (f .names) (sameGroup f x)) x) ≡ true
     to e =
-        let p = and-is (sameGroup f x x) (not (anyBelow x (sameGroup f x))) .0 e in
-        let r = group-is f x x .0 (p .0) .0 in
-        let h = reaches-below f x x r in
+        let p = and-is (reaches f x x) (not (anyBelow x (sameGroup f x))) .0 e in
+        let h = reaches-below f x x (p .0) in
+        let own = group-is f x x .1 (p .0, p .0) in
         let none = not-is (anyBelow x (sameGroup f x)) .0 (p .1) in
-        let le = first-le (f .names) (sameGroup f x) x h (p .0) in
-        let is = first-is (f .names) (sameGroup f x) x h (p .0) in
+        let le = first-le (f .names) (sameGroup f x) x h own in
+        let is = first-is (f .names) (sameGroup f x) x h own in
         and-is (reaches f x x) (eqb (firstBelow (f .names) (sameGroup f x)) x) .1
-        (r, eqb-is (firstBelow (f .names) (sameGroup f x)) x .1 (equal none le is (decLt (firstBelow (f .names) (sameGroup f x)) x)))
+        (p .0, eqb-is (firstBelow (f .names) (sameGroup f x)) x .1 (equal none le is (decLt (firstBelow (f .names) (sameGroup f x)) x)))
       where
         equal : anyBelow x (sameGroup f x) ≡ false → firstBelow (f .names) (sameGroup f x) ≤ x → sameGroup f x (firstBelow (f .names) (sameGroup f x)) ≡ true →
             Dec (firstBelow (f .names) (sameGroup f x) < x) → firstBelow (f .names) (sameGroup f x) ≡ x
         equal none le is (yes l) = absurd (both-ways (anyBelow x (sameGroup f x)) (some-is x (sameGroup f x) .1 (firstBelow (f .names) (sameGroup f x), l, is)) none)
         equal none le is (no l) = omega arith
 
-    from : (reaches f x x && eqb (firstBelow (f .names) (sameGroup f x)) x) ≡ true → (sameGroup f x x && not (anyBelow x (sameGroup f x))) ≡ true
+    from : (reaches f x x && eqb (firstBelow (f .names) (sameGroup f x)) x) ≡ true → (reaches f x x && not (anyBelow x (sameGroup f x))) ≡ true
     from e =
         let p = and-is (reaches f x x) (eqb (firstBelow (f .names) (sameGroup f x)) x) .0 e in
         let q = eqb-is (firstBelow (f .names) (sameGroup f x)) x .0 (p .1) in
         let h = reaches-below f x x (p .0) in
-        and-is (sameGroup f x x) (not (anyBelow x (sameGroup f x))) .1 (
-          group-is f x x .1 (p .0, p .0),
+        and-is (reaches f x x) (not (anyBelow x (sameGroup f x))) .1 (
+          p .0,
           not-is (anyBelow x (sameGroup f x)) .1 (refuted (anyBelow x (sameGroup f x)) (λ t. let r = some-is x (sameGroup f x) .0 t in omega (arith, q, r .1, h, first-le (f .names) (sameGroup f x) (r .0) (omega (arith, r .1, h)) (r .2)))),
         )
 
-pub tables-made : (f : Follow) (reach behind : List ℕ) (looping lead : NameSet) → Reached f reach → OneWay reach behind → ((a : ℕ) → member looping a ≡ loopsIn reach behind a) →
-    ((a : ℕ) → member lead a ≡ leadsIn reach behind a) → Tables f reach behind looping lead
-unfolding isBefore loops holdsIn leadsAway loopsIn leadsIn smallestIn
-tables-made f reach behind looping lead r o own small =
-    record { reach-size = r .names .size; behind-size = o .size; behind-law = before; holds-law = group; loops-law = λ x. own x ∙ group x x ∙ same-test _ _ (λ e. group-is f x x .0 e .0) (λ e. group-is f x x .1 (e, e)); leads-law = leading }
+-- reach is transitive
+pub reached-through : (f : Follow) (reach : List ℕ) → Reached f reach → Transitive reach
+reached-through f reach r a b c e d = r .law a c ∙ reaches-trans f a b c (sym (r .law a b) ∙ e) (sym (r .law b c) ∙ d)
+
+pub tables-made : (f : Follow) (reach behind : List ℕ) (looping lead : NameSet) → Reached f reach → Grouped reach behind looping lead → Tables f reach behind looping lead
+unfolding isBefore loops sameGroup holdsIn leadsAway together smallest
+tables-made f reach behind looping lead r g =
+    record { reach-size = r .names .size; behind-size = g .size; behind-law = before; holds-law = group; loops-law = λ x. g .own x ∙ r .law x x; leads-law = leading }
   where
     before : (a b : ℕ) → inRow behind a b ≡ (reaches f a b && not (reaches f b a))
-    before a b = o .law a b ∙ ap₂ (λ (u v : Bool). u && not v) (r .law a b) (r .law b a)
+    before a b = g .away a b ∙ ap₂ (λ (u v : Bool). u && not v) (r .law a b) (r .law b a)
 
-    both : (a b : ℕ) → (reaches f a b && not (reaches f a b && not (reaches f b a))) ≡ sameGroup f a b
-    both a b = both-reach (reaches f a b) (reaches f b a) ∙ same-test (reaches f a b && reaches f b a) (sameGroup f a b) (λ e. group-is f a b .1 (and-is (reaches f a b) (reaches f b a) .0 e)) (λ e. and-is (reaches f a b) (reaches f b a) .1 (group-is f a b .0 e))
-
-    group : (a b : ℕ) → member (groupIn reach behind a) b ≡ sameGroup f a b
-    group a b = group-members reach behind a b ∙ ap₂ (λ (u v : Bool). u && not v) (r .law a b) (before a b) ∙ both a b
+    group : (a b : ℕ) → member (groupIn reach behind a) b ≡ (reaches f a b && reaches f b a)
+    group a b = group-members reach behind a b ∙ ap₂ (λ (u v : Bool). u && not v) (r .law a b) (before a b) ∙ both-reach (reaches f a b) (reaches f b a)
 
     leading : (x : ℕ) → member lead x ≡ leads f x
     leading x =
-        small x
-        ∙ ap (λ (p : ℕ → Bool). p x && not (anyBelow x p)) (fun-ext (λ b. group x b))
+        g .lead x
+        ∙ ap₂ (λ (u : Bool) (p : ℕ → Bool). u && not (anyBelow x p)) (r .law x x) (fun-ext (λ b. ap₂ _&&_ (r .law x b) (r .law b x)))
         ∙ leads-smallest f x
+
+-- what stands behind a name has behind it what stands behind that name too
+pub behind-through : {f : Follow} {reach behind : List ℕ} {looping lead : NameSet} → Tables f reach behind looping lead → Transitive behind
+unfolding isBefore
+behind-through {f} {reach} {behind} t a b c e d =
+    let p = before a b e in
+    let q = before b c d in
+    t .behind-law a c
+    ∙ and-is (reaches f a c) (not (reaches f c a)) .1
+    (reaches-trans f a b c (p .0) (q .0), not-is (reaches f c a) .1 (refuted (reaches f c a) (λ r. both-ways (reaches f c b) (reaches-trans f c a b r (p .0)) (q .1))))
+  where
+    before : (x y : ℕ) → inRow behind x y ≡ true → (reaches f x y ≡ true) × (reaches f y x ≡ false)
+    before x y u = let p = and-is (reaches f x y) (not (reaches f y x)) .0 (sym (t .behind-law x y) ∙ u) in (p .0, not-is (reaches f y x) .0 (p .1))
 
 -- ---- one level
 

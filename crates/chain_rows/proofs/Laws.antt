@@ -1,7 +1,7 @@
 -- Laws of rows: a table row by row, a set name by name, and rows joined one after the other.
 -- Assumes nothing.
 use Prim.Native.Nat.{ℕ, _+_, _≤_, _<_}
-use mathlib.Core.Path.{_≡_, refl, sym, _∙_, ap, ap₂}
+use mathlib.Core.Path.{_≡_, refl, sym, _∙_, ap}
 use mathlib.Core.Bool.{Bool, true, false, cond, _&&_, _||_, not, or-false, or-assoc, and-true, and-false}
 use mathlib.Core.List.{List}
 use native.Mathlib.Omega.{arith}
@@ -13,14 +13,15 @@ use lib.ListN.{length}
 use Rattle.nameset.specs.Places.{places}
 use Rattle.nameset.specs.declared.NameSet.{NameSet}
 use Rattle.nameset.specs.Set.{member}
+use Rattle.nameset.specs.Promise.{Emptiness, Smallest}
 use Rattle.nameset.specs.Rows.{IsRows, HasRow, rowAt, putRow, noRows}
 use Rattle.nameset.proofs.Laws.{member-empty}
 use Rattle.nameset.proofs.Rows.{row-put, row-kept, length-put, no-rows, row-past, row-of-none}
 use Rattle.chain_levels.specs.Below.{anyBelow}
-use Rattle.chain_levels.proofs.Tests.{refuted}
+use Rattle.chain_levels.proofs.Tests.{and-is, refuted}
 use Rattle.chain_peel.specs.Sets.{inRows}
 use Rattle.chain_peel.proofs.Rows.{rows-none, rows-first}
-use Rattle.chain_rows.specs.Rows.{inRow, Copied, leadsAway, OnlyNames, OneWay, amongRows}
+use Rattle.chain_rows.specs.Rows.{inRow, Copied, OnlyNames, amongRows}
 
 -- ---- rows
 
@@ -29,11 +30,11 @@ pub row-is : (rows : List ℕ) (a : ℕ) (s : NameSet) → s ≡ rowAt rows a �
 unfolding inRow
 row-is rows a s e b = ap (λ (t : NameSet). member t b) e
 
-put-same : (rows : List ℕ) (i : ℕ) (s : NameSet) (b : ℕ) → HasRow rows i → inRow (putRow rows i s) i b ≡ member s b
+pub put-same : (rows : List ℕ) (i : ℕ) (s : NameSet) (b : ℕ) → HasRow rows i → inRow (putRow rows i s) i b ≡ member s b
 unfolding inRow
 put-same rows i s b h = ap (λ (t : NameSet). member t b) (row-put rows i s h)
 
-put-other : (rows : List ℕ) (i a : ℕ) (s : NameSet) (b : ℕ) → (a ≡ i → ⊥) → inRow (putRow rows i s) a b ≡ inRow rows a b
+pub put-other : (rows : List ℕ) (i a : ℕ) (s : NameSet) (b : ℕ) → (a ≡ i → ⊥) → inRow (putRow rows i s) a b ≡ inRow rows a b
 unfolding inRow
 put-other rows i a s b d = ap (λ (t : NameSet). member t b) (row-kept rows i a s d)
 
@@ -94,25 +95,6 @@ unfolding inRow
 copy-all old new i o r h =
     record { size = r .size; law = fill-all r places h (λ a b l. none-related a b ∙ sym (ap (λ (t : NameSet). member t b) (row-past places old a o l) ∙ member-empty b)) }
 
--- ---- what goes one way
-
-pub part-none : (rows : List ℕ) → Filled (noRows places) (noRows places) (leadsAway rows) 0
-part-none rows = fill-none (noRows places) (leadsAway rows) (no-rows places)
-
-pub part-all : (n : ℕ) (old new : List ℕ) (i : ℕ) → OnlyNames n old → Filled (noRows places) new (leadsAway old) i → n ≤ i → OneWay old new
-unfolding leadsAway
-part-all n old new i o r h = record { size = r .size; law = fill-all r n h (λ a b l. none-related a b ∙ sym (rw (past o a b l))) }
-
--- a row without the names of a set
-pub away-some : (rows : List ℕ) (a : ℕ) (own other rest : NameSet) → own ≡ rowAt rows a → ((j : ℕ) → member other j ≡ inRow rows j a) →
-    ((j : ℕ) → member rest j ≡ (member own j && not (member other j))) → (b : ℕ) → member rest b ≡ leadsAway rows a b
-unfolding leadsAway
-away-some rows a own other rest e f law b = law b ∙ ap₂ (λ (u v : Bool). u && not v) (row-is rows a own e b) (f b)
-
-pub away-none : (rows : List ℕ) (a : ℕ) (own : NameSet) → own ≡ rowAt rows a → ((j : ℕ) → member own j ≡ false) → (b : ℕ) → member own b ≡ leadsAway rows a b
-unfolding leadsAway
-away-none rows a own e none b = none b ∙ sym (rw (sym (row-is rows a own e b) ∙ none b))
-
 -- ---- a set, name by name
 
 -- s has the names below i that pass the test.
@@ -141,18 +123,6 @@ pick-all {s} {test} {i} p n h rest j = p .law j ∙ at (decLt j i)
     at : Dec (j < i) → (ltb j i && test j) ≡ test j
     at (yes l) = rw (lt-ltb j i l)
     at (no l) = rw (rest j (omega arith)) (and-false (ltb j i))
-
--- the names that are related to x
-unfoldable pub toward : List ℕ → ℕ → ℕ → Bool
-toward rows x a = inRow rows a x
-
-pub toward-has : (rows : List ℕ) (x a : ℕ) (s : NameSet) (more : Bool) → s ≡ rowAt rows a → more ≡ member s x → more ≡ toward rows x a
-unfolding toward
-toward-has rows x a s more e m = m ∙ row-is rows a s e x
-
-pub toward-all : (n : ℕ) (rows : List ℕ) (x i : ℕ) (s : NameSet) → OnlyNames n rows → Picked s (toward rows x) i → n ≤ i → (a : ℕ) → member s a ≡ inRow rows a x
-unfolding toward
-toward-all n rows x i s o p h = pick-all p n h (λ j l. past o j x l)
 
 -- ---- rows joined one after the other
 
@@ -186,6 +156,14 @@ pub among-more : (rows : List ℕ) (s r q : NameSet) (a b : ℕ) (x : Bool) → 
     member r b ≡ (member s b || member q b) → member r b ≡ (x || amongRows (a + 1) rows b)
 unfolding amongRows anyBelow
 among-more rows s r q a b x e f law = law ∙ rw (add-one a, e, row-is rows a q f b) (or-assoc x (anyBelow a (λ k. inRow rows k b)) (inRow rows a b))
+
+-- ---- a name that is picked
+
+pub picked-both : (s wanted both : NameSet) → ((j : ℕ) → member both j ≡ (member s j && member wanted j)) → (none : Bool) → Emptiness both none → none ≡ false → (r : ℕ) → Smallest both r →
+    (r < places) × (member s r ≡ true)
+picked-both s wanted both law none e n r small =
+    let found = small .found (sym (e .same) ∙ n) in
+    (found .0, and-is (member s r) (member wanted r) .0 (sym (law r) ∙ found .1) .0)
 
 -- ---- more or not
 

@@ -3,7 +3,7 @@
 -- A relation between names, kept as rows of words: row a keeps the set of the names that a is related to.
 use Prim.Native.Nat.{ℕ, _<_}
 use mathlib.Core.Path.{_≡_}
-use mathlib.Core.Bool.{Bool, true, _&&_, not}
+use mathlib.Core.Bool.{Bool, true}
 use mathlib.Core.List.{List}
 use Rattle.nameset.specs.Places.{places}
 use Rattle.nameset.specs.Set.{member}
@@ -25,14 +25,9 @@ pub record OnlyNames (n : ℕ) (rows : List ℕ) : Type 0 where
   pub size : IsRows places rows
   pub below : (a b : ℕ) → inRow rows a b ≡ true → (a < n) × (b < n)
 
--- a is related to b, and b is not related to a.
-unfoldable pub leadsAway : List ℕ → ℕ → ℕ → Bool
-leadsAway rows a b = inRow rows a b && not (inRow rows b a)
-
--- The rows of `new` have the names that `old` leads to one way.
-pub record OneWay (old new : List ℕ) : Type 0 where
-  pub size : IsRows places new
-  pub law : (a b : ℕ) → inRow new a b ≡ leadsAway old a b
+-- A name is related to what its related names are related to.
+abbrev pub Transitive : List ℕ → Type 0
+Transitive rows = (a b c : ℕ) → inRow rows a b ≡ true → inRow rows b c ≡ true → inRow rows a c ≡ true
 
 -- b is in one of the first n rows.
 unfoldable pub amongRows : ℕ → List ℕ → ℕ → Bool

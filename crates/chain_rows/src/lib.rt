@@ -1,14 +1,13 @@
-// Relations between names, kept as rows of words: row a has the names that a is related to. Each loop over names ends
-// at the number of names, and not at that of places.
+// Relations between names, kept as rows of words: row a has the names that a is related to.
 ghost use mathlib.Core.Path.{_≡_};
-ghost use mathlib.Core.Bool.{_&&_, _||_};
+ghost use mathlib.Core.Bool.{true, false, _&&_, _||_};
 ghost use Prim.Native.Nat.{ℕ, _≤_, _<_};
 ghost use lib.Dec.{eqb};
 ghost use Rattle.nameset.specs.Places.{places};
-ghost use Rattle.nameset.specs.Set.{member};
+ghost use Rattle.nameset.specs.Set.{member, isEmpty};
 ghost use Rattle.nameset.specs.Rows.{IsRows};
 ghost use Rattle.chain_peel.specs.Sets.{inRows};
-ghost use Rattle.chain_rows.specs.Rows.{inRow, Copied, leadsAway, OnlyNames, OneWay, amongRows};
+ghost use Rattle.chain_rows.specs.Rows.{inRow, Copied, amongRows};
 use nameset::NameSet;
 use nameset::ROWS;
 use nameset::put_row;
@@ -22,6 +21,19 @@ pub fn with_if(s: NameSet, i: usize, more: bool) -> NameSet
     if more { s.with(i) } else { s }
 }
 
+// A name of the set, one that is wanted too if there is any.
+pub fn pick(s: NameSet, wanted: NameSet) -> usize
+    requires { ⌜ isEmpty s ≡ false ⌝ }
+    ensures { λ r. ⌜ (r < places) × (member s r ≡ true) ⌝ }
+{
+    let likely = s.both(wanted);
+    if likely.is_empty() {
+        s.first()
+    } else {
+        likely.first()
+    }
+}
+
 // A copy of rows.
 pub fn copied(rows: &[u64]) -> [u64; ROWS]
     requires { ⌜ IsRows places (now rows) ⌝ }
@@ -31,47 +43,6 @@ pub fn copied(rows: &[u64]) -> [u64; ROWS]
     let mut a = 0;
     while a < ROWS {
         let row = row_at(rows, a);
-        put_row(&mut out, a, row);
-        a += 1;
-    }
-    out
-}
-
-// The names that are related to x.
-fn related(rows: &[u64], n: usize, x: usize) -> NameSet
-    requires { ⌜ (x < places) × (n ≤ places) × OnlyNames n (now rows) ⌝ }
-    ensures { λ r. ⌜ ((a : ℕ) → member r a ≡ inRow (now (rows .entry)) a x) ⌝ }
-{
-    let mut s = NameSet::empty();
-    let mut a = 0;
-    while a < n {
-        s = with_if(s, a, row_at(rows, a).has(x));
-        a += 1;
-    }
-    s
-}
-
-// The names that a is related to and that are not related to a.
-fn away(rows: &[u64], n: usize, a: usize) -> NameSet
-    requires { ⌜ (a < places) × (n ≤ places) × OnlyNames n (now rows) ⌝ }
-    ensures { λ r. ⌜ ((b : ℕ) → member r b ≡ leadsAway (now (rows .entry)) a b) ⌝ }
-{
-    let row = row_at(rows, a);
-    if row.is_empty() {
-        return row;
-    }
-    row.minus(related(rows, n, a))
-}
-
-// Each row without the names that are related to its own.
-pub fn one_way(rows: &[u64], n: usize) -> [u64; ROWS]
-    requires { ⌜ (n ≤ places) × OnlyNames n (now rows) ⌝ }
-    ensures { λ r. ⌜ OneWay (now (rows .entry)) r ⌝ }
-{
-    let mut out = [0u64; ROWS];
-    let mut a = 0;
-    while a < n {
-        let row = away(rows, n, a);
         put_row(&mut out, a, row);
         a += 1;
     }
