@@ -1,1 +1,1 @@
-pub mod Rounds
+pub mod Closing

@@ -38,7 +38,7 @@ pub put-other : (rows : List ℕ) (i a : ℕ) (s : NameSet) (b : ℕ) → (a ≡
 unfolding inRow
 put-other rows i a s b d = ap (λ (t : NameSet). member t b) (row-kept rows i a s d)
 
-none-related : (a b : ℕ) → inRow (noRows places) a b ≡ false
+pub none-related : (a b : ℕ) → inRow (noRows places) a b ≡ false
 unfolding inRow
 none-related a b = ap (λ (t : NameSet). member t b) (row-of-none places a) ∙ member-empty b
 
