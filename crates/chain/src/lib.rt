@@ -30,7 +30,8 @@ fn meets(a: NameSet, b: NameSet) -> bool
 // Whether some step goes from the lower names, or from start, to the higher names, or to the end; `stepped` has the
 // names that a lower one, or start, leads to.
 fn steps_over(empty: bool, ends: NameSet, stepped: NameSet, lower: NameSet, higher: NameSet) -> bool
-    ensures { λ r. ⌜ r ≡ (empty || (meets places (member ends) (member lower) || meets places (member stepped) (member higher))) ⌝ }
+    ensures { λ r. ⌜ r ≡ (empty || (meets places (member ends) (member lower)
+        || meets places (member stepped) (member higher))) ⌝ }
 {
     if empty {
         return true;
@@ -45,7 +46,8 @@ fn steps_over(empty: bool, ends: NameSet, stepped: NameSet, lower: NameSet, high
 // that stands behind another stands behind that one too, so only the others are looked at, `likely` ones first.
 fn next_level(behind: &[u64], higher: NameSet, likely: NameSet) -> NameSet
     requires { ⌜ IsRows places (now behind) × Transitive (now behind) ⌝ }
-    ensures { λ r. ⌜ ((x : ℕ) → member r x ≡ (member higher x && not (inRows places (inRow (now (behind .entry))) (member higher) x))) ⌝ }
+    ensures { λ r. ⌜ ((x : ℕ) → member r x
+        ≡ (member higher x && not (inRows places (inRow (now (behind .entry))) (member higher) x))) ⌝ }
 {
     let mut level = higher;
     let mut left = higher;
@@ -60,7 +62,8 @@ fn next_level(behind: &[u64], higher: NameSet, likely: NameSet) -> NameSet
 
 // The chain that follow facts give. The names that occur are those that start and those in a follow row.
 pub fn chain(starts: NameSet, ends: NameSet, follows: &[u64], empty: bool, n: usize) -> Model
-    requires { ⌜ (n ≤ places) × IsRows places (now follows) × Shown (viewOf n (factsWith starts ends (now follows) empty)) ⌝ }
+    requires { ⌜ (n ≤ places) × IsRows places (now follows)
+        × Shown (viewOf n (factsWith starts ends (now follows) empty)) ⌝ }
     ensures { λ r. ⌜ r ≡ chainOf places (viewOf n (factsWith starts ends (now (follows .entry)) empty)) ⌝ }
 {
     let reach = reach_rows(follows, n);

@@ -52,6 +52,14 @@ gather-none follows a s row none e =
     sound f n g x (inl m) = absurd (both-ways (member s x) m (none x))
     sound f n g x (inr m) = edge-reaches f a x (sym (g .law a x) ∙ sym (row-is follows a row e x) ∙ m)
 
+-- a name that was left is gathered
+pub gather-fewer : {follows : List ℕ} {a : ℕ} {s left : NameSet} → Gathered follows a s left → {b : ℕ} → (b < places) × (member left b ≡ true) → (known own next : NameSet) →
+    ((j : ℕ) → member own j ≡ (member known j || eqb b j)) → ((j : ℕ) → member next j ≡ (member s j || member own j)) → countBelow places (λ x. not (member next x)) < countBelow places (λ x. not (member s x))
+gather-fewer {follows} {a} {s} {left} p {b} (h, m) known own next own-law next-law =
+    count-lt places (λ x. not (member next x)) (λ x. not (member s x)) (λ x l e. not-is (member s x) .1 (refuted (member s x) (λ i. both-ways (member next x) (next-law x ∙ or-is (member s x) (member own x) .1 (inl i)) (not-is (member next x) .0 e)))) b h
+    (ap not (next-law b ∙ or-is (member s b) (member own b) .1 (inr (own-law b ∙ or-is (member known b) (eqb b b) .1 (inr (eqb-is b b .1 refl))))))
+    (ap not (p .apart b m))
+
 module _ {follows rows : List ℕ} (k : Closed follows rows) {a : ℕ} {s left : NameSet} (p : Gathered follows a s left) {b : ℕ} (found : (b < places) × (member left b ≡ true))
     (known own next step sum others : NameSet) (known-row : known ≡ rowAt rows b) (own-law : (j : ℕ) → member own j ≡ (member known j || eqb b j)) (next-law : (j : ℕ) → member next j ≡ (member s j || member own j))
     (step-row : step ≡ rowAt follows b) (sum-law : (j : ℕ) → member sum j ≡ (member left j || member step j)) (others-law : (j : ℕ) → member others j ≡ (member sum j && not (member next j))) where
@@ -124,12 +132,6 @@ module _ {follows rows : List ℕ} (k : Closed follows rows) {a : ℕ} {s left :
 
   pub gather-more : Gathered follows a next others
   gather-more = record { sound = sound-more; begun = λ x g. kept x (p .begun x g); onward = λ x y m g. onward-more x y (next-is x m) g; apart = λ x m. others-is x m .1 }
-
-  -- one name more is gathered
-  pub gather-fewer : countBelow places (λ x. not (member next x)) < countBelow places (λ x. not (member s x))
-  gather-fewer =
-      count-lt places (λ x. not (member next x)) (λ x. not (member s x)) (λ x h e. not-is (member s x) .1 (refuted (member s x) (λ m. both-ways (member next x) (next-has x (inl m)) (not-is (member next x) .0 e)))) b (found .0)
-      (ap not (next-has b (inr (inr refl)))) (ap not (p .apart b (found .1)))
 
 -- none is left
 module _ {follows : List ℕ} {a : ℕ} {s left : NameSet} (p : Gathered follows a s left) (none : (j : ℕ) → member left j ≡ false) where

@@ -43,7 +43,8 @@ with-requires : tie.Need-with-requires Inv-loop μ-loop
 with-requires c κs =
     let first = c .before .before .before .before .before .before in
     let turn = first .before in
-    turn-first (turn .before .is-empty .ensures) (turn .if1 .taken) (first .first .ensures) .0
+    let found = turn-first (turn .before .is-empty .ensures) (turn .if1 .taken) (first .first .ensures) in
+    omega (arith, found .0)
 
 loop-less : tie.Need-loop-less Inv-loop μ-loop
 loop-less c =

@@ -35,15 +35,10 @@ row-at-requires-3 c κs = let pick = c .before .before .before in omega (arith, 
 
 loop-less : tie.Need-loop-less Inv-loop μ-loop
 loop-less c =
-    let sum = c .before in
-    let step = sum .before in
-    let next = step .before in
+    let next = c .before .before .before in
     let own = next .before in
-    let known = own .before in
-    let pick = known .before in
-    let inv = pick .before .before .before .loop .inv in
-    gather-fewer (inv .1) (inv .2) (pick .pick .ensures) _ _ _ _ _ _ (known .row-at2 .ensures) (own .with .ensures .members) (next .union .ensures .members)
-    (step .row-at3 .ensures) (sum .union2 .ensures .members) (c .minus .ensures .members)
+    let pick = own .before .before in
+    gather-fewer (pick .before .before .before .loop .inv .2) (pick .pick .ensures) _ _ _ (own .with .ensures .members) (next .union .ensures .members)
 
 loop-again : tie.Need-loop-again Inv-loop μ-loop
 loop-again c =
