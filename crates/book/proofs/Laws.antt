@@ -9,7 +9,7 @@ use native.Mathlib.Decide.{decLt}
 use native.Mathlib.Nat.{le-of-suc-le-suc}
 use lib.Dec.{ltb}
 use lib.ListN.{length, take, drop, getD, length-replicate, List·getD-append}
-use lib.Seq.{sets-eq, drop-drop}
+use lib.Seq.{sets-eq}
 use borrow.Author.Tests.{ltb-true, ltb-false}
 use Rattle.refusal.specs.declared.Refusal.{Refusal}
 use Rattle.refusal.specs.declared.Refusal.the-variants.{BookTooLong}
@@ -27,13 +27,13 @@ use Rattle.book.specs.declared.Layout.{Layout}
 use Rattle.book.specs.declared.Reading.{Reading}
 use Rattle.book.specs.Field.{Field, countSize}
 use Rattle.book.specs.Book.{Block, Book, allBelow, longestBook, nameSection, blockSection, bookOf, namesIn, blocksIn}
-use Rattle.book.specs.Bytes.{nameBytes, namesBytes, blocksBytes}
-use Rattle.book.specs.Layout.{offsetsFrom, endFrom, noOffsets, offsetTable, layoutOf, noReading, readingOf}
+use Rattle.book.specs.Bytes.{nameBytes, namesBytes}
+use Rattle.book.specs.Layout.{offsetsFrom, noOffsets, offsetTable, layoutOf, noReading, readingOf}
 use Rattle.book.specs.Access.{LaidOut}
 use Rattle.book.specs.Stops.{Rising, none, one, BlocksBelow}
 use Rattle.book.proofs.Parts.{byte-at}
 use Rattle.book.proofs.Placed.{name-placed}
-use Rattle.book.proofs.Sections.{name-section-told, block-section-told, behind-names}
+use Rattle.book.proofs.Sections.{name-section-told, block-section-told}
 
 -- ---- the whole book
 
@@ -47,11 +47,9 @@ pub record BookTold (s : List ℕ) (b : Book) : Type 0 where
   pub rising : Rising [] (b .names)
   -- every parent and every child number is below N
   pub within : BlocksBelow (length (b .names)) (b .blocks)
-  -- the names stand behind the count N, and the blocks behind the names and the count M
-  pub enough : countSize ≤ length s
+  -- the names stand behind the count N
   pub after-names : List ℕ
   pub names-stand : drop countSize s ≡ namesBytes (b .names) after-names
-  pub blocks-stand : drop (endFrom countSize (b .names) + countSize) s ≡ blocksBytes (b .blocks) []
 
 pub book-told : (s : List ℕ) (b : Book) → bookOf s ≡ given b → BookTold s b
 unfolding bookOf
@@ -63,17 +61,14 @@ book-told s b e = named (check-given (ltb longestBook (length s)) BookTooLong _ 
         let t = name-section-told s f p in
         let u = block-section-told (length (f .value)) (f .rest) bs q in
         let c = count-bounds (length (f .value)) (t .good) in
-        let z = behind-names s countSize (f .value) (f .rest) (t .enough) (t .bytes) in
         record {
           short = l;
           some-name = c .0;
           few-names = c .1;
           rising = t .rising;
           within = u .within;
-          enough = t .enough;
           after-names = f .rest;
           names-stand = t .bytes;
-          blocks-stand = sym (drop-drop countSize (endFrom countSize (f .value)) s) ∙ ap (drop countSize) (z .1) ∙ u .bytes;
         }
 
     blocked : length s ≤ longestBook → (f : Field (List (List ℕ))) → nameSection s ≡ given f →
@@ -171,14 +166,10 @@ module _ (s : List ℕ) (l : Layout) (laid : LaidOut s l) where
   unfolding blocksIn
   blocks-in = rw (laid .read)
 
-  -- the layout's counts are those of the names and the blocks
+  -- the layout's count is that of the names
   pub name-count : l .names ≡ length (namesIn s)
   unfolding layoutOf
   name-count = ap (λ (x : Layout). x .names) (laid .same) ∙ ap length (sym names-in)
-
-  pub block-count : l .blocks ≡ length (blocksIn s)
-  unfolding layoutOf
-  block-count = ap (λ (x : Layout). x .blocks) (laid .same) ∙ ap length (sym blocks-in)
 
   pub few-names : l .names ≤ places
   few-names = rw (name-count, names-in) (laid-told .few-names)
@@ -192,11 +183,6 @@ module _ (s : List ℕ) (l : Layout) (laid : LaidOut s l) where
   -- every parent and every child is below N
   pub blocks-within : BlocksBelow (l .names) (blocksIn s)
   blocks-within = rw (name-count, names-in, blocks-in) (laid-told .within)
-
-  -- the blocks stand from `body` on, up to the end
-  pub blocks-stand : drop (l .body) s ≡ blocksBytes (blocksIn s) []
-  unfolding layoutOf
-  blocks-stand = rw (ap (λ (x : Layout). x .body) (laid .same), blocks-in) (laid-told .blocks-stand)
 
   pub name-laid : (i : ℕ) → i < l .names → NameLaid s (getD (l .offsets) i 0) (getD (namesIn s) i [])
   unfolding layoutOf
@@ -217,10 +203,6 @@ pub reading-refused : (a : Answer Book) (r : Reading) (f : Refusal) → r ≡ re
 unfolding readingOf noReading
 reading-refused (given b) r f e o = absurd (Done≢Refused f (sym (ap (λ (x : Reading). x .outcome) e) ∙ o))
 reading-refused (refused g) r f e o = ap refused (refused-alike g f (sym (ap (λ (x : Reading). x .outcome) e) ∙ o))
-
--- a book that was read without a refusal is laid out as the answer says
-pub laid-out : (s : List ℕ) (r : Reading) → r ≡ readingOf (bookOf s) → r .outcome ≡ Done → LaidOut s (r .layout)
-laid-out s r e d = let (b, q, l) = reading-done (bookOf s) r e d in record { book = b; read = q; same = l }
 
 -- ---- its words
 

@@ -30,10 +30,3 @@ pub enum Found {
     At(usize),
     Nothing,
 }
-
-// Where a block stands: its children are the bytes from `from` up to `to`, and the next block stands at `to`.
-pub struct BlockPlace {
-    pub parent: usize,
-    pub from: usize,
-    pub to: usize,
-}

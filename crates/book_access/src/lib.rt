@@ -1,8 +1,5 @@
-// Back to a name or a block of a book that was read.
-use book::BlockPlace;
-use book::CHILD_COUNT_AT;
+// Back to a name of a book that was read.
 use book::Found;
-use book::HEAD_SIZE;
 use book::Layout;
 use book_bytes::part;
 use book_bytes::wide;
@@ -13,7 +10,7 @@ ghost use Prim.Native.Nat.{_+_, _≤_, _<_};
 ghost use lib.ListN.{length, getD, take, drop};
 ghost use Rattle.name_order.specs.Order.{orderOf};
 ghost use Rattle.book.specs.Book.{namesIn};
-ghost use Rattle.book.specs.Access.{LaidOut, numberIn, BlockFits, blockPlace};
+ghost use Rattle.book.specs.Access.{LaidOut, numberIn};
 
 // The name whose length byte stands at a place.
 fn name_at_place(bytes: &[u8], at: usize) -> &[u8]
@@ -66,17 +63,4 @@ pub fn find_name(bytes: &[u8], layout: Layout, text: &[u8]) -> Found
         }
     }
     Found::Nothing
-}
-
-// The block at a place. That a block of the book stands there is the caller's to know (`next-block` of `book`).
-pub fn block_at_place(bytes: &[u8], at: usize) -> BlockPlace
-    requires { ⌜ BlockFits (now bytes) at ⌝ }
-    ensures { λ r. ⌜ r ≡ blockPlace (now (bytes .entry)) at ⌝ }
-{
-    let from = at + HEAD_SIZE;
-    BlockPlace {
-        parent: wide(bytes[at]),
-        from,
-        to: from + wide(bytes[at + CHILD_COUNT_AT]),
-    }
 }

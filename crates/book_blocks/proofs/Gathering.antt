@@ -13,11 +13,9 @@ use Rattle.book.specs.Book.{Block, blockOf, blocksOf}
 use Rattle.book.specs.Bytes.{headSize}
 use Rattle.book.specs.Stops.{BlocksBelow}
 use Rattle.book.proofs.Told.{block-told}
-use Rattle.book_blocks.specs.declared.BlocksEnd.the-variants.{End, Stopped}
-use Rattle.book_blocks.specs.Tables.{blocksEnd}
 use Rattle.book_blocks.specs.Gathers.{Gathers, withOthers, blocksFrom, GathersAll}
 use Rattle.book_blocks.proofs.Steps.{BlockRead}
-use Rattle.book_blocks.proofs.Walk.{Walk, walk-none, walk-done, walk-stopped, walk-more}
+use Rattle.book_blocks.proofs.Walk.{Walk, walk-none, walk-more}
 
 -- ---- the blocks from the front of some bytes
 

@@ -74,10 +74,6 @@ module _ {old new : List ℕ} {test : ℕ → ℕ → Bool} {i : ℕ} (r : Fille
           rw (t, q) (put-same new i s b z ∙ e b)
       at a b (no q) = put-other new i a s b q ∙ r .law a b ∙ rw (below-next a i q)
 
-  -- the row whose turn it is
-  pub fill-own : (b : ℕ) → inRow new i b ≡ inRow old i b
-  fill-own b = r .law i b ∙ rw (le-ltb i i (omega arith))
-
   pub fill-all : (n : ℕ) → n ≤ i → ((a b : ℕ) → n ≤ a → inRow old a b ≡ test a b) → (a b : ℕ) → inRow new a b ≡ test a b
   fill-all n h rest a b = r .law a b ∙ at (decLt a i)
     where

@@ -12,16 +12,13 @@ use lib.Seq.{take-all}
 use borrow.Author.Tests.{eq-eqb, ne-eqb}
 use Rattle.nameset.specs.Places.{places}
 use Rattle.nameset.specs.declared.NameSet.{NameSet}
-use Rattle.nameset.specs.Set.{member}
 use Rattle.nameset.specs.Rows.{IsRows, rowAt}
 use Rattle.nameset.specs.Promise.{Emptiness}
-use Rattle.model.specs.declared.Model.{Model}
 use Rattle.model.specs.Accept.{Names}
 use Rattle.follow.specs.declared.Facts.{Facts}
 use Rattle.follow.specs.Follow.{Follow, someWord, beginsWith, isEmpty, followOf}
 use Rattle.follow.specs.View.{viewOf, factsWith}
 use Rattle.follow.specs.Sample.{Over}
-use Rattle.follow.specs.Adding.{factsOf}
 use Rattle.follow.proofs.Laws.{facts-shown}
 use Rattle.follow_row.specs.Row.{rowHead, rowSize, factsIn, OfWords}
 use Rattle.chain_levels.specs.Below.{anyBelow}

@@ -3,8 +3,7 @@
 use Prim.Native.Nat.{ℕ, _+_, _/_, _≤_}
 use mathlib.Core.Path.{_≡_, refl, sym, _∙_, ap, subst}
 use mathlib.Core.Bool.{cond}
-use mathlib.Core.List.{List, []}
-use mathlib.Core.Logic.{_⊎_, ⊎-elim}
+use mathlib.Core.List.{List}
 use native.Mathlib.Omega.{arith}
 use lib.Dec.{ltb}
 use lib.ListN.{length}
@@ -12,14 +11,14 @@ use lib.Seq.{length-sets}
 use Rattle.refusal.specs.declared.Refusal.{Refusal}
 use Rattle.refusal.specs.declared.Outcome.the-variants.{Done, Refused}
 use Rattle.refusal.specs.Table.{numberOf}
-use Rattle.refusal.specs.Answer.{given, refused, outcomeOf}
+use Rattle.refusal.specs.Answer.{refused, outcomeOf}
 use Rattle.refusal.proofs.Answers.{outcome-refused, outcome-given}
 use Rattle.book.specs.Taken.{takenBook}
 use Rattle.declaration_writing.specs.declared.Written.{Written}
 use Rattle.declaration_writing.specs.Write.{lengthDue, written, bufferAfter}
 use Rattle.byte_buffer.specs.Put.{wrote, Put}
 use Rattle.byte_buffer.proofs.Puts.{wrote-none, put-is}
-use Rattle.intake_dtd.specs.Dtd.{dtdOf, dtdAnswer, WritesDtd, longestDtd}
+use Rattle.intake_dtd.specs.Dtd.{dtdAnswer, WritesDtd, longestDtd}
 use Rattle.intake_dtd.proofs.Short.{dtd-short, room-given, room-refused}
 use Rattle.dtd_output.specs.Output.{refusedText, outputOf}
 use Rattle.dtd_output.proofs.Refused.{room}

@@ -21,7 +21,7 @@ use Rattle.book.specs.declared.Layout.{Layout}
 use Rattle.book.specs.Book.{Block, allBelow, blocksIn}
 use Rattle.book.specs.Access.{LaidOut}
 use Rattle.book.specs.Stops.{BlocksBelow}
-use Rattle.book.proofs.Laws.{few-names, blocks-within}
+use Rattle.book.proofs.Laws.{blocks-within}
 use Rattle.model.specs.Accept.{Names}
 use Rattle.model.proofs.Tests.{and-left, and-right, or-split, or-right, same-test}
 use Rattle.follow.specs.declared.Facts.{Facts}
@@ -170,11 +170,6 @@ facts-shown n words l h =
         fact noFacts ≡ false → fact (withWords noFacts words) ≡ someWord test words
     shown fact test step none =
         words-shown fact test step noFacts words length-none (fewer-over n places words l h) ∙ ap (λ (t : Bool). t || someWord test words) none
-
--- The same of the sample of a parent of a book.
-pub sample-shown : (s : List ℕ) (l : Layout) (parent : ℕ) → LaidOut s l →
-    viewOf (l .names) (factsOf (wordsOf parent (blocksIn s))) ≡ followOf (l .names) (wordsOf parent (blocksIn s))
-sample-shown s l parent laid = facts-shown (l .names) (wordsOf parent (blocksIn s)) (few-names s l laid) (sample-over s l parent laid)
 
 -- ---- order and repeats
 

@@ -62,8 +62,9 @@ pub fn gather_block(bytes: &[u8], n: usize, at: usize, table: &mut [u64]) -> Blo
 {
     match block_at(bytes, n, at) {
         BlockStep::Block(size) => {
+            let parent = wide(bytes[at]);
             let from = at + HEAD_SIZE;
-            add_to_table(table, wide(bytes[at]), part(bytes, from, from + size));
+            add_to_table(table, parent, part(bytes, from, from + size));
             BlockStep::Block(size)
         }
         BlockStep::Stopped(refusal) => BlockStep::Stopped(refusal),

@@ -5,15 +5,13 @@ use mathlib.Core.Path.{_≡_, refl, sym, _∙_, ap, subst}
 use mathlib.Core.Bool.{Bool, true, false, cond}
 use mathlib.Core.List.{List, [], _∷_, _++_}
 use native.Mathlib.Omega.{arith}
-use lib.Dec.{ltb}
 use lib.ListN.{length, length-append}
 use borrow.Author.Tests.{le-ltb}
 use Rattle.refusal.specs.declared.Refusal.{Refusal}
-use Rattle.refusal.specs.declared.Refusal.the-variants.{BufferTooShort}
 use Rattle.refusal.specs.Answer.{Answer, given, refused, onward}
 use Rattle.refusal.proofs.Answers.{given-same, refused-same, given-refused}
 use Rattle.nameset.specs.Places.{places}
-use Rattle.book.specs.Book.{Book, namesIn}
+use Rattle.book.specs.Book.{Book}
 use Rattle.book.specs.Layout.{layoutOf}
 use Rattle.book.specs.Access.{LaidOut}
 use Rattle.book.specs.Taken.{takenBook, TakenAs}

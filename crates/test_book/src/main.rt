@@ -2,11 +2,15 @@
 // length in three bytes, the low one first. The line has the label, the refusal's number (0 for none), N, M, the number
 // of the name that is the text (or -), and each block as its parent, a colon and the number of its children.
 use book::Found;
+use book::HEAD_SIZE;
 use book::Layout;
+use book_blocks::BlockStep;
+use book_blocks::block_at;
 use book_bytes::wide;
 use refusal::Outcome;
 ghost use Prim.Native.Nat.{_≤_};
 ghost use lib.ListN.{length};
+ghost use Rattle.book.specs.Book.{longestBook};
 ghost use Rattle.book.specs.Access.{LaidOut};
 
 fn print_found(found: Found) {
@@ -18,25 +22,29 @@ fn print_found(found: Found) {
 
 // Each block's parent and number of children.
 fn print_blocks(bytes: &[u8], layout: Layout)
-    requires { ⌜ LaidOut (now bytes) layout ⌝ }
+    requires { ⌜ length (now bytes) ≤ longestBook ⌝ }
 {
     let mut at = layout.body;
     let mut left = layout.blocks;
     while 0 < left {
-        let block = book_access::block_at_place(bytes, at);
-        print_block(block.parent, block.from, block.to);
-        at = block.to;
+        match block_at(bytes, layout.names, at) {
+            BlockStep::Block(size) => {
+                print_block(wide(bytes[at]), size);
+                at = at + HEAD_SIZE + size;
+            }
+            BlockStep::Stopped(_) => {
+                return;
+            }
+        }
         left -= 1;
     }
 }
 
-fn print_block(parent: usize, from: usize, to: usize) {
+fn print_block(parent: usize, children: usize) {
     test_lines::print(b" ");
     test_lines::print_number(parent);
     test_lines::print(b":");
-    if from <= to {
-        test_lines::print_number(to - from);
-    }
+    test_lines::print_number(children);
 }
 
 fn print_head(label: &[u8], refusal: u8, names: usize, blocks: usize) {

@@ -11,7 +11,7 @@ use Rattle.refusal.specs.declared.Refusal.{Refusal}
 use Rattle.refusal.specs.declared.Refusal.the-variants.{BookTooLong, BytesMissing}
 use Rattle.refusal.specs.declared.Outcome.the-variants.{Done, Refused}
 use Rattle.refusal.specs.Answer.{given, refused}
-use Rattle.book.specs.Field.{field, countSize, countAt, countOf}
+use Rattle.book.specs.Field.{countSize, countAt, countOf}
 use Rattle.book.specs.Book.{nameSection, longestBook}
 use Rattle.book.specs.Layout.{noReading}
 use Rattle.book.proofs.Counts.{count-missing, count-given}

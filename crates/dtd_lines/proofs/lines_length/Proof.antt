@@ -4,7 +4,6 @@ use Prim.Native.Nat.{_-_}
 use mathlib.Core.Path.{_≡_, sym, _∙_, ap, subst}
 use native.Mathlib.Omega.{arith}
 use lib.ListN.{length}
-use borrow.Author.Needs.{needs}
 use Rattle.book.specs.Book.{namesIn}
 use Rattle.follow_row.specs.Row.{OfWords}
 use Rattle.dtd_lines.specs.Lines.{factLine, tableFacts}

@@ -5,7 +5,6 @@ use mathlib.Core.Path.{sym, subst}
 use mathlib.Core.List.{List}
 use native.Mathlib.Omega.{arith}
 use lib.ListN.{length}
-use borrow.Author.Needs.{needs}
 use Rattle.book.specs.Book.{namesIn}
 use Rattle.follow_row.specs.Row.{OfWords}
 use Rattle.byte_buffer.proofs.Puts.{Left, put-is}

@@ -1,6 +1,5 @@
 -- `gather_blocks` meets its contract: block after block, the row keeps what the blocks so far show of the parent.
 -- Assumes nothing.
-use Prim.Native.Nat.{ℕ}
 use mathlib.Core.Path.{_≡_, sym, _∙_}
 use native.Mathlib.Omega.{arith}
 use lib.ListN.{length}

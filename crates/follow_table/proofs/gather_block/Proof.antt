@@ -29,11 +29,11 @@ placed : (c : tie.After-known-told) →
     BlockRead (a .n) (a .bytes .now) (a .at) (c .before .size .given .0 .0)
 placed c = block-read _ _ _ _ (sym (c .before .before .before .block-at .ensures) ∙ c .before .size .given .1)
 
-add-from : tie.Need-add-from
-add-from c = omega (arith, placed c .fits, c .before .before .before .before .before .before .pre .0)
-
 shared-slice-read-wide : tie.Need-shared-slice-read-wide
-shared-slice-read-wide c = omega (arith, placed (c .before .before) .fits)
+shared-slice-read-wide c = omega (arith, placed (c .before) .fits)
+
+add-from : tie.Need-add-from
+add-from c = let k = c .before .before in omega (arith, placed k .fits, k .before .before .before .before .before .before .pre .0)
 
 add-part : tie.Need-add-part
 add-part c = let k = c .before .before .before in omega (arith, placed k .fits, k .before .before .before .before .before .before .pre .0)
@@ -46,7 +46,7 @@ add-to-table-requires c κs =
     let k = c .before .before .before .before in
     let b = placed k in
     let pre = k .before .before .before .before .before .before .pre in
-    (pre .2, omega (arith, c .before .wide .ensures .0, b .parent, b .below, pre .1), word-below _ _ _ _ b _ (c .part .ensures) (pre .1))
+    (pre .2, omega (arith, c .before .before .wide .ensures .0, b .parent, b .below, pre .1), word-below _ _ _ _ b _ (c .part .ensures) (pre .1))
 
 returns : tie.Need-returns
 returns c =
@@ -55,7 +55,7 @@ returns c =
     let a = c .before .before .add-to-table .ensures in
     (
       sym (k .before .size .given .1) ∙ k .before .before .before .block-at .ensures,
-      added _ _ _ _ (placed k) _ (w .part .ensures) _ (w .before .wide .ensures .0) _ _ a,
+      added _ _ _ _ (placed k) _ (w .part .ensures) _ (w .before .before .wide .ensures .0) _ _ a,
       a .size,
     )
 
@@ -73,5 +73,5 @@ returns-2 c =
 pub gather-block-spec : {M : Type 1} → statement M
 gather-block-spec =
     tie.close
-    (tie.spec (λ c κs. search needs) (λ c. search needs) add-from shared-slice-read-wide (λ c κs. search needs) add-part part-requires
+    (tie.spec (λ c κs. search needs) (λ c. search needs) shared-slice-read-wide (λ c κs. search needs) add-from add-part part-requires
     add-to-table-requires (λ c. search needs) (λ c. search needs) returns returns-2)
