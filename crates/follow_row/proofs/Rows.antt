@@ -1,8 +1,8 @@
 -- A word added to a row.
 -- Assumes nothing.
 use Prim.Native.Nat.{ℕ, suc, _-_}
-use mathlib.Core.Path.{_≡_, refl, _∙_, ap}
-use mathlib.Core.Bool.{_||_}
+use mathlib.Core.Path.{_≡_, refl, sym, _∙_, ap}
+use mathlib.Core.Bool.{or-true}
 use mathlib.Core.List.{List, [], _∷_, _++_, append-nil}
 use native.Mathlib.Omega.{arith}
 use lib.Dec.{eqb}
@@ -13,8 +13,8 @@ use Rattle.nameset.specs.declared.NameSet.{NameSet}
 use Rattle.nameset.specs.Rows.{rowAt, putRow}
 use Rattle.nameset.proofs.Rows.{row-kept}
 use Rattle.follow.specs.Follow.{isEmpty}
-use Rattle.follow.specs.Adding.{withFirst, withLast, withPairs}
-use Rattle.follow.proofs.Words.{word-added}
+use Rattle.follow.specs.Adding.{withFirst, withLast, withPairs, withWord}
+use Rattle.follow.proofs.Words.{no-name, empty-some, word-added}
 use Rattle.follow_row.specs.Row.{rowSize, factsIn, withEnds, HeadAdded, RowAdded}
 
 -- the two sets, read and put by the code: u₁ is the row after the first
@@ -25,16 +25,31 @@ ends-put u u₁ v w p s q e ep es eu eq ee ev =
     let z : q ≡ rowAt u 1 = eq ∙ ap (λ (r : List ℕ). rowAt r 1) eu ∙ row-kept u 0 1 s (λ n. omega arith) in
     rw (ev, eu, ee, z, es, ep)
 
--- behind the two sets the mark is written
-pub head-added : (u v w : List ℕ) (m : ℕ) → v ≡ withEnds u w → length u ≡ rowSize → eqb m 1 ≡ (eqb (getD v 2 0) 1 || isEmpty w) → HeadAdded u w (set v 2 m)
-unfolding withEnds rowAt putRow
-head-added u v w m e l em = rw e (at u l (em ∙ ap (λ (r : List ℕ). eqb (getD r 2 0) 1 || isEmpty w) e))
+-- a word without a name: the mark alone changes
+pub empty-added : (u w : List ℕ) → length u ≡ rowSize → length w ≡ 0 → RowAdded u w (set u 2 1)
+unfolding factsIn rowAt withWord withFirst withLast withPairs isEmpty
+empty-added u w l e = rw (no-name w e) (at u l)
   where
-    at : (u : List ℕ) → length u ≡ rowSize → eqb m 1 ≡ (eqb (getD (withEnds u w) 2 0) 1 || isEmpty w) → HeadAdded u w (set (withEnds u w) 2 m)
+    at : (u : List ℕ) → length u ≡ rowSize → RowAdded u [] (set u 2 1)
     at [] l = absurd (omega arith)
     at (a ∷ []) l = absurd (omega arith)
     at (a ∷ (b ∷ [])) l = absurd (omega arith)
-    at (a ∷ (b ∷ (c ∷ f))) l = λ em. record { size = l; starts = refl; ends = refl; empty = em; follows = refl }
+    at (a ∷ (b ∷ (c ∷ f))) l =
+        record {
+          size = l;
+          facts = λ i. record { starts = record { bits = a }; ends = record { bits = b }; follows = f; empty = sym (or-true (eqb c 1)) i };
+        }
+
+-- a word with a name: its first and its last, and the mark stays
+head-added : (u v w : List ℕ) → v ≡ withEnds u w → length u ≡ rowSize → (length w ≡ 0 → ⊥) → HeadAdded u w v
+unfolding withEnds rowAt putRow
+head-added u v w e l d = rw e (at u l)
+  where
+    at : (u : List ℕ) → length u ≡ rowSize → HeadAdded u w (withEnds u w)
+    at [] l = absurd (omega arith)
+    at (a ∷ []) l = absurd (omega arith)
+    at (a ∷ (b ∷ [])) l = absurd (omega arith)
+    at (a ∷ (b ∷ (c ∷ f))) l = record { size = l; starts = refl; ends = refl; empty = empty-some (eqb c 1) w d; follows = refl }
 
 module _ (v : List ℕ) (l : length v ≡ rowSize) where
   left-long : length (drop 3 v) ≡ places
@@ -60,8 +75,9 @@ pairs-added u w r (a ∷ (b ∷ (c ∷ f))) h =
       facts = word-added (factsIn u) _ _ r w _ (h .starts) (h .ends) er (h .empty);
     }
 
-pub row-added : (u w v r : List ℕ) → HeadAdded u w v → r ≡ withPairs (take (length v - 3) (drop 3 v)) w → length r ≡ places →
+pub row-added : (u w v r : List ℕ) → v ≡ withEnds u w → length u ≡ rowSize → (length w ≡ 0 → ⊥) → r ≡ withPairs (take (length v - 3) (drop 3 v)) w → length r ≡ places →
     RowAdded u w (take 3 v ++ (r ++ drop (length v - 3) (drop 3 v)))
-row-added u w v r h er lr =
+row-added u w v r e l d er lr =
+    let h = head-added u v w e l d in
     rw (none-behind v (h .size), append-nil r)
     (pairs-added u w r v h (er ∙ ap (λ (p : List ℕ). withPairs p w) (part-all v (h .size) ∙ h .follows)) lr)

@@ -6,13 +6,11 @@ use nameset::PLACES;
 use nameset::put_row;
 use nameset::row_at;
 ghost use mathlib.Core.Path.{_≡_};
-ghost use mathlib.Core.Bool.{true, _||_};
-ghost use lib.Dec.{eqb};
+ghost use mathlib.Core.Bool.{true};
 ghost use lib.ListN.{length};
 ghost use Rattle.nameset.specs.Places.{places};
 ghost use Rattle.book.specs.Book.{allBelow};
-ghost use Rattle.follow.specs.Follow.{isEmpty};
-ghost use Rattle.follow_row.specs.Row.{rowSize, withEnds, HeadAdded, RowAdded};
+ghost use Rattle.follow_row.specs.Row.{rowSize, withEnds, RowAdded};
 
 // A row: the set of starts and the set of ends, as rows of `nameset`; 1 where a word is empty; then the names that
 // follow each name.
@@ -26,16 +24,6 @@ pub const FOLLOWS: usize = 3;
 
 pub const ROW: usize = FOLLOWS + PLACES;
 
-// 1 where there was an empty word before, or this one is empty.
-fn mark_empty(mark: u64, word: &[u8]) -> u64
-    ensures { λ r. ⌜ eqb r 1 ≡ (eqb mark 1 || isEmpty (now (word .entry))) ⌝ }
-{
-    if word.len() == 0 {
-        return 1;
-    }
-    mark
-}
-
 // Puts the first name of a word into the starts of a row, and the last into the ends.
 fn add_ends(row: &mut [u64], word: &[u8])
     requires { ⌜ (length (now row) ≡ rowSize) × (allBelow places (now word) ≡ true) ⌝ }
@@ -47,20 +35,15 @@ fn add_ends(row: &mut [u64], word: &[u8])
     put_row(row, ENDS, ends);
 }
 
-// Adds a word to a row, all but its pairs.
-fn add_to_head(row: &mut [u64], word: &[u8])
-    requires { ⌜ (length (now row) ≡ rowSize) × (allBelow places (now word) ≡ true) ⌝ }
-    ensures { λ _. ⌜ HeadAdded (now (row .entry)) (now (word .entry)) (now (row .exit)) ⌝ }
-{
-    add_ends(row, word);
-    row[EMPTY] = mark_empty(row[EMPTY], word);
-}
-
 // Adds a word to a row: the facts change only by what that word shows (paper 01).
 pub fn add_to_row(row: &mut [u64], word: &[u8])
     requires { ⌜ (length (now row) ≡ rowSize) × (allBelow places (now word) ≡ true) ⌝ }
     ensures { λ _. ⌜ RowAdded (now (row .entry)) (now (word .entry)) (now (row .exit)) ⌝ }
 {
-    add_to_head(row, word);
+    if word.len() == 0 {
+        row[EMPTY] = 1;
+        return;
+    }
+    add_ends(row, word);
     add_pairs(&mut row[FOLLOWS..], word);
 }
