@@ -109,7 +109,7 @@ module _ (K : List Block → List ℕ → Type 0) (s : List ℕ) (n m from : ℕ
             seen = g .seen ++ one;
             kept = λ bs k. subst (λ (cs : List Block). K cs u) (append-assoc bs (g .seen) one) (own (bs ++ g .seen) (g .kept bs k));
             split =
-              g .split
-              ∙ ap (λ (bs : List Block). g .seen ++ bs) (first ∙ rw (b .read, b .rest))
-              ∙ sym (append-assoc (g .seen) one (blocksFrom n (left - 1) (drop (at + headSize + size) s)));
+                g .split
+                ∙ ap (λ (bs : List Block). g .seen ++ bs) (first ∙ rw (b .read, b .rest))
+                ∙ sym (append-assoc (g .seen) one (blocksFrom n (left - 1) (drop (at + headSize + size) s)));
           }

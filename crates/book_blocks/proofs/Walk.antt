@@ -49,7 +49,7 @@ module _ (s : List ℕ) (n m from left at : ℕ) (w : Walk s n m from left at) w
         record {
           within = t .fits;
           same =
-            w .same
-            ∙ ap (λ (l : ℕ). blocksEnd at (blocksOf n l (drop at s))) k
-            ∙ rw (t .read, t .rest, ← t .size) (one-more at (t .block .value) (blocksOf n (left - 1) (t .block .rest)));
+              w .same
+              ∙ ap (λ (l : ℕ). blocksEnd at (blocksOf n l (drop at s))) k
+              ∙ rw (t .read, t .rest, ← t .size) (one-more at (t .block .value) (blocksOf n (left - 1) (t .block .rest)));
         }

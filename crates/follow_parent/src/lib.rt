@@ -85,13 +85,6 @@ pub fn take_parent(bytes: &[u8], parent: usize, row: &mut [u64]) -> Reading
         return book_reading::refused(refusal);
     }
     let layout = opened.layout;
-    let blocks = gather_blocks(
-        bytes,
-        layout.names,
-        layout.blocks,
-        layout.body,
-        parent,
-        row,
-    );
+    let blocks = gather_blocks(bytes, layout.names, layout.blocks, layout.body, parent, row);
     close_book(bytes, layout, blocks)
 }

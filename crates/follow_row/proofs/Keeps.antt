@@ -60,9 +60,9 @@ module _ (p : ℕ) (bs : List Block) (b : Block) (u : List ℕ) (k : RowKeeps p 
       record {
         size = a .size;
         facts =
-          a .facts
-          ∙ ap (λ (f : Facts). withWord f (b .word)) (k .facts)
-          ∙ sym (ap factsOf (words-own p bs b (eq-eqb (b .parent) p e)) ∙ more-facts (wordsOf p bs) (b .word));
+            a .facts
+            ∙ ap (λ (f : Facts). withWord f (b .word)) (k .facts)
+            ∙ sym (ap factsOf (words-own p bs b (eq-eqb (b .parent) p e)) ∙ more-facts (wordsOf p bs) (b .word));
       }
 
   -- a block of another parent

@@ -13,8 +13,7 @@ use Rattle.chain_sample.proofs.row_chain.Tie as tie
 chain-requires : tie.Need-chain-requires
 chain-requires c κs =
     let f = c .before .before .before .before .before in
-    let size = f .pre .1 .size in
-    (
+    let size = f .pre .1 .size in (
       f .pre .0,
       rows-taken (f .args .row .now) size _ refl,
       facts-shown-in _ (f .args .row .now) (f .pre .0) (f .pre .1) _ (facts-taken (f .args .row .now) size _ _ _ (c .before .before .before .row-at .ensures) (c .before .before .row-at2 .ensures) refl),

@@ -34,8 +34,7 @@ put-line-requires c κs =
     let l = c .before .before .before .before in
     let p = l .before .before .before .before .pre in
     let below = c .before .before .if1 .taken in
-    let room = line-room _ _ _ _ below _ _ _ _ (l .loop .inv .1) (p .2) in
-    (
+    let room = line-room _ _ _ _ below _ _ _ _ (l .loop .inv .1) (p .2) in (
       p .0,
       below,
       subst (OfWords _) (sym (c .row-of .ensures .0)) (p .1 .rows _ below),

@@ -41,8 +41,7 @@ shared-slice-read-wide c = omega (arith, placed (c .before) .fits)
 
 returns : tie.Need-returns
 returns c =
-    let k = c .before .before .before in
-    (
+    let k = c .before .before .before in (
       sym (k .before .size .given .1) ∙ k .before .before .before .block-at .ensures,
       other _ _ _ _ (placed k) _ _ (c .before .wide .ensures .0) (c .if1 .taken) _,
       k .before .before .before .before .before .before .pre .2,
@@ -67,8 +66,7 @@ returns-2 : tie.Need-returns-2
 returns-2 c =
     let e = c .before .before .before .before .before in
     let k = e .before .before .before in
-    let added = c .before .before .add-to-row .ensures in
-    (
+    let added = c .before .before .add-to-row .ensures in (
       sym (k .before .size .given .1) ∙ k .before .before .before .block-at .ensures,
       own _ _ _ _ (placed k) _ (c .before .before .before .part .ensures) _ _ (e .before .wide .ensures .0) (e .if1 .left) _ _ added,
       added .size,
@@ -78,8 +76,7 @@ returns-3 : tie.Need-returns-3
 returns-3 c =
     let b = c .before .before .before in
     let a = b .before .before .before .args in
-    let step = sym (c .before .refusal .given .1) ∙ b .block-at .ensures in
-    (
+    let step = sym (c .before .refusal .given .1) ∙ b .block-at .ensures in (
       step,
       gathers-none (RowKeeps (a .parent)) (a .n) (a .bytes .now) (a .at) _ _ _ (block-stopped _ _ (sym step)) refl,
       b .before .before .before .pre .2,

@@ -52,8 +52,7 @@ returns : tie.Need-returns
 returns c =
     let w = c .before .before .before in
     let k = w .before .before .before .before in
-    let a = c .before .before .add-to-table .ensures in
-    (
+    let a = c .before .before .add-to-table .ensures in (
       sym (k .before .size .given .1) ∙ k .before .before .before .block-at .ensures,
       added _ _ _ _ (placed k) _ (w .part .ensures) _ (w .before .before .wide .ensures .0) _ _ a,
       a .size,
@@ -63,8 +62,7 @@ returns-2 : tie.Need-returns-2
 returns-2 c =
     let b = c .before .before .before in
     let a = b .before .before .before .args in
-    let step = sym (c .before .refusal .given .1) ∙ b .block-at .ensures in
-    (
+    let step = sym (c .before .refusal .given .1) ∙ b .block-at .ensures in (
       step,
       gathers-none Keeps (a .n) (a .bytes .now) (a .at) _ _ _ (block-stopped _ _ (sym step)) refl,
       b .before .before .before .pre .2,

@@ -36,8 +36,7 @@ put-lines-requires c κs =
     let book = exceed .before .before .before in
     let taken = book .before .before .before .take-table .ensures in
     let done = book .enum-told .given .1 in
-    let buffer = book .before .before .before .before .before .before .before .args .buffer .now in
-    (
+    let buffer = book .before .before .before .before .before .before .before .args .buffer .now in (
       laid _ _ (taken .0) done,
       of-words _ _ (taken .0) buffer done _ (taken .1),
       lines-fit _ _ (taken .0) buffer done _ (taken .1) (sym (exceed .lines-exceed .ensures) ∙ c .before .before .if1 .left),
