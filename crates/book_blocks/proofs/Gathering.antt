@@ -13,9 +13,13 @@ use Rattle.book.specs.Book.{Block, blockOf, blocksOf}
 use Rattle.book.specs.Bytes.{headSize}
 use Rattle.book.specs.Stops.{BlocksBelow}
 use Rattle.book.proofs.Told.{block-told}
+use Rattle.book_blocks.specs.declared.BlockStep.{BlockStep}
+use Rattle.book_blocks.specs.declared.BlockStep.the-variants.{Stopped as BlockStopped}
+use Rattle.book_blocks.specs.declared.BlocksEnd.the-variants.{End, Stopped}
+use Rattle.book_blocks.specs.Tables.{blockStep, blocksEnd}
 use Rattle.book_blocks.specs.Gathers.{Gathers, withOthers, blocksFrom, GathersAll}
-use Rattle.book_blocks.proofs.Steps.{BlockRead}
-use Rattle.book_blocks.proofs.Walk.{Walk, walk-none, walk-more}
+use Rattle.book_blocks.proofs.Steps.{BlockRead, block-stopped}
+use Rattle.book_blocks.proofs.Walk.{Walk, walk-none, walk-done, walk-stopped, walk-more}
 
 -- ---- the blocks from the front of some bytes
 
@@ -85,19 +89,26 @@ module _ (K : List Block → List ℕ → Type 0) (s : List ℕ) (n m from : ℕ
     all-seen : g .seen ≡ blocksFrom n m (drop from s) → (u : List ℕ) → u ≡ t → Gathered K s n m from t₀ u
     all-seen e u q bs k = rw (q, ← e) (g .kept bs k)
 
-    pub gather-done : left ≤ 0 → Gathered K s n m from t₀ t
-    gather-done h = all-seen (sym (g .split ∙ ap (λ (bs : List Block). g .seen ++ bs) (from-none n left (drop at s) h) ∙ append-nil (g .seen))) t refl
+    pub gather-done : left ≤ 0 → (End at ≡ blocksEnd from (blocksOf n m (drop from s))) × Gathered K s n m from t₀ t
+    gather-done h = (
+      walk-done s n m from left at (g .walk) h,
+      all-seen (sym (g .split ∙ ap (λ (bs : List Block). g .seen ++ bs) (from-none n left (drop at s) h) ∙ append-nil (g .seen))) t refl,
+    )
 
     module _ (more : 0 < left) where
       first : blocksFrom n left (drop at s) ≡ withOthers (blockOf n (drop at s)) (blocksFrom n (left - 1))
       unfolding blocksFrom
       first = ap (λ (l : ℕ). blocksFrom n l (drop at s)) (let k : left ≡ suc (left - 1) = omega arith in k)
 
-      pub gather-stopped : (r : Refusal) → blockOf n (drop at s) ≡ refused r → (u : List ℕ) → Gathers K (blockOf n (drop at s)) t u → Gathered K s n m from t₀ u
+      pub gather-stopped : (x : BlockStep) → x ≡ blockStep (blockOf n (drop at s)) → (r : Refusal) → x ≡ BlockStopped r → (u : List ℕ) → Gathers K (blockOf n (drop at s)) t u →
+          (Stopped r ≡ blocksEnd from (blocksOf n m (drop from s))) × Gathered K s n m from t₀ u
       unfolding withOthers
-      gather-stopped r e u step =
-          let same : u ≡ t = subst (λ (a : Answer (Field Block)). Gathers K a t u) e step in
-          all-seen (sym (g .split ∙ ap (λ (bs : List Block). g .seen ++ bs) (first ∙ rw e) ∙ append-nil (g .seen))) u same
+      gather-stopped x q r v u step =
+          let e = block-stopped (blockOf n (drop at s)) r (sym q ∙ v) in
+          let same : u ≡ t = subst (λ (a : Answer (Field Block)). Gathers K a t u) e step in (
+            walk-stopped s n m from left at (g .walk) more r e,
+            all-seen (sym (g .split ∙ ap (λ (bs : List Block). g .seen ++ bs) (first ∙ rw e) ∙ append-nil (g .seen))) u same,
+          )
 
       pub gather-more : (size : ℕ) → BlockRead n s at size → (u : List ℕ) → Gathers K (blockOf n (drop at s)) t u → Gathering K s n m from t₀ (left - 1) (at + headSize + size) u
       unfolding withOthers

@@ -6,7 +6,7 @@ use mathlib.Core.Bool.{or-true}
 use mathlib.Core.List.{List, [], _∷_, _++_, append-nil}
 use native.Mathlib.Omega.{arith}
 use lib.Dec.{eqb}
-use lib.ListN.{length, getD, set, take, drop, length-drop, drop-of-length-le}
+use lib.ListN.{length, set, take, drop, length-drop, drop-of-length-le}
 use lib.Seq.{take-all}
 use Rattle.nameset.specs.Places.{places}
 use Rattle.nameset.specs.declared.NameSet.{NameSet}
