@@ -124,8 +124,9 @@ curlewsong_written curlewsong_write_from_sample(const uint8_t *book, size_t book
 /* Writes the whole DTD of the book to the front of the buffer, and answers its length: for each parent with a block, in
  * rising number, the declaration of its model from its blocks, in canonical form, and a line feed. For a book that is
  * not refused this is what the program dtd prints. A book without blocks has the length 0. The bytes behind the text
- * keep their values, and no NUL is written. The blocks are read once for all parents, so this takes less time than a
- * call for each parent. Refusals, in this order: the book's (1 to 7), 12. */
+ * keep their values, and no NUL is written. The book is read once for all parents. A buffer of 2,254 bytes for each of
+ * its names, so one of CURLEWSONG_LONGEST_DTD bytes, is never too short; with a shorter one the length of the text is
+ * found first, and the call takes longer. Refusals, in this order: the book's (1 to 7), 12. */
 curlewsong_written curlewsong_write_dtd(const uint8_t *book, size_t book_length, uint8_t *buffer, size_t buffer_length);
 
 /* The parent and the model of a declaration over the names of the book. The parent needs no block. A text that

@@ -1,6 +1,6 @@
 -- A means: a book taken in three steps, its head, its blocks and its end, so that each call does with the blocks what it
 -- needs while they are read. `closed-book` in proofs/Closing.antt joins the steps to `takenBook`. To be believed is
--- `blocksRead`.
+-- `blocksRead`, and for refused books `headOf` with it.
 -- Assumes nothing.
 use Prim.Native.Nat.{ℕ, _+_}
 use mathlib.Core.Bool.{cond}
@@ -40,8 +40,8 @@ bodyOf h =
     refuseIf (ltb 0 (length (blocks .rest))) BytesLeftOver
     (given (record { names = h .names; blocks = blocks .value })))
 
--- The blocks that are read of these bytes before the call stops: all blocks of a book that is not refused, and of one
--- that is refused those before the field that is wrong.
+-- The blocks that are read of these bytes before the call stops: all blocks of a book that is not refused
+-- (`taken-blocks` in proofs/Closing.antt), and of one that is refused those before the fault.
 unfoldable pub blocksRead : List ℕ → List Block
 blocksRead bytes = valueOr [] (onward (headOf bytes) (λ h. given (blocksFrom (length (h .names)) (h .count) (h .rest))))
 

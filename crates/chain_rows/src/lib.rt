@@ -21,7 +21,8 @@ pub fn with_if(s: NameSet, i: usize, more: bool) -> NameSet
     if more { s.with(i) } else { s }
 }
 
-// A name of the set, one that is wanted too if there is any.
+// A name of the set, one that is wanted too if there is any. Which one it is decides only about time, so this is no part
+// of the promise.
 pub fn pick(s: NameSet, wanted: NameSet) -> usize
     requires { ⌜ isEmpty s ≡ false ⌝ }
     ensures { λ r. ⌜ (r < places) × (member s r ≡ true) ⌝ }

@@ -19,7 +19,7 @@ use Rattle.declaration_spelling.specs.House.{declaration}
 use Rattle.declaration_writing.specs.declared.Written.{Written}
 use Rattle.byte_buffer.specs.Put.{wrote}
 
--- "12: shorter than the declaration", for a buffer of so many bytes.
+-- "12: shorter than the declaration", or than the whole DTD, for a buffer of so many bytes.
 unfoldable pub fitted : ℕ → List ℕ → Answer (List ℕ)
 fitted room text = refuseIf (ltb room (length text)) BufferTooShort (given text)
 

@@ -1,10 +1,10 @@
--- The three demands, over the six calls open to the outside, the same calls for C, and the program. Each statement
--- begins with `pub`; what follows, from `unfolding` or the repeated name on, is its proof: skip it. Quotes are from the
--- demands, which call paper 01 "document 01", and from paper 01.
+-- The three demands, over the six calls open to the outside, the same calls for C, and the program; then request U2 of
+-- paper 02. Each statement begins with `pub`; what follows, from `unfolding` or the repeated name on, is its proof: skip
+-- it. Quotes are from the demands, which call paper 01 "document 01", and from the papers.
 -- In a quarter of an hour: `no-better-model` with specs/Results, the names that end in `-refusals` with
 -- specs/Conditions, those that end in `-kept`, then demand 2. The part for C repeats them for replies in C.
--- Each theorem assumes one thing, `call`: the answer is as the call's contract (`ensures`) promises. The prover has
--- shown that of every answer.
+-- A theorem about an answer assumes one thing of it, `call`: the answer is as the call's contract (`ensures`) promises.
+-- The prover has shown that of every answer.
 -- The definitions in crates/demands/specs are to be believed, with those that they cite; docs/TRUST.md has the list.
 -- k = 0 means not refused; `outcomeNumber (r .outcome)` is the number k of an answer r.
 -- Assumes nothing.
@@ -25,6 +25,7 @@ use Rattle.book.specs.Stops.{BlocksBelow, Whole}
 use Rattle.book.proofs.Stops.{book-whole}
 use Rattle.book.proofs.Taken.{taken-law}
 use Rattle.book_blocks.specs.Gathers.{Gathers}
+use Rattle.book_reading.specs.Opening.{blocksRead}
 use Rattle.model.specs.declared.Model.{Model}
 use Rattle.model.specs.Record.{factorOf, modeOf, IsChain, emptyModel, dueModel}
 use Rattle.model.specs.Accept.{Accepts, Names}
@@ -354,7 +355,13 @@ pub after-each-block : (n : ℕ) (bs : List Block) (block : Field Block) (t u : 
 after-each-block n bs block t u few below kept call = So.facts-kept n (bs ++ (block .value ∷ [])) u few below (call bs kept)
 
 -- "The declarations come from these facts and the names alone": a book's DTD is `factLines` of its names and of the
--- facts of each parent's words. `dtdOf` looks for each parent's words in all blocks; the code goes by `factLines`.
+-- facts that the table has after the last block, as `take_table` of crates/follow_table promises it.
+pub dtd-from-table : (bytes : List ℕ) (b : Book) (table : List ℕ) → TakenAs bytes b →
+    (call : Keeps (blocksRead bytes) table) →
+    dtdOf b ≡ factLines (b .names) (tableFacts (length (b .names)) table) 0 (length (b .names))
+dtd-from-table = So.dtd-by-table
+
+-- The same by the facts of each parent's words: `dtdOf` looks for these words in all blocks.
 pub dtd-from-facts : (bytes : List ℕ) (b : Book) → TakenAs bytes b →
     dtdOf b ≡ factLines (b .names) (λ parent. followOf (length (b .names)) (sampleOf b parent)) 0 (length (b .names))
 dtd-from-facts bytes b taken = dtd-by-facts bytes b (taken-law bytes b .0 taken)

@@ -4,9 +4,16 @@ use Prim.Native.Nat.{ℕ, _≤_, _<_}
 use mathlib.Core.Path.{_≡_, sym, subst}
 use mathlib.Core.List.{List}
 use mathlib.Core.Logic.{_↔_}
+use native.Mathlib.Nat.{lt-of-lt-of-le}
+use lib.ListN.{length}
 use Rattle.nameset.specs.Places.{places}
-use Rattle.book.specs.Book.{Block}
+use Rattle.book.specs.Book.{Block, Book}
 use Rattle.book.specs.Stops.{BlocksBelow}
+use Rattle.book.specs.Taken.{TakenAs}
+use Rattle.book.proofs.Laws.{book-told}
+use Rattle.book.proofs.Taken.{taken-law}
+use Rattle.book_reading.specs.Opening.{blocksRead}
+use Rattle.book_reading.proofs.Closing.{taken-blocks}
 use Rattle.model_language.specs.Word.{Point, Fact}
 use Rattle.follow.specs.Follow.{Follow, followOf, steps}
 use Rattle.follow.specs.Sample.{wordsOf}
@@ -15,14 +22,31 @@ use Rattle.follow_row.proofs.Keeps.{row-of-words}
 use Rattle.follow_table.specs.Table.{tabled, rowOf, Keeps}
 use Rattle.chain_levels.proofs.Theorem as Levels
 use Rattle.chain_sample.proofs.Shown.{view-is}
-use Rattle.dtd_lines.specs.Lines.{rowFacts, tableFacts}
+use Rattle.intake_sample.specs.Inference.{sampleOf}
+use Rattle.intake_sample.proofs.Samples.{few, sample-words}
+use Rattle.dtd_lines.specs.Lines.{factLines, rowFacts, tableFacts}
+use Rattle.intake_dtd.specs.Dtd.{dtdOf}
+use Rattle.intake_dtd.proofs.Agree.{lines-by-facts}
 
-module _ (n : ℕ) (bs : List Block) (table : List ℕ) (few : n ≤ places) (below : BlocksBelow n bs) (kept : Keeps bs table) (p : ℕ) (named : p < tabled) where
+module _ (n : ℕ) (bs : List Block) (table : List ℕ) (small : n ≤ places) (below : BlocksBelow n bs) (kept : Keeps bs table) (p : ℕ) (named : p < tabled) where
   facts-are : tableFacts n table p ≡ followOf n (wordsOf p bs)
   unfolding tableFacts rowFacts
-  facts-are = view-is n (rowOf table p) few (row-of-words n p bs (rowOf table p) below (kept .rows p named))
+  facts-are = view-is n (rowOf table p) small (row-of-words n p bs (rowOf table p) below (kept .rows p named))
 
   pub facts-kept : (x y : Point) → steps (tableFacts n table p) x y ↔ Fact (wordsOf p bs) x y
   facts-kept x y =
       subst (λ (f : Follow). steps f x y ↔ Fact (wordsOf p bs) x y) (sym facts-are)
       (Levels.follow-law n (wordsOf p bs) (over-in n (wordsOf p bs) (words-over n p bs below)) x y)
+
+-- The table that the reading of a book leaves gives the book's DTD.
+pub dtd-by-table : (bytes : List ℕ) (b : Book) (table : List ℕ) → TakenAs bytes b → Keeps (blocksRead bytes) table →
+    dtdOf b ≡ factLines (b .names) (tableFacts (length (b .names)) table) 0 (length (b .names))
+unfolding sampleOf
+dtd-by-table bytes b table taken kept =
+    let n = length (b .names) in
+    let read = taken-law bytes b .0 taken in
+    let small : n ≤ places = few bytes b read in
+    let all : Keeps (b .blocks) table = subst (λ (bs : List Block). Keeps bs table) (taken-blocks bytes b taken) kept in
+    sym
+    (lines-by-facts b small (tableFacts n table) (λ p h. sample-words bytes b read p)
+    (λ p h. facts-are n (b .blocks) table small (book-told bytes b read .within) all p (lt-of-lt-of-le h small)))

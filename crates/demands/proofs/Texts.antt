@@ -1,4 +1,4 @@
--- The two calls that write: what a refused call leaves, what is in the buffer after one that was not, and that it reads
+-- The three calls that write: what a refused call leaves, what is in the buffer after one that was not, and that it reads
 -- back.
 -- Assumes nothing.
 use Prim.Native.Nat.{ℕ, _≤_, _<_}

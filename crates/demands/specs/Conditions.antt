@@ -102,6 +102,7 @@ pub record SampleConditions (bytes : List ℕ) (parent room : ℕ) (k : ℕ) : T
 -- The whole DTD written, into a buffer of `room` bytes.
 pub record DtdConditions (bytes : List ℕ) (room : ℕ) (k : ℕ) : Type 0 where
   pub book : BookConditions bytes k
+  -- shorter than the whole text
   pub twelve : (k ≡ 12) ↔ ((b : Book) × TakenAs bytes b × (room < length (dtdOf b)))
   pub none : (k ≡ 0) ↔ ((b : Book) × TakenAs bytes b × (length (dtdOf b) ≤ room))
   pub no-other : (k ≡ 0) ⊎ (OfBook k ⊎ (k ≡ 12))

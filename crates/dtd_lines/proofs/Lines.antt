@@ -37,6 +37,16 @@ module _ (names : List (List ℕ)) (facts : ℕ → Follow) (n : ℕ) where
   unfolding factLines
   none-left p h = let a : n - p ≡ 0 = omega arith in ap (lines p) a
 
+  -- lines that are each short
+  pub lines-bound : ((p : ℕ) → p < n → length (line p) ≤ longestLine) → (k p : ℕ) → p + k ≤ n → length (lines p k) ≤ k * longestLine
+  unfolding factLines
+  lines-bound short zero p h = omega arith
+  lines-bound short (suc k) p h =
+      let a : length (line p) ≤ longestLine = short p (omega arith) in
+      let b : length (lines (suc p) k) ≤ k * longestLine = lines-bound short k (suc p) (omega arith) in
+      let e : length (line p ++ lines (suc p) k) ≡ length (line p) + length (lines (suc p) k) = length-append (line p) (lines (suc p) k) in
+      omega arith
+
   -- ---- counted line after line
 
   pub record Counted (size p : ℕ) : Type 0 where
@@ -90,19 +100,9 @@ module _ (s : List ℕ) (l : Layout) (laid : LaidOut s l) (table : List ℕ) (ke
   abbrev pub tableLines : ℕ → ℕ → List ℕ
   tableLines p k = factLines (namesIn s) (tableFacts (l .names) table) p k
 
-  lines-short : (k p : ℕ) → p + k ≤ l .names → length (tableLines p k) ≤ k * longestLine
-  unfolding factLines tableFacts
-  lines-short zero p h = omega arith
-  lines-short (suc k) p h =
-      let below : p < l .names = omega arith in
-      let first : List ℕ = factLine (namesIn s) p (tableFacts (l .names) table p) in
-      let a : length first ≤ longestLine = line-short s l laid p below _ (kept .rows p below) in
-      let b : length (tableLines (suc p) k) ≤ k * longestLine = lines-short k (suc p) (omega arith) in
-      let e : length (first ++ tableLines (suc p) k) ≡ length first + length (tableLines (suc p) k) = length-append first (tableLines (suc p) k) in
-      omega arith
-
   pub all-short : length (tableLines 0 (l .names)) ≤ l .names * longestLine
-  all-short = lines-short (l .names) 0 (omega arith)
+  unfolding tableFacts
+  all-short = lines-bound (namesIn s) (tableFacts (l .names) table) (l .names) (λ p below. line-short s l laid p below _ (kept .rows p below)) (l .names) 0 (omega arith)
 
   pub fit-all : (room : ℕ) → l .names * longestLine ≤ room → false ≡ ltb room (length (tableLines 0 (l .names)))
   fit-all room h = sym (le-ltb room (length (tableLines 0 (l .names))) (omega (arith, all-short)))

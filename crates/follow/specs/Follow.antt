@@ -1,4 +1,5 @@
--- A means: executable follow facts; `follow-law` in crates/chain_levels/proofs/Theorem.antt joins them to `Fact`.
+-- A means: executable follow facts; `follow-law` in crates/chain_levels/proofs/Theorem.antt joins them to `Fact`. To be
+-- believed, for request U2 of paper 02, are `Follow` and `steps`.
 -- Assumes nothing.
 -- Paper 01, "Follow facts": what the words of one parent's sample show, and nothing else.
 use Prim.Native.Nat.{ℕ, _<_}

@@ -2,11 +2,11 @@
 -- Assumes nothing.
 use Prim.Native.Nat.{ℕ, suc, _-_}
 use mathlib.Core.Path.{_≡_, refl, sym, _∙_, ap}
-use mathlib.Core.Bool.{or-true}
+use mathlib.Core.Bool.{_||_, or-true}
 use mathlib.Core.List.{List, [], _∷_, _++_, append-nil}
 use native.Mathlib.Omega.{arith}
 use lib.Dec.{eqb}
-use lib.ListN.{length, set, take, drop, length-drop, drop-of-length-le}
+use lib.ListN.{length, getD, set, take, drop, length-drop, drop-of-length-le}
 use lib.Seq.{take-all}
 use Rattle.nameset.specs.Places.{places}
 use Rattle.nameset.specs.declared.NameSet.{NameSet}
@@ -15,7 +15,7 @@ use Rattle.nameset.proofs.Rows.{row-kept}
 use Rattle.follow.specs.Follow.{isEmpty}
 use Rattle.follow.specs.Adding.{withFirst, withLast, withPairs, withWord}
 use Rattle.follow.proofs.Words.{no-name, empty-some, word-added}
-use Rattle.follow_row.specs.Row.{rowSize, factsIn, withEnds, HeadAdded, RowAdded}
+use Rattle.follow_row.specs.Row.{rowHead, rowSize, factsIn, withEnds, RowAdded}
 
 -- the two sets, read and put by the code: u₁ is the row after the first
 pub ends-put : (u u₁ v w : List ℕ) (p s q e : NameSet) → p ≡ rowAt u 0 → s ≡ withFirst p w → u₁ ≡ putRow u 0 s →
@@ -39,6 +39,14 @@ empty-added u w l e = rw (no-name w e) (at u l)
           size = l;
           facts = λ i. record { starts = record { bits = a }; ends = record { bits = b }; follows = f; empty = sym (or-true (eqb c 1)) i };
         }
+
+-- The row v is the row u with the first and the last name of a word w added, but not its pairs.
+record HeadAdded (u w v : List ℕ) : Type 0 where
+  size : length v ≡ rowSize
+  starts : rowAt v 0 ≡ withFirst (rowAt u 0) w
+  ends : rowAt v 1 ≡ withLast (rowAt u 1) w
+  empty : eqb (getD v 2 0) 1 ≡ (eqb (getD u 2 0) 1 || isEmpty w)
+  follows : drop rowHead v ≡ drop rowHead u
 
 -- a word with a name: its first and its last, and the mark stays
 head-added : (u v w : List ℕ) → v ≡ withEnds u w → length u ≡ rowSize → (length w ≡ 0 → ⊥) → HeadAdded u w v

@@ -3,7 +3,6 @@
 -- Assumes nothing.
 use Prim.Native.Nat.{ℕ, _+_}
 use mathlib.Core.Path.{_≡_}
-use mathlib.Core.Bool.{_||_}
 use mathlib.Core.List.{List}
 use lib.Dec.{eqb}
 use lib.ListN.{length, getD, drop}
@@ -11,7 +10,6 @@ use Rattle.nameset.specs.Places.{places}
 use Rattle.nameset.specs.Rows.{rowsLength, rowAt, putRow}
 use Rattle.book.specs.Book.{Block}
 use Rattle.follow.specs.declared.Facts.{Facts}
-use Rattle.follow.specs.Follow.{isEmpty}
 use Rattle.follow.specs.Sample.{wordsOf, Over}
 use Rattle.follow.specs.Adding.{withFirst, withLast, withWord, factsOf}
 
@@ -44,14 +42,6 @@ pub record OfWords (n : ℕ) (row : List ℕ) : Type 0 where
 -- The row with the first name of a word put into its starts, and the last into its ends.
 unfoldable pub withEnds : List ℕ → List ℕ → List ℕ
 withEnds row w = putRow (putRow row 0 (withFirst (rowAt row 0) w)) 1 (withLast (rowAt row 1) w)
-
--- The row v is the row u with a word w added, all but the pairs of the word.
-pub record HeadAdded (u w v : List ℕ) : Type 0 where
-  pub size : length v ≡ rowSize
-  pub starts : rowAt v 0 ≡ withFirst (rowAt u 0) w
-  pub ends : rowAt v 1 ≡ withLast (rowAt u 1) w
-  pub empty : eqb (getD v (rowsLength 2) 0) 1 ≡ (eqb (getD u (rowsLength 2) 0) 1 || isEmpty w)
-  pub follows : drop rowHead v ≡ drop rowHead u
 
 -- The row v is the row u with a word w added.
 pub record RowAdded (u w v : List ℕ) : Type 0 where

@@ -72,7 +72,7 @@ pub fn gather_block(bytes: &[u8], n: usize, at: usize, table: &mut [u64]) -> Blo
 }
 
 // The m blocks from a place on, one after the other.
-pub fn gather_blocks(bytes: &[u8], n: usize, m: usize, from: usize, table: &mut [u64]) -> BlocksEnd
+fn gather_blocks(bytes: &[u8], n: usize, m: usize, from: usize, table: &mut [u64]) -> BlocksEnd
     requires { ⌜ (from ≤ length (now bytes)) × (length (now bytes) ≤ longestBook) × (n ≤ tabled) × (length (now table) ≡ tableSize) ⌝ }
     ensures { λ r. ⌜ (r ≡ blocksEnd from (blocksOf n m (drop from (now (bytes .entry)))))
         × GathersAll Keeps (blocksFrom n m (drop from (now (bytes .entry)))) (now (table .entry)) (now (table .exit)) ⌝ }

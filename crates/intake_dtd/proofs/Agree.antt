@@ -36,7 +36,7 @@ or-nothing false text = refl
 
 module _ (b : Book) (small : length (b .names) ≤ places) (facts : ℕ → Follow) where
   -- one parent
-  line-by-facts : (p : ℕ) → Over (length (b .names)) (sampleOf b p) → facts p ≡ followOf (length (b .names)) (sampleOf b p) → factLine (b .names) p (facts p) ≡ lineOf b p
+  pub line-by-facts : (p : ℕ) → Over (length (b .names)) (sampleOf b p) → facts p ≡ followOf (length (b .names)) (sampleOf b p) → factLine (b .names) p (facts p) ≡ lineOf b p
   unfolding factLine lineOf chainIn chainOfWords
   line-by-facts p over e =
       ap (factLine (b .names) p) e

@@ -1,6 +1,6 @@
 -- No DTD is longer than the longest: a buffer of that length is never too short.
 -- Assumes nothing.
-use Prim.Native.Nat.{ℕ, zero, suc, _+_, _*_, _≤_, _<_}
+use Prim.Native.Nat.{ℕ, _+_, _≤_, _<_}
 use mathlib.Core.Path.{_≡_, refl, sym, _∙_, ap, subst}
 use mathlib.Core.Bool.{Bool, true, false, cond}
 use mathlib.Core.List.{List, [], _∷_, _++_}
@@ -11,20 +11,23 @@ use Rattle.refusal.specs.declared.Refusal.{Refusal}
 use Rattle.refusal.specs.Answer.{Answer, given, refused, onward}
 use Rattle.refusal.proofs.Answers.{given-same, refused-same, given-refused}
 use Rattle.nameset.specs.Places.{places}
-use Rattle.book.specs.Book.{Book}
+use Rattle.book.specs.Book.{Book, IsBook}
 use Rattle.book.specs.Layout.{layoutOf}
 use Rattle.book.specs.Access.{LaidOut}
 use Rattle.book.specs.Taken.{takenBook, TakenAs}
 use Rattle.book.proofs.Taken.{taken-law}
 use Rattle.book.proofs.Laws.{names-in}
+use Rattle.follow.specs.Follow.{Follow, followOf}
 use Rattle.declaration_spelling.specs.House.{declaration}
 use Rattle.declaration_spelling.specs.Length.{longestDeclaration}
 use Rattle.declaration_text.proofs.Whole.{declaration-short}
 use Rattle.declaration_writing.specs.Write.{fitted}
 use Rattle.intake_sample.specs.Inference.{sampleOf, noWord, chainIn}
-use Rattle.intake_sample.proofs.Samples.{some-word, few, sample-chain}
-use Rattle.dtd_lines.specs.Lines.{longestLine}
-use Rattle.intake_dtd.specs.Dtd.{lineOf, linesFrom, dtdOf, dtdAnswer, longestDtd}
+use Rattle.intake_sample.proofs.Samples.{some-word, few, sample-words, sample-chain}
+use Rattle.dtd_lines.specs.Lines.{factLine, longestLine}
+use Rattle.dtd_lines.proofs.Lines.{lines-bound}
+use Rattle.intake_dtd.specs.Dtd.{lineOf, dtdOf, dtdAnswer, longestDtd}
+use Rattle.intake_dtd.proofs.Agree.{line-by-facts, dtd-by-facts}
 
 module _ (s : List ℕ) (b : Book) (taken : TakenAs s b) where
   laid : LaidOut s (layoutOf b)
@@ -47,21 +50,20 @@ module _ (s : List ℕ) (b : Book) (taken : TakenAs s b) where
           let k : length (declaration (b .names) p (chainIn b p) ++ (10 ∷ [])) ≡ length (declaration (b .names) p (chainIn b p)) + 1 = length-append (declaration (b .names) p (chainIn b p)) (10 ∷ []) in
           omega arith
 
-  lines-short : (k p : ℕ) → p + k ≤ length (b .names) → length (linesFrom b p k) ≤ k * longestLine
-  unfolding linesFrom
-  lines-short zero p h = omega arith
-  lines-short (suc k) p h =
-      let first : length (lineOf b p) ≤ longestLine = line-short p (omega arith) in
-      let others : length (linesFrom b (suc p) k) ≤ k * longestLine = lines-short k (suc p) (omega arith) in
-      let e : length (lineOf b p ++ linesFrom b (suc p) k) ≡ length (lineOf b p) + length (linesFrom b (suc p) k) = length-append (lineOf b p) (linesFrom b (suc p) k) in
-      omega arith
+  -- all lines, by the facts of the samples
+  facts : ℕ → Follow
+  facts p = followOf (length (b .names)) (sampleOf b p)
+
+  read : IsBook s b
+  read = taken-law s b .0 taken
 
   pub dtd-short : length (dtdOf b) ≤ longestDtd
-  unfolding dtdOf
+  unfolding facts
   dtd-short =
-      let h : length (linesFrom b 0 (length (b .names))) ≤ length (b .names) * longestLine = lines-short (length (b .names)) 0 (omega arith) in
-      let n : length (b .names) ≤ places = few s b (taken-law s b .0 taken) in
-      omega arith
+      let n : length (b .names) ≤ places = few s b read in
+      let line : (p : ℕ) → p < length (b .names) → length (factLine (b .names) p (facts p)) ≤ longestLine = λ p below. subst (λ (text : List ℕ). length text ≤ longestLine) (sym (line-by-facts b n facts p (sample-words s b read p) refl)) (line-short p below) in
+      let h = lines-bound (b .names) facts (length (b .names)) line (length (b .names)) 0 (omega arith) in
+      omega (arith, h, ap length (dtd-by-facts s b read))
 
 -- so with such a buffer the answer is the book's DTD, or the book's refusal
 module _ (s : List ℕ) (room : ℕ) where
