@@ -14,27 +14,52 @@ import instructions  # noqa: E402
 LIST = """whole DTD\tplain\tone parent
 whole DTD\trescan\tone parent
 model of one parent\tplain\tone parent
+a word accepted or not\tplain\tone parent
+a word accepted or not\tby value\tone parent
+a word of 3 names\tplain\tone parent
+a word of 3 names\tby value\tone parent
 whole DTD\tlibrary\tone parent
 model of one parent\tlibrary\tone parent
+a word accepted or not\tlibrary\tone parent
+a word of 3 names\tlibrary\tone parent
 """
 # The instructions of a call; before the first one each run has 1,000,000.
 COUNTS = {("whole DTD", "library"): 300_000, ("whole DTD", "plain"): 200_000, ("whole DTD", "rescan"): 4_000_000,
-          ("model of one parent", "library"): 1_500, ("model of one parent", "plain"): 3_000}
+          ("model of one parent", "library"): 1_500, ("model of one parent", "plain"): 3_000,
+          ("a word accepted or not", "library"): 7_000, ("a word accepted or not", "plain"): 5_000,
+          ("a word accepted or not", "by value"): 28_000, ("a word of 3 names", "library"): 600,
+          ("a word of 3 names", "plain"): 800, ("a word of 3 names", "by value"): 1_000}
 WHOLE = """\
 | book | library / plain | library / rescan |
 |---|---|---|
 | one parent | 300 / 200 = 1.50 | 300 / 4,000 = 0.07 |
 
 """
-BOTH = """\
-| book | whole DTD | model of one parent |
-|---|---|---|
-| one parent | 300 / 200 = 1.50 | 1.5 / 3.0 = 0.50 |
+WORDS = """\
+| book | a word accepted or not: library / plain | a word accepted or not: library / by value | \
+a word of 3 names: library / plain | a word of 3 names: library / by value |
+|---|---|---|---|---|
+| one parent | 7.0 / 5.0 = 1.40 | 7.0 / 28.0 = 0.25 | 0.6 / 0.8 = 0.75 | 0.6 / 1.0 = 0.60 |
+
+"""
+ALL = """\
+| book | whole DTD | model of one parent | a word accepted or not | a word of 3 names |
+|---|---|---|---|---|
+| one parent | 300 / 200 = 1.50 | 1.5 / 3.0 = 0.50 | 7.0 / 5.0 = 1.40 | 0.6 / 0.8 = 0.75 |
 """
 MODEL = """\
 | book | model of one parent |
 |---|---|
 | one parent | 1.5 / 3.0 = 0.50 |
+"""
+SHORT = """\
+| book | a word of 3 names: library / plain | a word of 3 names: library / by value |
+|---|---|---|
+| one parent | 0.6 / 0.8 = 0.75 | 0.6 / 1.0 = 0.60 |
+
+| book | a word of 3 names |
+|---|---|
+| one parent | 0.6 / 0.8 = 0.75 |
 """
 
 
@@ -61,11 +86,12 @@ class Instructions(unittest.TestCase):
 
     def test_all_figures(self):
         self.assertEqual(self.status(), 0)
-        self.assertEqual(self.out.getvalue(), WHOLE + BOTH)
+        self.assertEqual(self.out.getvalue(), WHOLE + WORDS + ALL)
 
     def test_one_figure(self):
-        self.assertEqual(self.status("--figure", "model of one parent"), 0)
-        self.assertEqual(self.out.getvalue(), MODEL)
+        for figure, table in [("model of one parent", MODEL), ("a word of 3 names", SHORT)]:
+            self.assertEqual(self.status("--figure", figure), 0)
+            self.assertEqual(self.out.getvalue(), table)
 
     def test_an_unknown_figure(self):
         self.assertEqual(self.status("--figure", "model"), 2)
@@ -77,7 +103,8 @@ class Instructions(unittest.TestCase):
 
     def test_what_the_benchmark_takes_and_prints(self):
         bench = (ROOT / "rust" / "plain" / "src" / "bench.rs").read_text(encoding="utf-8")
-        for part in ['["--once", figure, who, kind, calls] =>', '"{}\\t{}\\t{kind}"', f'"{instructions.WHOLE}"']:
+        names = [f'= "{figure}";' for figure in (instructions.WHOLE, *instructions.WORDS)]
+        for part in ['["--once", figure, who, kind, calls] =>', '"{}\\t{}\\t{kind}"', ', "by value", ', *names]:
             self.assertIn(part, bench)
 
 

@@ -16,6 +16,7 @@ PRINTED = """many short words: 60000 bytes, a word of 255 names
   whole DTD                    rescan        50.0000 µs least      51.0000 µs median
   model of one parent          library       70.0000 µs least      71.0000 µs median
   model of one parent          plain         40.0000 µs least      41.0000 µs median
+  a word accepted or not       by value       2.5000 µs least       2.6000 µs median
   a word accepted or not       library        0.3500 µs least       0.3600 µs median
 one parent: 59999 bytes, a word of 255 names
   a word accepted or not       library        0.5000 µs least       0.6000 µs median

@@ -22,6 +22,7 @@ TOOLS = {"cargo": "https://rustup.rs", "valgrind": "the Debian package valgrind"
 COLLECTED = re.compile(r"Collected : (\d+)")
 FEW, MANY = 1, 11
 WHOLE = "whole DTD"
+WORDS = ["a word accepted or not", "a word of 3 names"]
 
 
 def fail(why):
@@ -55,28 +56,30 @@ def short(count):
     return f"{count:,.0f}" if count >= 100 else f"{count:.1f}"
 
 
-def cell(counts, kind, figure, first, second):
-    """Two counts and their ratio."""
-    one, other = counts[figure, first, kind], counts[figure, second, kind]
-    return f"{short(one)} / {short(other)} = {one / other:.2f}"
+def cell(counts, kind, figure, other):
+    """The library's count, the other's, and their ratio."""
+    one, two = counts[figure, "library", kind], counts[figure, other, kind]
+    return f"{short(one)} / {short(two)} = {one / two:.2f}"
 
 
-def table(heads, rows):
-    lines = [["book", *heads], *rows]
+def table(counts, columns):
+    """A row for each book; the columns have a head, a figure, and the one beside the library."""
+    lines = [["book", *(head for head, _, _ in columns)]]
+    for kind in dict.fromkeys(kind for _, _, kind in counts):
+        lines.append([kind, *(cell(counts, kind, figure, other) for _, figure, other in columns)])
     first, *others = ["| " + " | ".join(line) + " |" for line in lines]
     return "\n".join([first, "|" + "---|" * len(lines[0]), *others])
 
 
 def tables(counts):
-    """The whole DTD beside both others, and each figure beside plain."""
-    kinds = list(dict.fromkeys(kind for _, _, kind in counts))
+    """The whole DTD and the words beside both others, and each figure beside plain."""
     figures = list(dict.fromkeys(figure for figure, _, _ in counts))
     if WHOLE in figures:
-        yield table(["library / plain", "library / rescan"],
-                    [[kind] + [cell(counts, kind, WHOLE, "library", other) for other in ("plain", "rescan")]
-                     for kind in kinds])
-    yield table(figures, [[kind] + [cell(counts, kind, figure, "library", "plain") for figure in figures]
-                          for kind in kinds])
+        yield table(counts, [(f"library / {other}", WHOLE, other) for other in ("plain", "rescan")])
+    if words := [figure for figure in WORDS if figure in figures]:
+        yield table(counts, [(f"{figure}: library / {other}", figure, other)
+                             for figure in words for other in ("plain", "by value")])
+    yield table(counts, [(figure, figure, "plain") for figure in figures])
 
 
 def main(arguments):

@@ -72,7 +72,7 @@ pub fn write_declaration(bytes: &[u8], parent: usize, m: Model, buffer: &mut [u8
     if layout.names <= parent {
         return refused(Refusal::BadParent);
     }
-    if !model_check::is_chain(layout.names, m) {
+    if !model_check::rows_are_chain(layout.names, m.count, &m.factor, &m.mode) {
         return refused(Refusal::NotAChain);
     }
     write_chain(bytes, layout, parent, m, buffer)

@@ -3,6 +3,7 @@ use model::Model;
 use refusal::Refusal;
 ghost use mathlib.Core.Path.{_≡_};
 ghost use Prim.Native.Nat.{_<_};
+ghost use Rattle.model.specs.Build.{ofRows};
 ghost use Rattle.intake_word.specs.Acceptance.{badWord, AcceptsWord};
 
 // Whether a word is accepted, or why the call stopped.
@@ -27,22 +28,37 @@ fn bad_word(names: usize, word: &[u8]) -> bool
     }
 }
 
-// Whether the model accepts the word: 3, then 10, then 11, else yes or no.
-pub fn accepts_word(names: usize, model: Model, word: &[u8]) -> Acceptance
-    ensures { λ r. ⌜ AcceptsWord names model (now (word .entry)) r ⌝ }
+// The answer for the record of these rows: 3, then 10, then 11, else yes or no.
+fn rows_accept_word<'a>(
+    names: usize,
+    count: usize,
+    factor: &'a [u8],
+    mode: &'a [u8],
+    word: &[u8],
+) -> Acceptance
+    ensures { λ r. ⌜ AcceptsWord names (ofRows count (now (factor .entry)) (now (mode .entry))) (now (word .entry)) r ⌝ }
 {
     if !nameset::good_count(names) {
         return Acceptance::Refused(Refusal::BadNameCount);
     }
-    if !model_check::is_chain(names, model) {
+    if !model_check::rows_are_chain(names, count, factor, mode) {
         return Acceptance::Refused(Refusal::NotAChain);
     }
     if bad_word(names, word) {
         return Acceptance::Refused(Refusal::BadWord);
     }
-    if model_accept::accepted(model, word) {
+    if model_accept::rows_accept(count, factor, mode, word) {
         Acceptance::Yes
     } else {
         Acceptance::No
     }
+}
+
+// Whether the model accepts the word. Here its two rows are copied, once for the call; all below borrows them.
+pub fn accepts_word(names: usize, model: Model, word: &[u8]) -> Acceptance
+    ensures { λ r. ⌜ AcceptsWord names model (now (word .entry)) r ⌝ }
+{
+    let factor = model.factor;
+    let mode = model.mode;
+    rows_accept_word(names, model.count, &factor, &mode, word)
 }

@@ -1,13 +1,12 @@
 -- Where a run goes, one factor at a time.
 -- Assumes nothing.
 use Prim.Native.Nat.{ℕ, zero, suc, _+_, _-_, _≤_, _<_}
-use mathlib.Core.Path.{_≡_, refl}
+use mathlib.Core.Path.{_≡_}
 use mathlib.Core.Bool.{Bool, true, false}
 use mathlib.Core.List.{List}
 use native.Mathlib.Omega.{arith}
 use lib.Dec.{eqb}
 use lib.ListN.{getD}
-use borrow.Author.Tests.{eqb-true}
 use Rattle.model.specs.declared.Turn.{Turn}
 use Rattle.model.specs.declared.Turn.the-variants.{Take, Leave, Refuse}
 use Rattle.model.specs.Run.{either, turnOf, state, after, goesFrom, goesTo}
@@ -40,14 +39,6 @@ turn-take (suc (suc zero)) true e = leave≢take e
 turn-take (suc (suc zero)) false e = refuse≢take e
 turn-take (suc (suc (suc zero))) t e = leave≢take e
 turn-take (suc (suc (suc (suc f)))) t e = refuse≢take e
-
--- Only the factor that holds the name takes it.
-pub takes-own : (f : ℕ) (t : Bool) (own i : ℕ) → turnOf f t (eqb own i) ≡ Take → own ≡ i
-takes-own f t own i e = go (eqb own i) refl e
-  where
-    go : (h : Bool) → eqb own i ≡ h → turnOf f t h ≡ Take → own ≡ i
-    go true q e = eqb-true own i q
-    go false q e = absurd (turn-take f t e)
 
 module _ (modes : List ℕ) (count i : ℕ) (t : Bool) (own : ℕ) (through : Bool) where
   -- The state stands in factor i < count, f is that factor's mode, and u its turn.

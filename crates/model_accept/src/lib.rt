@@ -2,7 +2,6 @@
 ghost use mathlib.Core.Path.{_≡_};
 ghost use Rattle.model.specs.Build.{ofRows};
 ghost use Rattle.model.specs.Run.{accepts};
-use model::Model;
 use model::Moved;
 use model::State;
 use model_step::may_end;
@@ -29,11 +28,4 @@ pub fn rows_accept<'a>(count: usize, factor: &'a [u8], mode: &'a [u8], word: &[u
         i += 1;
     }
     may_end(count, mode, state)
-}
-
-// Whether the record accepts the word.
-pub fn accepted(m: Model, word: &[u8]) -> bool
-    ensures { λ r. ⌜ r ≡ accepts m (now (word .entry)) ⌝ }
-{
-    rows_accept(m.count, &m.factor, &m.mode, word)
 }

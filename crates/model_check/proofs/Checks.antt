@@ -1,16 +1,14 @@
 -- The test `isChain` of rows, one answer for each check, as the code makes them.
 -- Assumes nothing.
 use Prim.Native.Nat.{ℕ, _≤_, _<_}
-use mathlib.Core.Path.{_≡_, _∙_}
+use mathlib.Core.Path.{_≡_}
 use mathlib.Core.Bool.{Bool, true, false, not, _&&_}
 use mathlib.Core.List.{List}
 use borrow.Author.Tests.{not-true, not-false, eq-eqb, ne-eqb, le-leb, lt-leb}
-use lib.Dec.{eqb, leb}
-use lib.ListN.{length, getD}
-use Rattle.model.specs.Record.{noFactor}
+use lib.Dec.{leb}
+use lib.ListN.{length}
 use Rattle.model.specs.Build.{ofRows}
-use Rattle.model.specs.Check.{everyBelow, anyBelow, allPlaced, allNamed, allKnown, isChain}
-use Rattle.model_rows.proofs.Factors.{used-named}
+use Rattle.model.specs.Check.{allPlaced, allNamed, allKnown, isChain}
 
 module _ (size n count : ℕ) (factors modes : List ℕ) where
   pub factors-unfit : ¬ (length factors ≡ size) → isChain size n (ofRows count factors modes) ≡ false
@@ -35,16 +33,13 @@ module _ (size n count : ℕ) (factors modes : List ℕ) where
         pub misplaced : not r ≡ true → isChain size n (ofRows count factors modes) ≡ false
         misplaced h = rw (sized, le-leb count size l, ← f, ← e, not-true r h)
 
-        module _ (h : not r ≡ false) {used : ℕ → Bool} (u : (i : ℕ) → i < count → used i ≡ anyBelow n (λ x. eqb (getD factors x noFactor) i))
-            {t : Bool} (d : t ≡ everyBelow count used) where
-          all : allPlaced size n count factors ≡ true
-          all = rw (← f, ← e, not-false r h)
+        module _ (h : not r ≡ false) where
+          pub all : allPlaced (length factors) n count factors ≡ true
+          all = rw (← e, not-false r h)
 
-          names : t ≡ allNamed n count factors
-          names = d ∙ used-named n count factors used u
+          module _ {t : Bool} (d : t ≡ allNamed n count factors) where
+            pub unnamed : not t ≡ true → isChain size n (ofRows count factors modes) ≡ false
+            unnamed k = rw (sized, le-leb count size l, ← f, all, ← d, not-true t k)
 
-          pub unnamed : not t ≡ true → isChain size n (ofRows count factors modes) ≡ false
-          unnamed k = rw (sized, le-leb count size l, all, ← names, not-true t k)
-
-          pub by-modes : not t ≡ false → {s : Bool} → s ≡ allKnown (length modes) count modes → isChain size n (ofRows count factors modes) ≡ s
-          by-modes k q = rw (sized, le-leb count size l, all, ← names, not-false t k, ← g, q)
+            pub by-modes : not t ≡ false → {s : Bool} → s ≡ allKnown (length modes) count modes → isChain size n (ofRows count factors modes) ≡ s
+            by-modes k q = rw (sized, le-leb count size l, ← f, all, ← d, not-false t k, f, ← g, q)

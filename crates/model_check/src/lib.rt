@@ -3,11 +3,9 @@ ghost use mathlib.Core.Path.{_≡_};
 ghost use Rattle.nameset.specs.Places.{places};
 ghost use Rattle.model.specs.Build.{ofRows};
 ghost use Rattle.model.specs.Check.{isChain};
-use model::Model;
 use model_rows::all_known;
+use model_rows::all_named;
 use model_rows::all_placed;
-use model_rows::all_used;
-use model_rows::used_factors;
 use nameset::PLACES;
 
 // Whether the record of these rows is a chain over n names.
@@ -26,15 +24,8 @@ pub fn rows_are_chain<'a>(n: usize, count: usize, factor: &'a [u8], mode: &'a [u
     if !all_placed(n, count, factor) {
         return false;
     }
-    if !all_used(count, used_factors(n, count, factor)) {
+    if !all_named(n, count, factor) {
         return false;
     }
     all_known(count, mode)
-}
-
-// Whether the record is a chain over n names.
-pub fn is_chain(n: usize, m: Model) -> bool
-    ensures { λ r. ⌜ r ≡ isChain places n m ⌝ }
-{
-    rows_are_chain(n, m.count, &m.factor, &m.mode)
 }

@@ -1,6 +1,6 @@
--- The check of the factor row by the largest of its entries, and the names of a factor.
+-- The check of the factor row by the largest of its entries.
 -- Assumes nothing.
-use Prim.Native.Nat.{ℕ, _+_, _≤_, _<_, max, min}
+use Prim.Native.Nat.{ℕ, _+_, _≤_, _<_, max}
 use mathlib.Core.Path.{_≡_, refl, sym, _∙_}
 use mathlib.Core.Bool.{Bool, true, false, _&&_, _||_, and-true, and-false}
 use mathlib.Core.List.{List}
@@ -11,13 +11,12 @@ use borrow.Author.Tests.{eq-eqb, ne-eqb, lt-ltb, le-ltb, le-leb, lt-leb}
 use lib.Dec.{eqb, ltb, leb}
 use lib.ListN.{length, getD, List·getD-eq-default}
 use Rattle.model.specs.Record.{noFactor}
-use Rattle.model.specs.Check.{everyBelow, anyBelow, mayHold, allPlaced, allNamed}
+use Rattle.model.specs.Check.{everyBelow, mayHold, allPlaced}
 use Rattle.model.proofs.Tests.{both, and-left, and-right, same-test, all-law}
-use Rattle.model.proofs.Chain.{name-law}
 
 -- ---- tests over all numbers below a bound
 
-all-same : (n : ℕ) (f g : ℕ → Bool) → ((k : ℕ) → k < n → f k ≡ g k) → everyBelow n f ≡ everyBelow n g
+pub all-same : (n : ℕ) (f g : ℕ → Bool) → ((k : ℕ) → k < n → f k ≡ g k) → everyBelow n f ≡ everyBelow n g
 all-same n f g h =
     same-test (everyBelow n f) (everyBelow n g) (λ e. all-law n g .1 (λ k l. sym (h k l) ∙ all-law n f .0 e k l))
     (λ e. all-law n f .1 (λ k l. h k l ∙ all-law n g .0 e k l))
@@ -117,21 +116,3 @@ module _ (n count : ℕ) (factor : List ℕ) where
 
     pub one-misplaced : b ≡ false → false ≡ allPlaced (length factor) n count factor
     one-misplaced t = rw (placed, ← e, t)
-
--- ---- the factors of names
-
--- A number past the row's end is in no factor.
-pub named-within : (n : ℕ) (factor : List ℕ) (i : ℕ) → i < noFactor → anyBelow (min n (length factor)) (λ x. eqb (getD factor x noFactor) i) ≡ anyBelow n (λ x. eqb (getD factor x noFactor) i)
-named-within n factor i h =
-    same-test (anyBelow (min n (length factor)) (λ x. eqb (getD factor x noFactor) i)) (anyBelow n (λ x. eqb (getD factor x noFactor) i))
-    (λ e. let r = name-law (min n (length factor)) factor i .0 e in name-law n factor i .1 (r .0, omega (arith, r .1), r .2))
-    (λ e. let r = name-law n factor i .0 e in name-law (min n (length factor)) factor i .1 (r .0, within (r .0) (r .1) (r .2) (decLt (r .0) (length factor)), r .2))
-  where
-    within : (x : ℕ) → x < n → getD factor x noFactor ≡ i → Dec (x < length factor) → x < min n (length factor)
-    within x l e (yes b) = omega arith
-    within x l e (no b) = absurd (omega (arith, List·getD-eq-default factor noFactor {n = x} (omega arith)))
-
-pub used-named : (n count : ℕ) (factor : List ℕ) (used : ℕ → Bool)
-    → ((i : ℕ) → i < count → used i ≡ anyBelow n (λ x. eqb (getD factor x noFactor) i)) → everyBelow count used ≡ allNamed n count factor
-unfolding allNamed
-used-named n count factor used u = all-same count used (λ i. anyBelow n (λ x. eqb (getD factor x noFactor) i)) u

@@ -1,3 +1,4 @@
 pub mod Modes
 pub mod Factors
+pub mod Naming
 pub mod Used

@@ -1,18 +1,18 @@
 // The conditions on the rows of a model record, each by itself.
-ghost use Prim.Native.Nat.{ℕ, _≤_, _<_, min};
+mod named; // named.rt: each factor has a name
+
+ghost use Prim.Native.Nat.{ℕ};
 ghost use mathlib.Core.Path.{_≡_};
 ghost use mathlib.Core.Bool.{true, _||_};
-ghost use lib.Dec.{eqb, ltb, leb};
+ghost use lib.Dec.{ltb, leb};
 ghost use lib.ListN.{length, getD};
-ghost use Rattle.nameset.specs.Places.{places};
-ghost use Rattle.nameset.specs.Set.{member};
 ghost use Rattle.model.specs.Record.{noFactor};
-ghost use Rattle.model.specs.Check.{everyBelow, anyBelow, mayHold, mayBe, allPlaced, allKnown};
+ghost use Rattle.model.specs.Check.{everyBelow, mayHold, mayBe, allPlaced, allKnown};
 use byte_row::larger;
 use byte_row::largest_from;
 use model::NO_FACTOR;
 use model::entry;
-use nameset::NameSet;
+pub use named::all_named;
 
 // An entry counted from 1, and 0 for none: it is at most F exactly where a name may have that entry.
 fn counted(v: u8) -> u8
@@ -45,47 +45,6 @@ pub fn all_placed(n: usize, count: usize, factor: &[u8]) -> bool
     } else {
         false
     }
-}
-
-// The set `used` with the factor v, if there is such a factor.
-fn with_factor(used: NameSet, count: usize, v: u8) -> NameSet
-    requires { ⌜ count ≤ places ⌝ }
-    ensures { λ r. ⌜ ((i : ℕ) → i < count → member r i ≡ (member used i || eqb v i)) ⌝ }
-{
-    if (v as usize) < count {
-        used.with(v as usize)
-    } else {
-        used
-    }
-}
-
-fn smaller(a: usize, b: usize) -> usize
-    ensures { λ r. ⌜ r ≡ min a b ⌝ }
-{
-    if a < b { a } else { b }
-}
-
-// The factors that hold one of the n names.
-pub fn used_factors(n: usize, count: usize, factor: &[u8]) -> NameSet
-    requires { ⌜ count ≤ places ⌝ }
-    ensures { λ r. ⌜ ((i : ℕ) → i < count → member r i ≡ anyBelow n (λ x. eqb (getD (now (factor .entry)) x noFactor) i)) ⌝ }
-{
-    let end = smaller(n, factor.len());
-    let mut used = NameSet::empty();
-    let mut x = 0;
-    while x < end {
-        used = with_factor(used, count, entry(factor, x, NO_FACTOR));
-        x += 1;
-    }
-    used
-}
-
-// Whether every factor is in the set: the first number that is not in it is no factor's.
-pub fn all_used(count: usize, used: NameSet) -> bool
-    requires { ⌜ count ≤ places ⌝ }
-    ensures { λ r. ⌜ r ≡ everyBelow count (member used) ⌝ }
-{
-    count <= NameSet::full().minus(used).first()
 }
 
 // Whether a mode may be that of a factor that the record has.

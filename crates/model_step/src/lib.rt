@@ -61,7 +61,7 @@ fn goes_to(count: usize, mode: &[u8], own: usize, through: bool, from: State) ->
     while factor < count {
         match next_turn(entry(mode, factor, 0), taken, own == factor) {
             Turn::Take => {
-                return went_to(true, factor);
+                return went_to(true, own);
             }
             Turn::Refuse => {
                 return Moved::Nowhere;

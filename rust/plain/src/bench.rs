@@ -4,10 +4,11 @@
 //! bench --once FIGURE WHO KIND N
 //!
 //! Times on books near 60,000 bytes, each the least and the median of many runs in one process after a warm-up: the whole DTD
-//! of a book, all its declarations a parent at a time, the model of one parent, a word accepted or not, a declaration written
-//! and read. The plain code is timed, for the whole DTD also the program that rescans for each parent, and with the feature
-//! `library` the static library, all on the same inputs. Output buffers are lent as they are and not cleared between runs.
-//! Behind the times are tables of them in Markdown.
+//! of a book, all its declarations a parent at a time, the model of one parent, a word accepted or not (one as long as the call
+//! allows, and its first three names), a declaration written and read. The plain code is timed, for the whole DTD also the
+//! program that rescans for each parent, for the words also acceptance that copies the record for each name, and with the
+//! feature `library` the static library, all on the same inputs. Output buffers are lent as they are and not cleared between
+//! runs. Behind the times are tables of them in Markdown.
 //!
 //! --program times whole programs from start to end, a book on standard input; the table has the first beside each other one.
 //! --books writes the books into a folder, as files KIND.book.
@@ -26,12 +27,13 @@ const WHOLE: &str = "whole DTD";
 const ONE_AT_A_TIME: &str = "all parents, one at a time";
 const MODEL: &str = "model of one parent";
 const WORD: &str = "a word accepted or not";
+const SHORT: &str = "a word of 3 names";
 const WRITTEN: &str = "declaration written";
 const READ: &str = "declaration read";
 const PROGRAM: &str = "whole program";
 
 /// The figures in the order of the tables' columns.
-const FIGURES: &[&str] = &[WHOLE, ONE_AT_A_TIME, MODEL, WORD, WRITTEN, READ];
+const FIGURES: &[&str] = &[WHOLE, ONE_AT_A_TIME, MODEL, WORD, SHORT, WRITTEN, READ];
 
 /// What is timed on one book: the book, its first parent with a block, that parent's model and declaration, and a word.
 struct Input {
@@ -48,27 +50,13 @@ impl Input {
         let model = plain::model_of_parent(&book, parent).unwrap();
         let mut buffer = [0u8; plain::declaration::LONGEST];
         let size = plain::write_declaration(&book, parent, &model, &mut buffer).unwrap();
-        Input { parent, model, text: buffer[..size].to_vec(), word: a_word(&model), book }
+        Input { parent, model, text: buffer[..size].to_vec(), word: plain::a_word(&model), book }
     }
-}
 
-/// A word that the model accepts, as long as the call allows where a factor repeats.
-fn a_word(m: &plain::Model) -> Vec<u8> {
-    let mut word: Vec<u8> = Vec::new();
-    let mut repeated = None;
-    for i in 0..m.count {
-        let x = m.factor.iter().position(|&f| f as usize == i).unwrap() as u8;
-        if m.mode[i] >= 2 {
-            repeated = Some((word.len(), x));
-        }
-        word.push(x);
+    /// The first three names of the word, or all where it has fewer.
+    fn short(&self) -> &[u8] {
+        &self.word[..self.word.len().min(3)]
     }
-    if let Some((at, x)) = repeated {
-        let more = 255 - word.len();
-        word.splice(at..at, std::iter::repeat_n(x, more));
-    }
-    assert!(plain::accepted(m, &word));
-    word
 }
 
 /// One implementation's call for one figure.
@@ -99,6 +87,7 @@ fn one_at_a_time(book: &[u8], out: &mut Vec<u8>, write: impl Fn(&[u8], usize, &m
 
 fn plain_works(input: &Input) -> Vec<Work<'_>> {
     let Input { book, parent, model, text, word } = input;
+    let short = input.short();
     let mut dtd = vec![0u8; plain::LONGEST_DTD];
     let mut buffer = [0u8; plain::declaration::LONGEST];
     let mut out = Vec::new();
@@ -109,6 +98,9 @@ fn plain_works(input: &Input) -> Vec<Work<'_>> {
         work(ONE_AT_A_TIME, "plain", move || one_at_a_time(book, &mut out, write)),
         work(MODEL, "plain", move || plain::model_of_parent(black_box(book), *parent)),
         work(WORD, "plain", move || plain::accepts_word(64, black_box(model), black_box(word))),
+        work(WORD, "by value", move || plain::by_value::accepts_word(64, black_box(model), black_box(word))),
+        work(SHORT, "plain", move || plain::accepts_word(64, black_box(model), black_box(short))),
+        work(SHORT, "by value", move || plain::by_value::accepts_word(64, black_box(model), black_box(short))),
         work(WRITTEN, "plain", move || plain::write_declaration(black_box(book), *parent, model, &mut buffer)),
         work(READ, "plain", move || plain::read_declaration(black_box(book), black_box(text))),
     ]
@@ -117,7 +109,10 @@ fn plain_works(input: &Input) -> Vec<Work<'_>> {
 #[cfg(feature = "library")]
 fn library_works(input: &Input) -> Vec<Work<'_>> {
     let Input { book, parent, model, text, word } = input;
+    let short = input.short();
     let model = curlewsong::Model { count: model.count, factor: model.factor, mode: model.mode };
+    // Lends the record until the call, as plain's calls do, so that no copy is timed but those of the call.
+    let accepts = |model: &curlewsong::Model, word: &[u8]| curlewsong::accepts_word(64, *model, word);
     let mut dtd = vec![0u8; curlewsong::LONGEST_DTD];
     let mut buffer = [0u8; curlewsong::LONGEST_DECLARATION];
     let mut out = Vec::new();
@@ -126,7 +121,8 @@ fn library_works(input: &Input) -> Vec<Work<'_>> {
         work(WHOLE, "library", move || curlewsong::write_dtd(black_box(book), &mut dtd)),
         work(ONE_AT_A_TIME, "library", move || one_at_a_time(book, &mut out, write)),
         work(MODEL, "library", move || curlewsong::model_of_parent(black_box(book), *parent)),
-        work(WORD, "library", move || curlewsong::accepts_word(64, black_box(model), black_box(word))),
+        work(WORD, "library", move || accepts(black_box(&model), black_box(word))),
+        work(SHORT, "library", move || accepts(black_box(&model), black_box(short))),
         work(WRITTEN, "library", move || curlewsong::write_declaration(black_box(book), *parent, model, &mut buffer)),
         work(READ, "library", move || curlewsong::read_declaration(black_box(book), black_box(text))),
     ]
@@ -225,16 +221,22 @@ fn table(title: &str, columns: &[Column], rows: &[(&str, Times)]) {
     }
 }
 
+/// Columns of one figure: the library beside plain and beside another, or plain beside the other where no library is timed.
+fn beside(figure: &'static str, other: &'static str, head: &str) -> Vec<Column<'static>> {
+    let pairs = if cfg!(feature = "library") { vec![("library", "plain"), ("library", other)] } else { vec![("plain", other)] };
+    let column = |(first, second)| Column { head: format!("{head}{first} / {second}"), figure, first, second };
+    pairs.into_iter().map(column).collect()
+}
+
 /// The tables that the times of a run give.
 fn tables(programs: &[String], rows: &[(&str, Times)]) {
-    let whole = |first, second| Column { head: format!("{first} / {second}"), figure: WHOLE, first, second };
+    table("The whole DTD:", &beside(WHOLE, "rescan", ""), rows);
+    let words = [WORD, SHORT].map(|figure| beside(figure, "by value", &format!("{figure}: ")));
+    table("A word accepted or not:", &words.into_iter().flatten().collect::<Vec<_>>(), rows);
     if cfg!(feature = "library") {
-        table("The whole DTD:", &[whole("library", "plain"), whole("library", "rescan")], rows);
         let of_figure = |figure: &&'static str| Column { head: figure.to_string(), figure, first: "library", second: "plain" };
         let columns: Vec<Column> = FIGURES.iter().map(of_figure).collect();
         table("library / plain:", &columns, rows);
-    } else {
-        table("The whole DTD:", &[whole("plain", "rescan")], rows);
     }
     if let [first, others @ ..] = programs {
         let name = |path: &str| Path::new(path).file_name().map_or(path.into(), |name| name.to_string_lossy().into_owned());

@@ -2,6 +2,9 @@
 //! words, and a book is read once for all its parents. Nothing is proved here; the tests compare it with the second implementation.
 
 pub mod books;
+/// Acceptance with the record copied for each name, for the benchmark.
+#[path = "../../../docs/src/by_value.rs"]
+pub mod by_value;
 pub mod declaration;
 /// The program that rescans for each parent, for the benchmark; its `main` is not used here.
 #[allow(dead_code)]
@@ -308,7 +311,10 @@ pub fn accepted(m: &Model, word: &[u8]) -> bool {
     (factor..m.count).all(|i| m.mode[i] % 2 == 1 || (i == factor && taken))
 }
 
-pub fn accepts_word(n: usize, m: &Model, word: &[u8]) -> Result<bool, u8> {
+/// The checks of a call on a word.
+// Not inlined, so that acceptance by value runs the same machine code here: its time depends on where it lies in memory.
+#[inline(never)]
+fn check_word(n: usize, m: &Model, word: &[u8]) -> Result<(), u8> {
     if n == 0 || n > PLACES {
         return Err(3);
     }
@@ -318,7 +324,31 @@ pub fn accepts_word(n: usize, m: &Model, word: &[u8]) -> Result<bool, u8> {
     if word.len() > 255 || word.iter().any(|&x| x as usize >= n) {
         return Err(11);
     }
+    Ok(())
+}
+
+pub fn accepts_word(n: usize, m: &Model, word: &[u8]) -> Result<bool, u8> {
+    check_word(n, m, word)?;
     Ok(accepted(m, word))
+}
+
+/// A word that the model accepts, as long as the call allows where a factor repeats, for the benchmark.
+pub fn a_word(m: &Model) -> Vec<u8> {
+    let mut word: Vec<u8> = Vec::new();
+    let mut repeated = None;
+    for i in 0..m.count {
+        let x = m.factor.iter().position(|&f| f as usize == i).unwrap() as u8;
+        if m.mode[i] >= 2 {
+            repeated = Some((word.len(), x));
+        }
+        word.push(x);
+    }
+    if let Some((at, x)) = repeated {
+        let more = 255 - word.len();
+        word.splice(at..at, std::iter::repeat_n(x, more));
+    }
+    assert!(accepted(m, &word));
+    word
 }
 
 fn put(names: &Names, parent: usize, m: &Model, buffer: &mut [u8]) -> Result<usize, u8> {

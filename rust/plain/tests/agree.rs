@@ -1,6 +1,6 @@
 //! The plain code answers as the second implementation does, so that the benchmark times the same work.
 
-use compare::calls::Calls;
+use compare::calls::{Calls, Second};
 use compare::{run, Reached, SEED};
 use plain::{Model, EMPTY};
 use second::record::Record;
@@ -28,8 +28,12 @@ impl Calls for Plain {
         (number, back(model))
     }
 
+    /// The record borrowed, and by value: both answer the same.
     fn accepts_word(&mut self, names: usize, record: &Record, word: &[u8]) -> (u8, bool) {
-        or(plain::accepts_word(names, &to(record), word), false)
+        let model = to(record);
+        let answer = plain::accepts_word(names, &model, word);
+        assert_eq!(plain::by_value::accepts_word(names, &model, word), answer, "{names} names, {model:?}, the word {word:?}");
+        or(answer, false)
     }
 
     fn write_declaration(&mut self, book: &[u8], parent: usize, record: &Record, buffer: &mut [u8]) -> (u8, usize) {
@@ -70,5 +74,18 @@ fn books_of_the_benchmark() {
         assert!(out == second::calls::dtd(&book), "{kind}");
         assert!(out == plain::rescan::rescan(&book), "{kind}");
         assert!(out.starts_with(b"<!ELEMENT"), "{kind}");
+    }
+}
+
+#[test]
+fn words_of_the_benchmark() {
+    for (kind, make) in plain::books::KINDS {
+        let book = make();
+        let model = (0..64).find_map(|parent| plain::model_of_parent(&book, parent).ok()).unwrap();
+        let word = plain::a_word(&model);
+        for word in [&word[..], &word[..word.len().min(3)]] {
+            let due = Second.accepts_word(64, &back(model), word);
+            assert_eq!(Plain.accepts_word(64, &back(model), word), due, "{kind}, a word of {} names", word.len());
+        }
     }
 }

@@ -20,26 +20,26 @@ returns-2 c =
 
 returns-3 : tie.Need-returns-3
 returns-3 c =
-    let parent = c .before .before .before in
+    let parent = c .before .before .before .before .before .before .before .before in
     let book = parent .before .before .before in
     stopped-chain _ _ _ _ _ (book .before .before .take-book .ensures) (book .enum-told .given .1) (parent .if1 .left) _
-    (sym (c .before .before .is-chain .ensures) ∙ not-true _ (c .before .if2 .taken)) (c .refused3 .ensures)
+    (sym (c .before .before .rows-are-chain .ensures) ∙ not-true _ (c .before .if2 .taken)) (c .refused3 .ensures)
 
 write-chain-requires : tie.Need-write-chain-requires
 write-chain-requires c κs =
-    let parent = c .before .before .before in
+    let parent = c .before .before .before .before .before .before .before .before in
     let book = parent .before .before .before in
     let a = book .before .before .before .before .before .args in
     writable _ (a .parent) _ (a .buffer .now) _ (book .before .before .take-book .ensures) (book .enum-told .given .1) (parent .if1 .left)
-    (sym (c .before .before .is-chain .ensures) ∙ not-false _ (c .before .if2 .left))
+    (sym (c .before .before .rows-are-chain .ensures) ∙ not-false _ (c .before .if2 .left))
 
 returns-4 : tie.Need-returns-4
 returns-4 c =
     let chain = c .before .before .before .before in
-    let parent = chain .before .before in
+    let parent = chain .before .before .before .before .before .before .before in
     let book = parent .before .before .before in
     all-passed _ _ _ _ _ (book .before .before .take-book .ensures) (book .enum-told .given .1) (parent .if1 .left)
-    (sym (chain .before .is-chain .ensures) ∙ not-false _ (chain .if2 .left)) _ _ (c .before .before .write-chain .ensures)
+    (sym (chain .before .rows-are-chain .ensures) ∙ not-false _ (chain .if2 .left)) _ _ (c .before .before .write-chain .ensures)
 
 pub write-declaration-spec : {M : Type 1} → statement M
 write-declaration-spec =

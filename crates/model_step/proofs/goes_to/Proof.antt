@@ -1,13 +1,12 @@
 -- `model_step::goes_to` meets its contract. The loop keeps whether the run goes there.
 -- Assumes nothing.
-use Prim.Native.Nat.{ℕ, _+_, _-_}
+use Prim.Native.Nat.{_+_, _-_}
 use mathlib.Core.Path.{_≡_, refl, sym, _∙_, ap}
 use mathlib.Core.Bool.{Bool, true, false}
 use borrow.Author.Needs.{needs}
 use Rattle.model.specs.declared.Turn.{Turn}
-use Rattle.model.specs.declared.Moved.{Moved}
 use Rattle.model.specs.Run.{state, after, goesTo, wentTo}
-use Rattle.model.proofs.Turns.{takes-own, goes-turn, goes-past}
+use Rattle.model.proofs.Turns.{goes-turn, goes-past}
 use Rattle.model_step.proofs.goes_to.Statement.{statement}
 use Rattle.model_step.proofs.goes_to.Tie as tie
 
@@ -34,16 +33,12 @@ turned c e =
 enum-told : tie.Need-enum-told Inv-loop μ-loop
 enum-told c = search needs
 
--- A run that goes to the factor i, which holds the name, is in the name's own.
-took : {r : Moved} {there : Bool} {own i : ℕ} → r ≡ wentTo true i → true ≡ there → own ≡ i → r ≡ wentTo there own
-took {r} {there} {own} {i} e g o = e ∙ ap (wentTo true) (sym o) ∙ ap (λ (b : Bool). wentTo b own) g
-
 returns : tie.Need-returns Inv-loop μ-loop
 unfolding after
 returns c =
     let n = c .before .before .before in
-    let e = c .before .enum-told .given .1 in
-    took (c .went-to .ensures) (turned n e) (takes-own _ _ _ _ (sym (n .next-turn .ensures) ∙ e))
+    let a = n .before .before .before .before .before .args in
+    c .went-to .ensures ∙ ap (λ (b : Bool). wentTo b (a .own)) (turned n (c .before .enum-told .given .1))
 
 returns-2 : tie.Need-returns-2 Inv-loop μ-loop
 unfolding after wentTo

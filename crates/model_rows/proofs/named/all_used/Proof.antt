@@ -1,9 +1,9 @@
--- `model_rows::all_used` meets its contract.
+-- `all_used` meets its contract.
 -- Assumes nothing.
 use borrow.Author.Needs.{needs}
 use Rattle.model_rows.proofs.Used.{used-law}
-use Rattle.model_rows.proofs.all_used.Statement.{statement}
-use Rattle.model_rows.proofs.all_used.Tie as tie
+use Rattle.model_rows.proofs.named.all_used.Statement.{statement}
+use Rattle.model_rows.proofs.named.all_used.Tie as tie
 
 returns : tie.Need-returns
 returns c =
