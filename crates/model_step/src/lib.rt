@@ -15,21 +15,25 @@ use model::entry;
 fn next_turn(mode: u8, taken: bool, here: bool) -> Turn
     ensures { λ r. ⌜ r ≡ turnOf mode taken here ⌝ }
 {
-    if mode > 3 {
-        // No mode: the check of the record refuses these.
-        return Turn::Refuse;
-    }
     if here {
         if taken {
-            // Modes 2 and 3 repeat.
-            if mode > 1 { Turn::Take } else { Turn::Leave }
+            match mode {
+                0..=1 => Turn::Leave,
+                2..=3 => Turn::Take,
+                4..=255 => Turn::Refuse, // no mode: the check of the record refuses these
+            }
         } else {
-            Turn::Take
+            match mode {
+                0..=3 => Turn::Take,
+                4..=255 => Turn::Refuse,
+            }
         }
     } else if taken {
-        Turn::Leave
+        match mode {
+            0..=3 => Turn::Leave,
+            4..=255 => Turn::Refuse,
+        }
     } else {
-        // Modes 1 and 3 may be skipped.
         match mode {
             1 | 3 => Turn::Leave,
             _ => Turn::Refuse,
