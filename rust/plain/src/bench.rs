@@ -35,6 +35,9 @@ const PROGRAM: &str = "whole program";
 /// The figures in the order of the tables' columns.
 const FIGURES: &[&str] = &[WHOLE, ONE_AT_A_TIME, MODEL, WORD, SHORT, WRITTEN, READ];
 
+/// How often all figures of a book are timed, one after the other.
+const ROUNDS: usize = 4;
+
 /// What is timed on one book: the book, its first parent with a block, that parent's model and declaration, and a word.
 struct Input {
     book: Vec<u8>,
@@ -62,11 +65,11 @@ impl Input {
 /// One implementation's call for one figure.
 struct Work<'a> {
     figure: &'static str,
-    who: &'static str,
+    who: &'a str,
     call: Box<dyn FnMut() + 'a>,
 }
 
-fn work<'a, T>(figure: &'static str, who: &'static str, mut call: impl FnMut() -> T + 'a) -> Work<'a> {
+fn work<'a, T>(figure: &'static str, who: &'a str, mut call: impl FnMut() -> T + 'a) -> Work<'a> {
     let call = move || {
         black_box(call());
     };
@@ -137,31 +140,45 @@ fn works(input: &Input) -> Vec<Work<'_>> {
     plain_works(input).into_iter().chain(library_works(input)).collect()
 }
 
-/// The least and the median of many runs, in microseconds.
-fn timed(mut call: impl FnMut()) -> (f64, f64) {
-    // As many calls in one run as take about half a millisecond.
-    let mut calls = 1u32;
-    loop {
-        let start = Instant::now();
-        for _ in 0..calls {
-            call();
+/// A work that is timed: how often it is called in one run, and the times of the runs so far.
+struct Timed<'a> {
+    work: Work<'a>,
+    calls: u32,
+    runs: Vec<f64>,
+}
+
+impl<'a> Timed<'a> {
+    /// After a warm-up, with as many calls in one run as take about half a millisecond.
+    fn new(work: Work<'a>) -> Self {
+        let mut new = Timed { work, calls: 1, runs: Vec::new() };
+        while new.run() < Duration::from_micros(500) && new.calls <= 1 << 20 {
+            new.calls *= 2;
         }
-        if start.elapsed() > Duration::from_micros(500) || calls > 1 << 20 {
-            break;
-        }
-        calls *= 2;
+        new
     }
-    let mut runs: Vec<f64> = Vec::new();
-    let until = Instant::now() + Duration::from_millis(150);
-    while runs.len() < 15 || (Instant::now() < until && runs.len() < 500) {
+
+    fn run(&mut self) -> Duration {
         let start = Instant::now();
-        for _ in 0..calls {
-            call();
+        for _ in 0..self.calls {
+            (self.work.call)();
         }
-        runs.push(start.elapsed().as_nanos() as f64 / f64::from(calls) / 1000.0);
+        start.elapsed()
     }
-    runs.sort_by(f64::total_cmp);
-    (runs[0], runs[runs.len() / 2])
+
+    /// Many runs, in microseconds for each call.
+    fn round(&mut self) {
+        let until = Instant::now() + Duration::from_millis(75);
+        let before = self.runs.len();
+        while self.runs.len() < before + 5 || (Instant::now() < until && self.runs.len() < before + 250) {
+            let time = self.run().as_nanos() as f64 / f64::from(self.calls) / 1000.0;
+            self.runs.push(time);
+        }
+    }
+
+    fn least_and_median(&mut self) -> (f64, f64) {
+        self.runs.sort_by(f64::total_cmp);
+        (self.runs[0], self.runs[self.runs.len() / 2])
+    }
 }
 
 /// One program from start to end.
@@ -174,18 +191,20 @@ fn program(path: &str, book: &[u8]) {
 /// The least times of one book, by figure and who.
 type Times = BTreeMap<(&'static str, String), f64>;
 
-/// Times all of one book, and prints a line for each time.
+/// Times all of one book, and prints a line for each time. All are timed in turn, several times over, so that a time in which
+/// the machine is slow does not meet one of them alone.
 fn times_of(input: &Input, programs: &[String]) -> Times {
+    let whole = programs.iter().map(|path| work(PROGRAM, path, || program(path, &input.book)));
+    let mut all: Vec<Timed> = works(input).into_iter().chain(whole).map(Timed::new).collect();
+    for _ in 0..ROUNDS {
+        all.iter_mut().for_each(Timed::round);
+    }
     let mut times = Times::new();
-    let mut line = |figure: &'static str, who: &str, (least, median): (f64, f64)| {
+    for one in &mut all {
+        let (least, median) = one.least_and_median();
+        let Work { figure, who, .. } = one.work;
         println!("  {figure:<28} {who:<8} {least:>12.4} µs least {median:>12.4} µs median");
         times.insert((figure, who.to_string()), least);
-    };
-    for Work { figure, who, call } in works(input) {
-        line(figure, who, timed(call));
-    }
-    for path in programs {
-        line(PROGRAM, path, timed(|| program(path, &input.book)));
     }
     times
 }
