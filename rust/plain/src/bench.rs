@@ -167,9 +167,9 @@ impl<'a> Timed<'a> {
 
     /// Many runs, in microseconds for each call.
     fn round(&mut self) {
-        let until = Instant::now() + Duration::from_millis(75);
+        let until = Instant::now() + Duration::from_millis(40);
         let before = self.runs.len();
-        while self.runs.len() < before + 5 || (Instant::now() < until && self.runs.len() < before + 250) {
+        while self.runs.len() < before + 4 || (Instant::now() < until && self.runs.len() < before + 125) {
             let time = self.run().as_nanos() as f64 / f64::from(self.calls) / 1000.0;
             self.runs.push(time);
         }
