@@ -13,13 +13,16 @@ use Rattle.intake_word.proofs.rows_accept_word.Tie as tie
 returns : tie.Need-returns
 returns c =
     let a = c .before .before .before .before .before .args in
-    stops-count (a .names) (ofRows (a .count) (a .factor .now) (a .mode .now)) (a .word .now) (c .before .good-count .ensures) (c .if1 .taken)
+    let r = ofRows (a .count) (a .factor .now) (a .mode .now) in
+    stops-count (a .names) r (a .word .now) (c .before .good-count .ensures) (c .if1 .taken)
 
 returns-2 : tie.Need-returns-2
 returns-2 c =
     let n = c .before .before in
     let a = n .before .before .before .before .before .args in
-    stops-model (a .names) (ofRows (a .count) (a .factor .now) (a .mode .now)) (a .word .now) (n .before .good-count .ensures) (n .if1 .left) (c .before .rows-are-chain .ensures) (c .if2 .taken)
+    let r = ofRows (a .count) (a .factor .now) (a .mode .now) in
+    stops-model (a .names) r (a .word .now) (n .before .good-count .ensures) (n .if1 .left)
+    (c .before .rows-are-chain .ensures) (c .if2 .taken)
 
 bad-word-requires : tie.Need-bad-word-requires
 bad-word-requires c κs =
@@ -31,7 +34,9 @@ returns-3 c =
     let m = c .before .before in
     let n = m .before .before in
     let a = n .before .before .before .before .before .args in
-    stops-word (a .names) (ofRows (a .count) (a .factor .now) (a .mode .now)) (a .word .now) (n .before .good-count .ensures) (n .if1 .left) (m .before .rows-are-chain .ensures) (m .if2 .left)
+    let r = ofRows (a .count) (a .factor .now) (a .mode .now) in
+    stops-word (a .names) r (a .word .now) (n .before .good-count .ensures) (n .if1 .left)
+    (m .before .rows-are-chain .ensures) (m .if2 .left)
     (c .before .bad-word .ensures) (c .if3 .taken)
 
 returns-4 : tie.Need-returns-4
@@ -41,7 +46,9 @@ returns-4 c =
     let m = w .before .before in
     let n = m .before .before in
     let a = n .before .before .before .before .before .args in
-    answers (a .names) (ofRows (a .count) (a .factor .now) (a .mode .now)) (a .word .now) (n .before .good-count .ensures) (n .if1 .left) (m .before .rows-are-chain .ensures) (m .if2 .left)
+    let r = ofRows (a .count) (a .factor .now) (a .mode .now) in
+    answers (a .names) r (a .word .now) (n .before .good-count .ensures) (n .if1 .left)
+    (m .before .rows-are-chain .ensures) (m .if2 .left)
     (w .before .bad-word .ensures) (w .if3 .left) (c .before .rows-accept .ensures) (c .if4 .taken)
 
 returns-5 : tie.Need-returns-5
@@ -51,7 +58,9 @@ returns-5 c =
     let m = w .before .before in
     let n = m .before .before in
     let a = n .before .before .before .before .before .args in
-    answers (a .names) (ofRows (a .count) (a .factor .now) (a .mode .now)) (a .word .now) (n .before .good-count .ensures) (n .if1 .left) (m .before .rows-are-chain .ensures) (m .if2 .left)
+    let r = ofRows (a .count) (a .factor .now) (a .mode .now) in
+    answers (a .names) r (a .word .now) (n .before .good-count .ensures) (n .if1 .left)
+    (m .before .rows-are-chain .ensures) (m .if2 .left)
     (w .before .bad-word .ensures) (w .if3 .left) (c .before .rows-accept .ensures) (c .if4 .left)
 
 pub rows-accept-word-spec : {M : Type 1} → statement M

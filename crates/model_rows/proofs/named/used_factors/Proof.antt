@@ -8,7 +8,6 @@ use native.Mathlib.Omega.{arith}
 use borrow.Author.Needs.{needs}
 use lib.Dec.{eqb}
 use lib.ListN.{length, getD}
-use Rattle.nameset.specs.declared.NameSet.{NameSet}
 use Rattle.nameset.specs.Places.{places}
 use Rattle.nameset.specs.Set.{member}
 use Rattle.model.specs.Record.{noFactor}
