@@ -5,9 +5,12 @@ Request U3 of paper 02 asks for this. Looked at is the MIR of the static library
 as the compiler has read it, with the types of its parameters, its result and all locals, also of those that the
 compiler made. From an exported call on, these are found and looked at:
 
-- Loops: none gives a value with an array in it to a local or to a part of one.
-- All functions that are called in loops, directly or by others: no parameter, no result and no local is an array or
-  has one in it, at any depth of structs and enums. A reference to an array is right.
+- Loops: none makes a value with an array in it, in a local, in a part of one or behind a reference.
+- All functions that are called in loops, directly or by others, and those that call themselves: no parameter, no
+  result and no local is an array or has one in it, at any depth of structs and enums, and no such value is made behind
+  a reference. A reference to an array is right.
+
+Not seen is a record that is kept in another way than by arrays, for example in many fields of one number each.
 
 Usage: python3 tests/copies_check.py
 
@@ -67,6 +70,13 @@ def listed(node, letter="l"):
         yield member
 
 
+def member(members, number):
+    """The member of this number, which is a word of the MIR."""
+    if not number.isdecimal() or int(number) >= len(members):
+        raise Unreadable(f"there is no member {number} of {len(members)}")
+    return members[int(number)]
+
+
 def nodes_in(node):
     """All nodes of a tree that are lists."""
     waiting = [node]
@@ -110,19 +120,20 @@ class Types:
         raise Unreadable(f"the type {shown(kind)} is not known")
 
     def of_place(self, function, place):
-        """The type of a local or of a part of it."""
+        """The type of a local, of a part of it, or of what is behind a reference."""
         local, projections = parts(place, "place", 2)
-        kind, variant = function.locals[int(local)], None
+        kind, variant = member(function.locals, local), None
         for projection in listed(projections):
-            if projection[0] == "deref":
-                kind = projection[1]
-            elif projection[0] == "variant":
-                variant = int(projection[1])
-            elif variant is None:
-                kind = self.variants(kind)[0][int(projection[1])]
-            else:  # field 0 of a variant is its number
-                at, fields = int(projection[1]), self.variants(kind)[variant]
-                kind, variant = (fields[at - 1] if at else "number"), None
+            if is_kind(projection, "deref"):
+                kind, = parts(projection, "deref", 1)
+            elif is_kind(projection, "variant"):
+                variant, = parts(projection, "variant", 1)
+            else:
+                at, = parts(projection, "field", 1)
+                known = self.variants(kind)
+                # The first field of a variant is its number.
+                fields = known[0] if variant is None else ["number", *member(known, variant)]
+                kind, variant = member(fields, at), None
         return kind
 
 
@@ -154,13 +165,13 @@ class Function:
     def loops(self):
         return [node for node in nodes_in(self.body) if is_kind(node, "loop")]
 
-    def made_in_loops(self, types):
-        """The types of the values that loops give to locals or to parts of them."""
-        for node in (inner for loop in self.loops() for inner in nodes_in(loop)):
+    def made_in(self, part, types):
+        """The types of the values that are made in a part of the body."""
+        for node in nodes_in(part):
             if is_kind(node, "assign"):
-                yield types.of_place(self, node[1])
+                yield types.of_place(self, parts(node, "assign", 2)[0])
             elif is_kind(node, "call"):
-                yield types.of_place(self, node[3])
+                yield types.of_place(self, parts(node, "call", 3)[2])
 
 
 def calls_in(node):
@@ -198,14 +209,17 @@ def callees(functions, name):
 
 
 def repeated_by(functions, call):
-    """The functions with loops, and those that are called in loops, both with the functions that lead there."""
+    """The functions with loops, and those that run more than once: called in loops, or by themselves, directly or by
+    others. Both with the functions that lead there."""
     looping, repeated = {}, {}
     for name, route in callees(functions, call).items():
-        for loop in functions[name].loops():
+        loops = functions[name].loops()
+        if loops:
             looping[name] = route
-            for other in calls_in(loop):
-                for inner, further in callees(functions, other).items():
-                    repeated.setdefault(inner, route + further)
+        again = [other for other in calls_in(functions[name].body) if name in callees(functions, other)]
+        for other in again + [other for loop in loops for other in calls_in(loop)]:
+            for inner, further in callees(functions, other).items():
+                repeated.setdefault(inner, route + further)
     return looping, repeated
 
 
@@ -221,11 +235,12 @@ def findings(text, calls=None):
             found.append(f"{call}: {expected} is called in none of its loops. Correct CALLS in tests/copies_check.py.")
         for name, route in repeated.items():
             function = functions[name]
-            for at, kind in enumerate(function.locals):
-                if types.has_array(kind):
-                    found.append(f"{function.has(at, shown(kind))} ({' > '.join(route)})")
+            held = [function.has(at, shown(kind)) for at, kind in enumerate(function.locals) if types.has_array(kind)]
+            made = [f"{name} makes a value of type {shown(kind)}"
+                    for kind in function.made_in(function.body, types) if types.has_array(kind)]
+            found += [f"{what} ({' > '.join(route)})" for what in held or made]
         for name, route in looping.items():
-            for kind in functions[name].made_in_loops(types):
+            for kind in functions[name].made_in(functions[name].loops(), types):
                 if types.has_array(kind):
                     found.append(f"a loop of {name} makes a value of type {shown(kind)} ({' > '.join(route)})")
     return list(dict.fromkeys(found)), len(looped), len(called)
@@ -239,13 +254,14 @@ def main():
     try:
         found, looped, called = findings(printed.stdout)
     except Unreadable as why:
-        print(f"copies_check: the MIR of {LIBRARY} cannot be read: {why}. Adapt tests/copies_check.py.", file=sys.stderr)
+        print(f"copies_check: the MIR of {LIBRARY} cannot be read: {why}. Adapt tests/copies_check.py.",
+              file=sys.stderr)
         return 2
     if found:
         print(*found, "Pass a reference, or make the value before the loop.", sep="\n")
         return 1
-    print(f"copies_check: no record and no array by value in the loops of {looped} functions, nor in the {called} functions "
-          f"that are called there ({', '.join(CALLS)})")
+    print(f"copies_check: no record and no array by value in the loops of {looped} functions, nor in the {called} "
+          f"functions that are called there ({', '.join(CALLS)})")
     return 0
 
 

@@ -10,6 +10,7 @@ import copies_check as checker
 
 BYTE, ROW = "(tyInt 8)", "(tyArray (tyInt 8) (lenLit 64))"
 LENT = f"(tyRef erased imm {ROW})"
+SLICE = f'(tyStruct "&[]" (tcons (tyRef erased imm {BYTE}) (tcons (tyInt 64) tnil)))'
 
 
 def listed(*members, letter="l"):
@@ -51,7 +52,7 @@ def program(**changed):
         "call": function("call", f"(seq {call('before')} {call('run')})"),
         "before": function("before", "return", ROW),
         "run": function("run", f"(seq {loop(call('step'))} return)"),
-        "step": function("step", call("deep"), named("Moved"), LENT, named("State"), parameters=2),
+        "step": function("step", call("deep"), named("Moved"), LENT, SLICE, named("State"), parameters=3),
         "deep": function("deep", "return", BYTE),
     }
     return f'program {listed(*(functions | changed).values())} (fnRef "none::main")'
@@ -79,6 +80,12 @@ class Copies(unittest.TestCase):
         deep = function("deep", "return", BYTE, named("Model"), parameters=1)
         self.assertEqual(self.found(deep=deep), ["deep takes Model by value (call > run > step > deep)"])
 
+    def test_a_function_that_calls_itself(self):
+        for run, deep in [(call("run"), "return"), (call("deep"), call("run"))]:
+            found = self.found(run=function("run", f"(seq {loop(call('step'))} {run})", "tyBool", ROW),
+                               deep=function("deep", deep))
+            self.assertIn("run has a local of type [u8; 64]", found[0])
+
     def test_a_value_made_in_a_loop(self):
         copy = f"(assign {place(1)} (rvOpd (copy {place(0)})))"
         into_field = f"(assign {place(1, '(field 1)')} (rvOpd (copy {place(0)})))"
@@ -87,6 +94,27 @@ class Copies(unittest.TestCase):
                                  (named("Held"), into_variant, "Model"), (named("Model"), call("step", 1), "Model")]:
             run = function("run", f"(seq {loop(call('step'))} {loop(body)})", "tyBool", kind)
             self.assertEqual(self.found(run=run), [f"a loop of run makes a value of type {name} (call > run)"])
+
+    def test_a_value_made_behind_a_reference(self):
+        for kind, projections, name in [(LENT, (f"(deref {ROW})",), "[u8; 64]"),
+                                        (named("Model"), (f"(deref {named('Model')})", "(field 1)"), "[u8; 64]")]:
+            body = f"(assign {place(1, *projections)} (repeat (int 8 0) 64))"
+            lent = f"(tyRef erased mut {kind})"
+            deep = function("deep", body, "tyBool", lent, parameters=1)
+            self.assertEqual(self.found(deep=deep), [f"deep makes a value of type {name} (call > run > step > deep)"])
+            run = function("run", f"(seq {loop(call('step'))} {loop(body)})", "tyBool", lent, parameters=1)
+            self.assertEqual(self.found(run=run), [f"a loop of run makes a value of type {name} (call > run)"])
+
+    def test_a_finding_is_told_once(self):
+        twice = f"(seq {loop(call('before', 1))} {loop(call('before', 1))})"
+        run = function("run", f"(seq {loop(call('step'))} {twice})", "tyBool", ROW)
+        self.assertEqual(self.found(run=run), ["before returns [u8; 64] by value (call > run > before)",
+                                               "a loop of run makes a value of type [u8; 64] (call > run)"])
+
+    def test_a_part_of_a_slice(self):
+        body = f"(assign {place(1, '(field 0)', f'(deref {BYTE})')} (rvOpd (int 8 0)))"
+        run = function("run", f"(seq {loop(call('step'))} {loop(body)})", "tyBool", SLICE, parameters=1)
+        self.assertEqual(self.found(run=run), [])
 
     def test_a_part_without_an_array(self):
         for projections in [("(field 0)",), (f"(deref {BYTE})",)]:
@@ -109,15 +137,25 @@ class Copies(unittest.TestCase):
     def test_what_cannot_be_read(self):
         whole = program()
         unknown = function("step", "return", "(tyOther 1)")
-        for text in ["", whole[:-1], whole[:-30], whole + ")", program(step=unknown), whole.replace('"deep"', '"other"', 1),
-                     whole.replace("(fnItem 0", "(fnItem", 1), whole.replace('(pair "State" (fields', '(pair "Other" (fields')]:
+        for target in [place(7), place("x"), place(0, "(field 0)"), place(1, "(field 9)"), place(1, "(index 1)")]:
+            body = f"(seq {call('step')} (assign {target} (rvOpd (int 8 0))))"
+            with self.assertRaises(checker.Unreadable):
+                self.found(run=function("run", loop(body), "tyBool", named("State")))
+        indirect = call("step").replace("direct", "indirect")
+        with self.assertRaises(checker.Unreadable):
+            self.found(run=function("run", loop(f"(seq {call('step')} {indirect})")))
+        for text in ["", whole[:-1], whole[:-30], whole + ")", program(step=unknown),
+                     whole.replace('"deep"', '"other"', 1), whole.replace("(fnItem 0", "(fnItem", 1),
+                     whole.replace('(pair "State" (fields', '(pair "Other" (fields')]:
             with self.assertRaises(checker.Unreadable):
                 checker.findings(text, {"call": "step"})
 
     def status(self, text, status=0):
         printed = subprocess.CompletedProcess([], status, text, "not proved")
-        with mock.patch.object(subprocess, "run", return_value=printed), mock.patch.object(checker, "CALLS", {"call": "step"}), \
-                contextlib.redirect_stdout(io.StringIO()) as self.out, contextlib.redirect_stderr(io.StringIO()) as self.err:
+        self.out, self.err = io.StringIO(), io.StringIO()
+        with mock.patch.object(subprocess, "run", return_value=printed), \
+                mock.patch.object(checker, "CALLS", {"call": "step"}), \
+                contextlib.redirect_stdout(self.out), contextlib.redirect_stderr(self.err):
             return checker.main()
 
     def test_the_command(self):

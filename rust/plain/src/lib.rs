@@ -321,7 +321,7 @@ fn check_word(n: usize, m: &Model, word: &[u8]) -> Result<(), u8> {
     if !is_chain(n, m) {
         return Err(10);
     }
-    if word.len() > 255 || word.iter().any(|&x| x as usize >= n) {
+    if word.len() > 255 || word.iter().fold(0, |most, &x| most.max(x)) as usize >= n {
         return Err(11);
     }
     Ok(())
