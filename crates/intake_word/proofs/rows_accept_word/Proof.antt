@@ -4,25 +4,18 @@ use mathlib.Core.Path.{sym, _∙_}
 use borrow.Author.Needs.{needs}
 use borrow.Author.Tests.{not-false}
 use Rattle.nameset.proofs.Count.{count-bounds}
-use Rattle.model.specs.Build.{ofRows}
 use Rattle.intake_word.specs.Acceptance.{acceptance}
 use Rattle.intake_word.proofs.Answers.{stops-count, stops-model, stops-word, answers}
 use Rattle.intake_word.proofs.rows_accept_word.Statement.{statement}
 use Rattle.intake_word.proofs.rows_accept_word.Tie as tie
 
 returns : tie.Need-returns
-returns c =
-    let a = c .before .before .before .before .before .args in
-    let r = ofRows (a .count) (a .factor .now) (a .mode .now) in
-    stops-count (a .names) r (a .word .now) (c .before .good-count .ensures) (c .if1 .taken)
+returns c = stops-count _ _ _ (c .before .good-count .ensures) (c .if1 .taken)
 
 returns-2 : tie.Need-returns-2
 returns-2 c =
     let n = c .before .before in
-    let a = n .before .before .before .before .before .args in
-    let r = ofRows (a .count) (a .factor .now) (a .mode .now) in
-    stops-model (a .names) r (a .word .now) (n .before .good-count .ensures) (n .if1 .left)
-    (c .before .rows-are-chain .ensures) (c .if2 .taken)
+    stops-model _ _ _ (n .before .good-count .ensures) (n .if1 .left) (c .before .rows-are-chain .ensures) (c .if2 .taken)
 
 bad-word-requires : tie.Need-bad-word-requires
 bad-word-requires c κs =
@@ -33,10 +26,7 @@ returns-3 : tie.Need-returns-3
 returns-3 c =
     let m = c .before .before in
     let n = m .before .before in
-    let a = n .before .before .before .before .before .args in
-    let r = ofRows (a .count) (a .factor .now) (a .mode .now) in
-    stops-word (a .names) r (a .word .now) (n .before .good-count .ensures) (n .if1 .left)
-    (m .before .rows-are-chain .ensures) (m .if2 .left)
+    stops-word _ _ _ (n .before .good-count .ensures) (n .if1 .left) (m .before .rows-are-chain .ensures) (m .if2 .left)
     (c .before .bad-word .ensures) (c .if3 .taken)
 
 returns-4 : tie.Need-returns-4
@@ -45,10 +35,7 @@ returns-4 c =
     let w = c .before .before in
     let m = w .before .before in
     let n = m .before .before in
-    let a = n .before .before .before .before .before .args in
-    let r = ofRows (a .count) (a .factor .now) (a .mode .now) in
-    answers (a .names) r (a .word .now) (n .before .good-count .ensures) (n .if1 .left)
-    (m .before .rows-are-chain .ensures) (m .if2 .left)
+    answers _ _ _ (n .before .good-count .ensures) (n .if1 .left) (m .before .rows-are-chain .ensures) (m .if2 .left)
     (w .before .bad-word .ensures) (w .if3 .left) (c .before .rows-accept .ensures) (c .if4 .taken)
 
 returns-5 : tie.Need-returns-5
@@ -57,10 +44,7 @@ returns-5 c =
     let w = c .before .before in
     let m = w .before .before in
     let n = m .before .before in
-    let a = n .before .before .before .before .before .args in
-    let r = ofRows (a .count) (a .factor .now) (a .mode .now) in
-    answers (a .names) r (a .word .now) (n .before .good-count .ensures) (n .if1 .left)
-    (m .before .rows-are-chain .ensures) (m .if2 .left)
+    answers _ _ _ (n .before .good-count .ensures) (n .if1 .left) (m .before .rows-are-chain .ensures) (m .if2 .left)
     (w .before .bad-word .ensures) (w .if3 .left) (c .before .rows-accept .ensures) (c .if4 .left)
 
 pub rows-accept-word-spec : {M : Type 1} → statement M
