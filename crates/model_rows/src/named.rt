@@ -13,8 +13,8 @@ use model::entry;
 use nameset::NameSet;
 use nameset::PLACES;
 
-// Up to this many factors it is faster to look for each of them.
-const FEW: usize = 12;
+// With at least this many names to a factor it is faster to look for each factor by itself.
+const NAMES_EACH: usize = 5;
 
 // The last factor that a record may have, where it has as many as there are places.
 const LAST: usize = 63;
@@ -100,7 +100,7 @@ pub fn all_named(n: usize, count: usize, factor: &[u8]) -> bool
     requires { ⌜ (count ≤ places) × (allPlaced (length (now factor)) n count (now factor) ≡ true) ⌝ }
     ensures { λ r. ⌜ r ≡ allNamed n count (now (factor .entry)) ⌝ }
 {
-    if count <= FEW {
+    if count <= n / NAMES_EACH {
         return each_named(n, 0, count, factor);
     }
     let told = smaller(count, LAST);
