@@ -17,7 +17,7 @@
  *    9  no block in the book has the parent whose model is wanted from the sample
  *   10  the model record is not a chain over the names
  *   11  the word has more than 255 names, or a number that is not below the count of names
- *   12  the output buffer is shorter than the text to be written
+ *   12  the output buffer is shorter than the text to be written, or has fewer than 65 places for a word
  *   13  the text does not have the form of a declaration
  *   14  a name in the text, the parent's included, is not in the book
  *   15  the model in the text has a name twice
@@ -47,7 +47,8 @@
  * nor reads those of a buffer. A buffer overlaps nothing else that is passed to the same call.
  *
  * docs/FORMAT.md has the bytes of a book, the order of the checks and the text of a declaration. They are those of
- * paper 01, with requests U1 (reading) and U2 (the whole DTD) of paper 02; the papers decide.
+ * paper 01, with requests U1 (reading), U2 (the whole DTD) and U4 (one model within another) of paper 02; the papers
+ * decide.
  */
 #ifndef CURLEWSONG_H
 #define CURLEWSONG_H
@@ -68,6 +69,8 @@ extern "C" {
 #define CURLEWSONG_LONGEST_DECLARATION 2253
 /* No book's DTD has more bytes: 64 declarations of that length, each with a line feed. */
 #define CURLEWSONG_LONGEST_DTD 144256
+/* The most names of the word that shows that a model is not within another, and the places that its buffer needs. */
+#define CURLEWSONG_LONGEST_COUNTEREXAMPLE 65
 
 /* A content model: `count` factors in order. factor[x] is the factor, from 0, that holds the name with number x, or
  * CURLEWSONG_NONE. mode[i] is the mark of factor i: 0 none, 1 '?', 2 '+', 3 '*'. A call takes any values and refuses
@@ -92,6 +95,12 @@ typedef struct {
 
 typedef struct {
     uint8_t refusal;
+    bool yes;
+    size_t length;
+} curlewsong_inclusion;
+
+typedef struct {
+    uint8_t refusal;
     size_t length;
 } curlewsong_written;
 
@@ -109,6 +118,14 @@ curlewsong_model_answer curlewsong_model_of_parent(const uint8_t *book, size_t b
 /* Whether the model over `names` names accepts the word: whether the word is a joining of one part for each factor in
  * order. Each byte of the word is the number of a name. Refusals, in this order: 3, 10, 11. */
 curlewsong_verdict curlewsong_accepts_word(size_t names, curlewsong_model model, const uint8_t *word, size_t word_length);
+
+/* Whether every word, of any length, that the first model over `names` names accepts is accepted by the second. On no,
+ * a word that the first accepts and the second does not is in the front of the buffer, one byte for the number of each
+ * name, and `length` is its length, 0 for the empty word. Which of these words it is, is left open. The bytes behind it
+ * keep their values. On yes all bytes do, and the length is 0. The buffer needs CURLEWSONG_LONGEST_COUNTEREXAMPLE
+ * places, also where the answer is yes. Refusals, in this order: 3, 10 (the first model, then the second), 12. */
+curlewsong_inclusion curlewsong_within(size_t names, curlewsong_model first, curlewsong_model second,
+                                       uint8_t *word, size_t word_length);
 
 /* Writes the declaration of the parent with this model to the front of the buffer, in canonical form (paper 01 calls it
  * the house spelling), and answers its length. The bytes behind it keep their values: no line feed and no NUL is

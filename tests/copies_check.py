@@ -1,9 +1,10 @@
 #!/usr/bin/env python3
-"""Nothing that runs once for each name of a word takes or returns a record or its arrays by value.
+"""Nothing that runs once for each name or factor takes or returns a record or its arrays by value.
 
-Request U3 of paper 02 asks for this. Looked at is the MIR of the static library, which `rt mir` prints: every function
-as the compiler has read it, with the types of its parameters, its result and all locals, also of those that the
-compiler made. From an exported call on, these are found and looked at:
+Request U3 of paper 02 asks for this of acceptance; the comparison of two models (U4) keeps to it too. Looked at is the
+MIR of the static library, which `rt mir` prints: every function as the compiler has read it, with the types of its
+parameters, its result and all locals, also of those that the compiler made. From an exported call on, these are found
+and looked at:
 
 - Loops: none makes a value with an array in it, in a local, in a part of one or behind a reference.
 - All functions that are called in loops, directly or by others, and those that call themselves: no parameter, no
@@ -23,8 +24,11 @@ import sys
 
 LIBRARY = "curlewsong"
 
-# The calls that are looked at, each with a function that its loop over names must call: so the loop itself was found.
-CALLS = {"curlewsong::curlewsong_accepts_word": "model_step::step"}
+# The calls that are looked at, each with functions that its loops must call: so the loops themselves were found.
+CALLS = {
+    "curlewsong::curlewsong_accepts_word": ["model_step::step"],
+    "curlewsong::curlewsong_within": ["model_extremes::lower", "model_places::far_over", "model_within::pass_factor"],
+}
 
 TOKEN = re.compile(r'"[^"]*"|[()]|[^\s()"]+')
 
@@ -231,8 +235,8 @@ def findings(text, calls=None):
         looping, repeated = repeated_by(functions, call)
         looped.update(looping)
         called.update(repeated)
-        if expected not in repeated:
-            found.append(f"{call}: {expected} is called in none of its loops. Correct CALLS in tests/copies_check.py.")
+        found += [f"{call}: {name} is called in none of its loops. Correct CALLS in tests/copies_check.py."
+                  for name in expected if name not in repeated]
         for name, route in repeated.items():
             function = functions[name]
             held = [function.has(at, shown(kind)) for at, kind in enumerate(function.locals) if types.has_array(kind)]

@@ -1,5 +1,5 @@
-/* Calls each function of the static library from C, on the example of paper 01 and on small books. Prints what differs;
- * the status is then 1.
+/* Calls each function of the static library from C, on the example of paper 01, on small books and on small models.
+ * Prints what differs; the status is then 1.
  *
  *     cc -Iinclude tests/header_check.c -Ltarget/staticlib -lcurlewsong -o target/header_check && target/header_check
  */
@@ -85,6 +85,61 @@ static void check_write_dtd(void) {
     expect(all_seven(buffer, sizeof buffer), "an empty DTD changes no byte");
 }
 
+/* One plain factor for each of so many names from 0 on. */
+static curlewsong_model plain_names(uint8_t count) {
+    curlewsong_model model = {0};
+    memset(model.factor, CURLEWSONG_NONE, CURLEWSONG_PLACES);
+    model.count = count;
+    for (uint8_t name = 0; name < count; name++) {
+        model.factor[name] = name;
+    }
+    return model;
+}
+
+/* Asks whether the first is within the second, with so many places of a buffer. The word that is due has the names from
+ * 0 on, and all other bytes keep their values. */
+static void check_inclusion(size_t names, curlewsong_model first, curlewsong_model second, size_t places,
+                            curlewsong_inclusion due, const char *what) {
+    uint8_t buffer[CURLEWSONG_LONGEST_COUNTEREXAMPLE + 9], expected[sizeof buffer];
+    memset(buffer, 7, sizeof buffer);
+    memset(expected, 7, sizeof expected);
+    for (size_t i = 0; i < due.length; i++) {
+        expected[i] = (uint8_t)i;
+    }
+    curlewsong_inclusion got = curlewsong_within(names, first, second, buffer, places);
+    expect(got.refusal == due.refusal && got.yes == due.yes && got.length == due.length, what);
+    expect(memcmp(buffer, expected, sizeof buffer) == 0, what);
+}
+
+static void check_within(void) {
+    const size_t enough = CURLEWSONG_LONGEST_COUNTEREXAMPLE;
+    const curlewsong_model empty = plain_names(0), two = plain_names(2), all = plain_names(CURLEWSONG_PLACES);
+    curlewsong_model wider = two, repeated = all, bad = two;
+    wider.mode[0] = 1;
+    wider.mode[1] = 2;
+    bad.mode[1] = 4;
+    const curlewsong_inclusion yes = {0, true, 0}, empty_word = {0, false, 0}, two_names = {0, false, 2};
+    check_inclusion(2, two, wider, enough, yes, "(a,b) is within (a?,b+)");
+    check_inclusion(2, two, empty, enough, two_names, "(a,b) is not within EMPTY, as ab shows");
+    check_inclusion(2, two, empty, enough + 9, two_names, "in a longer buffer too");
+    check_inclusion(2, empty, two, enough, empty_word, "EMPTY is not within (a,b), as the empty word shows");
+
+    const curlewsong_inclusion three = {3, false, 0}, ten = {10, false, 0}, twelve = {12, false, 0};
+    check_inclusion(0, bad, bad, 0, three, "no names are too few");
+    check_inclusion(65, bad, bad, 0, three, "65 names are too many");
+    check_inclusion(2, bad, two, 0, ten, "the first is no chain");
+    check_inclusion(2, two, bad, 0, ten, "the second is no chain");
+    check_inclusion(2, two, wider, enough - 1, twelve, "64 places are too few where the answer is yes");
+    check_inclusion(2, two, empty, enough - 1, twelve, "and where it is no");
+
+    uint8_t word[CURLEWSONG_LONGEST_COUNTEREXAMPLE];
+    repeated.mode[40] = 2;
+    const curlewsong_inclusion longest = curlewsong_within(CURLEWSONG_PLACES, repeated, all, word, sizeof word);
+    expect(longest.refusal == 0 && !longest.yes && longest.length == sizeof word, "64 factors need a word of 65 names");
+    expect(curlewsong_accepts_word(CURLEWSONG_PLACES, repeated, word, longest.length).yes, "which the first accepts");
+    expect(!curlewsong_accepts_word(CURLEWSONG_PLACES, all, word, longest.length).yes, "and the second does not");
+}
+
 int main(void) {
     const size_t length = sizeof declaration - 1;
     uint8_t buffer[CURLEWSONG_LONGEST_DECLARATION];
@@ -126,6 +181,7 @@ int main(void) {
     expect(read.refusal == 13 && read.parent == 0 && same(&read.model, &empty), "a cut text is refused");
 
     check_write_dtd();
+    check_within();
 
     if (failures == 0) {
         printf("header_check: every call of include/curlewsong.h answers as the papers have it\n");

@@ -53,6 +53,7 @@ PLACES = [
 # Each call, and the program, with the record that has its conditions.
 CALLS = {
     "accepts_word": "WordConditions",
+    "within": "WithinConditions",
     "model_of_parent": "ModelConditions",
     "write_declaration": "WriteConditions",
     "write_from_sample": "SampleConditions",

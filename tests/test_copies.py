@@ -63,10 +63,10 @@ ROUTE = "(call > run > step)"
 
 class Copies(unittest.TestCase):
     def found(self, **changed):
-        return checker.findings(program(**changed), {"call": "step"})[0]
+        return checker.findings(program(**changed), {"call": ["step"]})[0]
 
     def test_nothing_to_find(self):
-        self.assertEqual(checker.findings(program(), {"call": "step"}), ([], 1, 2))
+        self.assertEqual(checker.findings(program(), {"call": ["step"]}), ([], 1, 2))
 
     def test_a_parameter_a_result_a_local(self):
         for kind, name in [(ROW, "[u8; 64]"), (named("Model"), "Model"), (named("Held"), "Held")]:
@@ -148,13 +148,13 @@ class Copies(unittest.TestCase):
                      whole.replace('"deep"', '"other"', 1), whole.replace("(fnItem 0", "(fnItem", 1),
                      whole.replace('(pair "State" (fields', '(pair "Other" (fields')]:
             with self.assertRaises(checker.Unreadable):
-                checker.findings(text, {"call": "step"})
+                checker.findings(text, {"call": ["step"]})
 
     def status(self, text, status=0):
         printed = subprocess.CompletedProcess([], status, text, "not proved")
         self.out, self.err = io.StringIO(), io.StringIO()
         with mock.patch.object(subprocess, "run", return_value=printed), \
-                mock.patch.object(checker, "CALLS", {"call": "step"}), \
+                mock.patch.object(checker, "CALLS", {"call": ["step"]}), \
                 contextlib.redirect_stdout(self.out), contextlib.redirect_stderr(self.err):
             return checker.main()
 

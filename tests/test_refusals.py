@@ -9,7 +9,7 @@ import refusals_check as checker
 
 FILES = {place.file for place in checker.PLACES} | set(checker.TABLES_OF_CALLS) | {checker.HEADER, checker.CONDITIONS}
 
-TWELVE = "the output buffer is shorter than the text to be written"
+TWELVE = "the output buffer is shorter than the text to be written, or has fewer than 65 places for a word"
 
 # A row in each place, and what the check says of it where its text or its name is changed.
 ROWS = [

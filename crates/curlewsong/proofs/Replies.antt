@@ -10,9 +10,12 @@ use Rattle.declaration_writing.specs.declared.Written.{Written}
 use Rattle.declaration_reading.specs.declared.Declaration.{Declaration}
 use Rattle.intake_word.specs.declared.Acceptance.{Acceptance}
 use Rattle.intake_word.specs.declared.Acceptance.the-variants.{Yes, No, Refused}
+use Rattle.intake_within.specs.declared.Inclusion.{Inclusion}
+use Rattle.intake_within.specs.declared.Inclusion.the-variants as Included
 use Rattle.intake_sample.specs.declared.Inferred.{Inferred}
 use Rattle.intake_word.specs.Acceptance.{acceptanceNumber, acceptanceYes}
-use Rattle.curlewsong.specs.Reply.{modelReply, verdict, lengthReply, textReply}
+use Rattle.intake_within.specs.Comparison.{inclusionNumber, inclusionYes, inclusionLength}
+use Rattle.curlewsong.specs.Reply.{modelReply, verdict, inclusionReply, lengthReply, textReply}
 
 -- ---- a verdict for each case
 
@@ -27,6 +30,20 @@ verdict-no x e = rw e
 pub verdict-refused : (x : Acceptance) (f : Refusal) (n : ℕ) → x ≡ Refused f → n ≡ numberOf f → record { refusal = n; yes = false } ≡ verdict x
 unfolding verdict acceptanceNumber acceptanceYes
 verdict-refused x f n e k = rw (e, k)
+
+-- ---- a comparison for each case
+
+pub included-yes : (x : Inclusion) → x ≡ Included.Yes → record { refusal = 0; yes = true; length = 0 } ≡ inclusionReply x
+unfolding inclusionReply inclusionNumber inclusionYes inclusionLength
+included-yes x e = rw e
+
+pub included-no : (x : Inclusion) (l : ℕ) → x ≡ Included.No l → record { refusal = 0; yes = false; length = l } ≡ inclusionReply x
+unfolding inclusionReply inclusionNumber inclusionYes inclusionLength
+included-no x l e = rw e
+
+pub included-refused : (x : Inclusion) (f : Refusal) (n : ℕ) → x ≡ Included.Refused f → n ≡ numberOf f → record { refusal = n; yes = false; length = 0 } ≡ inclusionReply x
+unfolding inclusionReply inclusionNumber inclusionYes inclusionLength
+included-refused x f n e k = rw (e, k)
 
 -- ---- an answer whose number is n
 

@@ -12,13 +12,16 @@ use Rattle.declaration_writing.specs.Write.{WritesDeclaration}
 use Rattle.declaration_reading.specs.declared.Declaration.{Declaration}
 use Rattle.declaration_reading.specs.Read.{ReadsDeclaration}
 use Rattle.intake_word.specs.declared.Acceptance.{Acceptance}
+use Rattle.intake_within.specs.declared.Inclusion.{Inclusion}
 use Rattle.intake_sample.specs.declared.Inferred.{Inferred}
 use Rattle.intake_word.specs.Acceptance.{acceptanceNumber, acceptanceYes, AcceptsWord}
+use Rattle.intake_within.specs.Comparison.{inclusionNumber, inclusionYes, inclusionLength, ComparesModels}
 use Rattle.intake_sample.specs.Inference.{InfersModel}
 use Rattle.intake_sample.specs.Writing.{WritesSample}
 use Rattle.intake_dtd.specs.Dtd.{WritesDtd}
 use Rattle.curlewsong.specs.declared.ModelReply.{ModelReply}
 use Rattle.curlewsong.specs.declared.Verdict.{Verdict}
+use Rattle.curlewsong.specs.declared.InclusionReply.{InclusionReply}
 use Rattle.curlewsong.specs.declared.LengthReply.{LengthReply}
 use Rattle.curlewsong.specs.declared.TextReply.{TextReply}
 
@@ -29,6 +32,9 @@ modelReply x = record { refusal = outcomeNumber (x .outcome); model = x .model }
 
 unfoldable pub verdict : Acceptance → Verdict
 verdict x = record { refusal = acceptanceNumber x; yes = acceptanceYes x }
+
+unfoldable pub inclusionReply : Inclusion → InclusionReply
+inclusionReply x = record { refusal = inclusionNumber x; yes = inclusionYes x; length = inclusionLength x }
 
 unfoldable pub lengthReply : Written → LengthReply
 lengthReply x = record { refusal = outcomeNumber (x .outcome); length = x .length }
@@ -45,6 +51,9 @@ abbrev pub RepliesWord : ℕ → Model → List ℕ → Verdict → Type 0
 RepliesWord n m w r = (x : Acceptance) × AcceptsWord n m w x × (r ≡ verdict x)
 
 -- The buffer held `before` and then holds `after`.
+abbrev pub RepliesWithin : ℕ → Model → Model → InclusionReply → List ℕ → List ℕ → Type 0
+RepliesWithin n first second r before after = (x : Inclusion) × ComparesModels n first second x before after × (r ≡ inclusionReply x)
+
 abbrev pub RepliesWritten : List ℕ → ℕ → Model → LengthReply → List ℕ → List ℕ → Type 0
 RepliesWritten bytes parent m r before after = (x : Written) × WritesDeclaration bytes parent m x before after × (r ≡ lengthReply x)
 

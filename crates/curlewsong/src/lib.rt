@@ -2,9 +2,10 @@
 // number.
 use declaration_writing::Written;
 use intake::Acceptance;
+use intake::Inclusion;
 use model::Model;
 ghost use mathlib.Core.Path.{_≡_};
-ghost use Rattle.curlewsong.specs.Reply.{verdict, lengthReply, RepliesModel, RepliesWord, RepliesWritten, RepliesSample, RepliesDtd, RepliesText};
+ghost use Rattle.curlewsong.specs.Reply.{verdict, inclusionReply, lengthReply, RepliesModel, RepliesWord, RepliesWithin, RepliesWritten, RepliesSample, RepliesDtd, RepliesText};
 
 // A model, or the empty one and why.
 #[repr(C)]
@@ -18,6 +19,14 @@ pub struct ModelReply {
 pub struct Verdict {
     pub refusal: u8,
     pub yes: bool,
+}
+
+// A yes, or a no and the length of a word, or no and 0 and why.
+#[repr(C)]
+pub struct InclusionReply {
+    pub refusal: u8,
+    pub yes: bool,
+    pub length: usize,
 }
 
 // The length that was written, or 0 and why.
@@ -54,6 +63,28 @@ fn verdict_of(answer: Acceptance) -> Verdict
     }
 }
 
+fn inclusion_of(answer: Inclusion) -> InclusionReply
+    ensures { λ r. ⌜ r ≡ inclusionReply answer ⌝ }
+{
+    match answer {
+        Inclusion::Yes => InclusionReply {
+            refusal: 0,
+            yes: true,
+            length: 0,
+        },
+        Inclusion::No(length) => InclusionReply {
+            refusal: 0,
+            yes: false,
+            length,
+        },
+        Inclusion::Refused(refusal) => InclusionReply {
+            refusal: refusal::number(refusal),
+            yes: false,
+            length: 0,
+        },
+    }
+}
+
 fn length_of(answer: Written) -> LengthReply
     ensures { λ r. ⌜ r ≡ lengthReply answer ⌝ }
 {
@@ -84,6 +115,19 @@ pub extern "C" fn curlewsong_accepts_word(names: usize, model: Model, word: &[u8
     ensures { λ r. ⌜ RepliesWord names model (now (word .entry)) r ⌝ }
 {
     verdict_of(intake::accepts_word(names, model, word))
+}
+
+// Whether every word of the first model is a word of the second: 3, 10, 12; 10 for the first, then for the second.
+#[no_mangle]
+pub extern "C" fn curlewsong_within(
+    names: usize,
+    first: Model,
+    second: Model,
+    word: &mut [u8],
+) -> InclusionReply
+    ensures { λ r. ⌜ RepliesWithin names first second r (now (word .entry)) (now (word .exit)) ⌝ }
+{
+    inclusion_of(intake::within(names, first, second, word))
 }
 
 // Writes the declaration of a parent with a model: 1 to 7, 8, 10, 12.

@@ -1,5 +1,5 @@
--- The three demands, over the six calls open to the outside, the same calls for C, and the program; then request U2 of
--- paper 02. Each statement begins with `pub`; what follows, from `unfolding` or the repeated name on, is its proof: skip
+-- The three demands, over the seven calls open to the outside, the same calls for C, and the program; then requests U2
+-- and U4 of paper 02. Each statement begins with `pub`; what follows, from `unfolding` or the repeated name on, is its proof: skip
 -- it. Quotes are from the demands, which call paper 01 "document 01", and from the papers.
 -- In a quarter of an hour: `no-better-model` with specs/Results, the names that end in `-refusals` with
 -- specs/Conditions, those that end in `-kept`, then demand 2. The part for C repeats them for replies in C.
@@ -13,6 +13,7 @@ use mathlib.Core.Path.{_≡_, sym, _∙_, ap, subst}
 use mathlib.Core.Bool.{true, false}
 use mathlib.Core.List.{List, [], _∷_, _++_, List·Memᴰ, map}
 use mathlib.Core.Logic.{_↔_}
+use native.Mathlib.Omega.{arith}
 use lib.ListN.{length, take}
 use Rattle.refusal.specs.Answer.{given, valueOr, outcomeNumber}
 use Rattle.refusal.proofs.Laws.{refused-by}
@@ -31,6 +32,9 @@ use Rattle.model.specs.Record.{factorOf, modeOf, IsChain, emptyModel, dueModel}
 use Rattle.model.specs.Accept.{Accepts, Names}
 use Rattle.model_language.specs.Word.{Point, name, end, Fact}
 use Rattle.model_language.specs.Reach.{Reach}
+use Rattle.model_inclusion.specs.Inclusion.{Within, Counterexample, longestCounterexample}
+use Rattle.model_inclusion.specs.Search as Search
+use Rattle.model_inclusion.proofs.Search as Included
 use Rattle.follow.specs.Follow.{Follow, followOf, steps}
 use Rattle.follow.specs.Sample.{wordsOf, SameWords}
 use Rattle.follow_table.specs.Table.{tabled, Keeps}
@@ -53,11 +57,14 @@ use Rattle.declaration_reading.specs.declared.Declaration.{Declaration}
 use Rattle.declaration_reading.specs.Read.{Reads, ReadsDeclaration}
 use Rattle.declaration_reading.proofs.Theorem as Reading
 use Rattle.intake_word.specs.declared.Acceptance.{Acceptance}
+use Rattle.intake_within.specs.declared.Inclusion.{Inclusion}
 use Rattle.intake_sample.specs.declared.Inferred.{Inferred}
 use Rattle.intake_word.specs.Acceptance.{acceptanceNumber, acceptanceYes, Passes, AcceptsWord}
+use Rattle.intake_within.specs.Comparison.{inclusionNumber, inclusionYes, inclusionLength, PassesBoth, ComparesModels}
 use Rattle.intake_sample.specs.Inference.{sampleOf, chainIn, modelAnswer, inferred, InfersModel}
 use Rattle.intake_sample.specs.Writing.{WritesSample}
 use Rattle.intake_word.proofs.Theorem.{yes-exactly}
+use Rattle.intake_within.proofs.Theorem as Compare
 use Rattle.intake_sample.proofs.Samples.{no-word, some-word, sample-names}
 use Rattle.intake_sample.proofs.NoBetterModel as Model3
 use Rattle.dtd_lines.specs.Lines.{factLines, tableFacts}
@@ -68,10 +75,11 @@ use Rattle.demands_samples.specs.Samples.{lines, lineDeclaration, printedDeclar
 use Rattle.demands_samples.proofs.Samples.{marked}
 use Rattle.curlewsong.specs.declared.ModelReply.{ModelReply}
 use Rattle.curlewsong.specs.declared.Verdict.{Verdict}
+use Rattle.curlewsong.specs.declared.InclusionReply.{InclusionReply}
 use Rattle.curlewsong.specs.declared.LengthReply.{LengthReply}
 use Rattle.curlewsong.specs.declared.TextReply.{TextReply}
-use Rattle.curlewsong.specs.Reply.{modelReply, verdict, lengthReply, textReply, RepliesModel, RepliesWord, RepliesWritten, RepliesSample, RepliesDtd, RepliesText}
-use Rattle.demands.specs.Conditions.{WordConditions, ModelConditions, WriteConditions, SampleConditions, DtdConditions, ReadConditions}
+use Rattle.curlewsong.specs.Reply.{modelReply, verdict, inclusionReply, lengthReply, textReply, RepliesModel, RepliesWord, RepliesWithin, RepliesWritten, RepliesSample, RepliesDtd, RepliesText}
+use Rattle.demands.specs.Conditions.{WordConditions, WithinConditions, ModelConditions, WriteConditions, SampleConditions, DtdConditions, ReadConditions}
 use Rattle.demands.specs.Results.{Wrote, Asked, Minimal}
 use Rattle.demands.proofs.Refusals as Law
 use Rattle.demands.proofs.Texts as Text
@@ -89,6 +97,13 @@ use Rattle.demands.proofs.SoFar as So
 pub word-refusals : (n : ℕ) (m : Model) (w : List ℕ) (r : Acceptance) (call : AcceptsWord n m w r) →
     WordConditions n m w (acceptanceNumber r)
 word-refusals n m w r call = subst (WordConditions n m w) (sym (call .number)) (Law.word-conditions n m w)
+
+pub within-refusals : (n : ℕ) (first second : Model) (r : Inclusion) (before after : List ℕ)
+    (call : ComparesModels n first second r before after) →
+    WithinConditions n first second (length before) (inclusionNumber r)
+within-refusals n first second r before after call =
+    subst (WithinConditions n first second (length before)) (sym (Compare.number-is n first second r before after call))
+    (Law.within-conditions n first second (length before))
 
 pub model-refusals : (bytes : List ℕ) (parent : ℕ) (r : Inferred) (call : InfersModel bytes parent r) →
     ModelConditions bytes parent (outcomeNumber (r .outcome))
@@ -140,6 +155,11 @@ book-exactly = book-whole
 -- (This one holds by the definition of the number and the yes or no of an answer, so it asks for no call.)
 pub word-kept : (r : Acceptance) → 0 < acceptanceNumber r → acceptanceYes r ≡ false
 word-kept = Text.refused-no
+
+pub within-kept : (n : ℕ) (first second : Model) (r : Inclusion) (before after : List ℕ)
+    (call : ComparesModels n first second r before after) →
+    0 < inclusionNumber r → (inclusionYes r ≡ false) × (inclusionLength r ≡ 0) × (after ≡ before)
+within-kept = Compare.refused-keeps
 
 pub model-kept : (bytes : List ℕ) (parent : ℕ) (r : Inferred) (call : InfersModel bytes parent r) →
     0 < outcomeNumber (r .outcome) → r .model ≡ emptyModel places
@@ -366,6 +386,40 @@ pub dtd-from-facts : (bytes : List ℕ) (b : Book) → TakenAs bytes b →
     dtdOf b ≡ factLines (b .names) (λ parent. followOf (length (b .names)) (sampleOf b parent)) 0 (length (b .names))
 dtd-from-facts bytes b taken = dtd-by-facts bytes b (taken-law bytes b .0 taken)
 
+-- ==== paper 02, request U4
+
+-- "Say yes exactly when every word that the first accepts is accepted by the second", whatever its length; and no
+-- exactly when that is not so. A call that is stopped says neither.
+pub within-exactly : (n : ℕ) (first second : Model) (r : Inclusion) (before after : List ℕ)
+    (call : ComparesModels n first second r before after) →
+    (inclusionYes r ≡ true) ↔ (PassesBoth n first second (length before) × Within first second)
+within-exactly = Compare.yes-exactly
+
+pub within-not : (n : ℕ) (first second : Model) (r : Inclusion) (before after : List ℕ)
+    (call : ComparesModels n first second r before after) →
+    ((inclusionNumber r ≡ 0) × (inclusionYes r ≡ false)) ↔
+    (PassesBoth n first second (length before) × (¬ Within first second))
+within-not = Compare.no-exactly
+
+-- "On yes all bytes" are kept, and "on yes the length is 0".
+pub within-yes-kept : (n : ℕ) (first second : Model) (r : Inclusion) (before after : List ℕ)
+    (call : ComparesModels n first second r before after) →
+    inclusionYes r ≡ true → (inclusionLength r ≡ 0) × (after ≡ before)
+within-yes-kept = Compare.yes-keeps
+
+-- "On no, hand over one word of at most 65 names that the first accepts and the second doesn't, in a lent buffer, and its
+-- length": the word is at the front of the buffer, and the bytes past it are kept.
+pub within-word : (n : ℕ) (first second : Model) (r : Inclusion) (before after : List ℕ)
+    (call : ComparesModels n first second r before after) →
+    inclusionNumber r ≡ 0 → inclusionYes r ≡ false →
+    (w : List ℕ) × Counterexample first second w × (length w ≤ longestCounterexample) × Wrote w (inclusionLength r) before after
+within-word = Text.word-written
+
+-- The yes or no without a buffer, for later requests: `is_within` of crates/model_within computes `within`.
+pub within-law : (n : ℕ) (first second : Model) → IsChain places n first → IsChain places n second →
+    (Search.within n first second ≡ true) ↔ Within first second
+within-law n first second c d = Included.within-law places n first second c d (omega arith)
+
 -- ==== the calls for C and Rust
 
 -- Each of these makes the call in Rattle and passes on its answer as a struct r of C. Stated of r, one after another:
@@ -378,6 +432,29 @@ unfolding verdict
 c-word n m w r (x, call, e) =
     subst (λ (v : Verdict). WordConditions n m w (v .refusal) × (0 < v .refusal → v .yes ≡ false) × ((v .yes ≡ true) ↔ (Passes n m w × Accepts m w))) (sym e)
     (word-refusals n m w x call, word-kept x, accepted-exactly n m w x call)
+
+pub c-within : (n : ℕ) (first second : Model) (r : InclusionReply) (before after : List ℕ)
+    (call : RepliesWithin n first second r before after) →
+    WithinConditions n first second (length before) (r .refusal) ×
+    (0 < r .refusal → (r .yes ≡ false) × (r .length ≡ 0) × (after ≡ before)) ×
+    ((r .yes ≡ true) ↔ (PassesBoth n first second (length before) × Within first second)) ×
+    (r .yes ≡ true → (r .length ≡ 0) × (after ≡ before)) ×
+    (r .refusal ≡ 0 → r .yes ≡ false →
+    (w : List ℕ) × Counterexample first second w × (length w ≤ longestCounterexample) × Wrote w (r .length) before after)
+unfolding inclusionReply
+c-within n first second r before after (x, call, e) =
+    subst (λ (v : InclusionReply). WithinConditions n first second (length before) (v .refusal) ×
+    (0 < v .refusal → (v .yes ≡ false) × (v .length ≡ 0) × (after ≡ before)) ×
+    ((v .yes ≡ true) ↔ (PassesBoth n first second (length before) × Within first second)) ×
+    (v .yes ≡ true → (v .length ≡ 0) × (after ≡ before)) ×
+    (v .refusal ≡ 0 → v .yes ≡ false →
+    (w : List ℕ) × Counterexample first second w × (length w ≤ longestCounterexample) × Wrote w (v .length) before after)) (sym e) (
+      within-refusals n first second x before after call,
+      within-kept n first second x before after call,
+      within-exactly n first second x before after call,
+      within-yes-kept n first second x before after call,
+      within-word n first second x before after call,
+    )
 
 pub c-model : (bytes : List ℕ) (parent : ℕ) (r : ModelReply) (call : RepliesModel bytes parent r) →
     ModelConditions bytes parent (r .refusal) × (0 < r .refusal → r .model ≡ emptyModel places) ×

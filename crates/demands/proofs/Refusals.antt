@@ -13,7 +13,7 @@ use Rattle.refusal.specs.declared.Refusal.{Refusal}
 use Rattle.refusal.specs.declared.Refusal.the-variants.{BookTooLong, BytesMissing, BadNameCount, BadName, NameNotAbove, NumberNotBelow, BytesLeftOver, BadParent, NoBlock, NotAChain, BadWord, BufferTooShort, NotADeclaration, UnknownName, NameTwice}
 use Rattle.refusal.specs.Table.{numberOf, ofBook}
 use Rattle.refusal.specs.Answer.{Answer, given, refused, onward, refuseIf, answerNumber}
-use Rattle.refusal.proofs.Answers.{given-refused}
+use Rattle.refusal.proofs.Answers.{given-refused, check-law}
 use Rattle.refusal.proofs.Checks.{other, own-check, next-check, pass-check, last-check, avoids, own, own-or-next, row, row-0, number-only}
 use Rattle.nameset.specs.Places.{places, goodCount}
 use Rattle.nameset.proofs.Count.{count-bounds, bounds-count, count-bad}
@@ -39,11 +39,14 @@ use Rattle.declaration_reading.specs.Read.{readAnswer}
 use Rattle.declaration_reading.proofs.Theorem as Reading
 use Rattle.intake_word.specs.Acceptance.{badModel, longestWord, badWord, answerOf, Passes}
 use Rattle.intake_word.proofs.Theorem.{good-word, word-good, bad-word}
+use Rattle.model_inclusion.specs.Inclusion.{longestCounterexample}
+use Rattle.model_inclusion.specs.Search.{within}
+use Rattle.intake_within.specs.Comparison.{comparisonOf, PassesBoth}
 use Rattle.intake_sample.specs.Inference.{sampleOf, noWord, chainIn, modelIn, modelAnswer}
 use Rattle.intake_sample.specs.Writing.{sampleText}
 use Rattle.intake_sample.proofs.Samples.{no-word, some-word}
 use Rattle.intake_dtd.specs.Dtd.{dtdOf, dtdAnswer}
-use Rattle.demands.specs.Conditions.{OfBook, InRange, BookConditions, WordConditions, ModelConditions, WriteConditions, sampleDeclaration, SampleConditions, DtdConditions, ReadConditions}
+use Rattle.demands.specs.Conditions.{OfBook, InRange, BookConditions, WordConditions, WithinConditions, ModelConditions, WriteConditions, sampleDeclaration, SampleConditions, DtdConditions, ReadConditions}
 
 -- ---- what the tests mean
 
@@ -136,6 +139,78 @@ module _ (n : ℕ) (m : Model) (w : List ℕ) where
             passes (row-0 a
             (pass-check t₁ BadNameCount a₁ some-names (pass-check t₂ NotAChain a₂ (is-chain n m) (last-check t₃ BadWord _ (good-word n w, word-good n w)))));
         no-other = number-only (λ k. (k ≡ 0) ⊎ ((k ≡ 3) ⊎ ((k ≡ 10) ⊎ (k ≡ 11)))) a (inl refl) (λ f e. inr (word-only f e));
+      }
+
+-- ---- comparison of two models
+
+-- Two checks with the same refusal: it is given exactly where one of their tests holds.
+either-check : {A P Q : Type 0} (t : Bool) (r : Refusal) (next : Answer A) → (t ≡ true) ↔ P → (next ≡ refused r) ↔ Q →
+    (refuseIf t r next ≡ refused r) ↔ (P ⊎ Q)
+either-check {P = P} {Q} t r next law behind = (
+  λ e. ⊎-elim (λ k. inl (law .0 (k .0))) (λ k. inr (behind .0 (k .1))) (check-law t r next r .0 e),
+  ⊎-elim (λ p. check-law t r next r .1 (inl (law .1 p, refl))) (λ q. back t refl q),
+)
+  where
+    back : (b : Bool) → t ≡ b → Q → refuseIf t r next ≡ refused r
+    back true e q = check-law t r next r .1 (inl (e, refl))
+    back false e q = check-law t r next r .1 (inr (e, behind .1 q))
+
+module _ (n : ℕ) (first second : Model) (room : ℕ) where
+  both-pass : {K : Type 0} →
+      K ↔ (InRange n × (IsChain places n first × (IsChain places n second × (longestCounterexample ≤ room)))) → K ↔ PassesBoth n first second room
+  both-pass h = (
+    λ k. let ((a, b), (c, (d, e))) = h .0 k in record { some = a; few = b; first-chain = c; second-chain = d; enough = e },
+    λ p. h .1 ((p .some, p .few), (p .first-chain, (p .second-chain, p .enough))),
+  )
+
+  within-only : (f : Refusal) → comparisonOf n first second room ≡ refused f → (numberOf f ≡ 3) ⊎ ((numberOf f ≡ 10) ⊎ (numberOf f ≡ 12))
+  unfolding comparisonOf
+  within-only f e =
+      ⊎-elim (λ z. inl (ap numberOf (sym z)))
+      (λ h. inr (⊎-elim (λ z. inl (ap numberOf (sym z)))
+      (λ k. ⊎-elim (λ z. inl (ap numberOf (sym z))) (λ l. inr (ap numberOf (sym (own (ltb room longestCounterexample) BufferTooShort _ f l))))
+      (own-or-next (not (isChain places n second)) NotAChain _ f k)) (own-or-next (not (isChain places n first)) NotAChain _ f h)))
+      (own-or-next (not (goodCount n)) BadNameCount _ f e)
+
+  pub within-conditions : WithinConditions n first second room (answerNumber (comparisonOf n first second room))
+  unfolding comparisonOf
+  within-conditions =
+      let t₁ = not (goodCount n) in
+      let t₂ = not (isChain places n first) in
+      let t₃ = not (isChain places n second) in
+      let t₄ = ltb room longestCounterexample in
+      let a₄ = given (within n first second) in
+      let a₃ = refuseIf t₄ BufferTooShort a₄ in
+      let a₂ = refuseIf t₃ NotAChain a₃ in
+      let a₁ = refuseIf t₂ NotAChain a₂ in
+      let a = refuseIf t₁ BadNameCount a₁ in
+      let count = turned-back (goodCount n) (count-law n) in
+      record {
+        three =
+            row a BadNameCount
+            (own-check t₁ BadNameCount a₁ (turned (goodCount n) (count-bad n))
+            (avoids t₂ NotAChain a₂ BadNameCount (other NotAChain BadNameCount refl)
+            (avoids t₃ NotAChain a₃ BadNameCount (other NotAChain BadNameCount refl)
+            (avoids t₄ BufferTooShort a₄ BadNameCount (other BufferTooShort BadNameCount refl) (given-refused _ _)))));
+        ten =
+            row a NotAChain
+            (next-check t₁ BadNameCount a₁ NotAChain (other BadNameCount NotAChain refl) count
+            (either-check t₂ NotAChain a₂ (not-chain n first)
+            (own-check t₃ NotAChain a₃ (not-chain n second)
+            (avoids t₄ BufferTooShort a₄ NotAChain (other BufferTooShort NotAChain refl) (given-refused _ _)))));
+        twelve =
+            row a BufferTooShort
+            (next-check t₁ BadNameCount a₁ BufferTooShort (other BadNameCount BufferTooShort refl) count
+            (next-check t₂ NotAChain a₂ BufferTooShort (other NotAChain BufferTooShort refl) (is-chain n first)
+            (next-check t₃ NotAChain a₃ BufferTooShort (other NotAChain BufferTooShort refl) (is-chain n second)
+            (own-check t₄ BufferTooShort a₄ (below-law room longestCounterexample) (given-refused _ _)))));
+        none =
+            both-pass (row-0 a
+            (pass-check t₁ BadNameCount a₁ count
+            (pass-check t₂ NotAChain a₂ (is-chain n first)
+            (pass-check t₃ NotAChain a₃ (is-chain n second)
+            (last-check t₄ BufferTooShort _ (at-most-law room longestCounterexample))))));
+        no-other = number-only (λ k. (k ≡ 0) ⊎ ((k ≡ 3) ⊎ ((k ≡ 10) ⊎ (k ≡ 12)))) a (inl refl) (λ f e. inr (within-only f e));
       }
 
 -- ---- a call that takes a book

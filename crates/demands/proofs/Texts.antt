@@ -1,5 +1,5 @@
--- The three calls that write: what a refused call leaves, what is in the buffer after one that was not, and that it reads
--- back.
+-- The calls that write: what a refused call leaves, what is in the buffer after one that was not, and that a declaration
+-- reads back.
 -- Assumes nothing.
 use Prim.Native.Nat.{ℕ, _≤_, _<_}
 use mathlib.Core.Path.{_≡_, refl, sym, _∙_, ap, subst}
@@ -28,7 +28,8 @@ use Rattle.declaration_spelling.specs.Length.{longestDeclaration}
 use Rattle.declaration_spelling.specs.Spelled.{Spelled}
 use Rattle.declaration_writing.specs.declared.Written.{Written}
 use Rattle.declaration_writing.specs.Write.{fitted, writeIn, writeAnswer, lengthDue, written, bufferAfter, Writes, WritesDeclaration}
-use Rattle.byte_buffer.proofs.Puts.{wrote-back}
+use Rattle.byte_buffer.specs.Put.{wrote}
+use Rattle.byte_buffer.proofs.Puts.{wrote-start, wrote-back}
 use Rattle.declaration_writing.proofs.Back.{Given, text-given, buffer-given, buffer-kept}
 use Rattle.declaration_reading.specs.declared.Declaration.{Declaration}
 use Rattle.declaration_reading.specs.Read.{Reads, ReadsDeclaration}
@@ -37,6 +38,10 @@ use Rattle.intake_word.specs.declared.Acceptance.{Acceptance}
 use Rattle.intake_word.specs.declared.Acceptance.the-variants.{Yes, No, Refused as Stopped}
 use Rattle.intake_sample.specs.declared.Inferred.{Inferred}
 use Rattle.intake_word.specs.Acceptance.{acceptanceNumber, acceptanceYes}
+use Rattle.model_inclusion.specs.Inclusion.{Counterexample, longestCounterexample}
+use Rattle.intake_within.specs.declared.Inclusion.{Inclusion}
+use Rattle.intake_within.specs.Comparison.{inclusionNumber, inclusionYes, inclusionLength, ComparesModels}
+use Rattle.intake_within.proofs.Theorem as Compare
 use Rattle.intake_sample.specs.Inference.{modelIn, modelAnswer, inferred, InfersModel}
 use Rattle.intake_sample.specs.Writing.{sampleText, WritesSample}
 use Rattle.intake_sample.proofs.Writing.{model-given}
@@ -183,3 +188,22 @@ pub read-number : (bytes text : List ℕ) (r : Declaration) → ReadsDeclaration
 read-number bytes text r call p m =
     let h = Reading.read-exactly bytes text r call p m in
     (λ (z, a, b). h .0 (done-by (r .outcome) z, a, b), λ s. let (o, a, b) = h .1 s in (ap outcomeNumber o, a, b))
+
+-- ---- the word that tells two models apart
+
+wrote-word : (w before after : List ℕ) (l : ℕ) → length w ≤ length before → l ≡ length w → after ≡ wrote before 0 w → Wrote w l before after
+wrote-word w before after l fits size held =
+    let seam : after ≡ w ++ drop (length w) before = held ∙ wrote-start before w fits in
+    record {
+      size = size;
+      front = ap (λ (k : ℕ). take k after) size ∙ ap (take (length w)) held ∙ wrote-back before w fits;
+      past = rw (size, seam) (drop-append-seam w (drop (length w) before));
+    }
+
+pub word-written : (n : ℕ) (first second : Model) (r : Inclusion) (before after : List ℕ) → ComparesModels n first second r before after →
+    inclusionNumber r ≡ 0 → inclusionYes r ≡ false →
+    (w : List ℕ) × Counterexample first second w × (length w ≤ longestCounterexample) × Wrote w (inclusionLength r) before after
+word-written n first second r before after call z e =
+    let h = Compare.no-writes n first second r before after call z e in
+    let p = Compare.no-exactly n first second r before after call .0 (z, e) .0 in
+    (h .word, h .example, h .short, wrote-word (h .word) before after (inclusionLength r) (omega (arith, h .short, p .enough)) (h .size) (h .buffer))

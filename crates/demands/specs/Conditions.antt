@@ -21,7 +21,9 @@ use Rattle.chain_sample.specs.Sample.{chainOfWords}
 use Rattle.declaration_spelling.specs.House.{declaration}
 use Rattle.declaration_spelling.specs.Spelled.{Spelled}
 use Rattle.declaration_spelling.specs.Stops.{Form, modelNames, formNames, Twice, HasForm}
+use Rattle.model_inclusion.specs.Inclusion.{longestCounterexample}
 use Rattle.intake_word.specs.Acceptance.{longestWord, Passes}
+use Rattle.intake_within.specs.Comparison.{PassesBoth}
 use Rattle.intake_sample.specs.Inference.{sampleOf}
 use Rattle.intake_dtd.specs.Dtd.{dtdOf}
 
@@ -61,6 +63,16 @@ pub record WordConditions (n : ℕ) (m : Model) (w : List ℕ) (k : ℕ) : Type 
   pub eleven : (k ≡ 11) ↔ (InRange n × (IsChain places n m × ((longestWord < length w) ⊎ ((x : ℕ) × List·Memᴰ x w × (n ≤ x)))))
   pub none : (k ≡ 0) ↔ Passes n m w
   pub no-other : (k ≡ 0) ⊎ ((k ≡ 3) ⊎ ((k ≡ 10) ⊎ (k ≡ 11)))
+
+-- The comparison of two models over n names, with a buffer of `room` places (request U4 of paper 02).
+pub record WithinConditions (n : ℕ) (first second : Model) (room : ℕ) (k : ℕ) : Type 0 where
+  pub three : (k ≡ 3) ↔ OutOfRange n
+  -- "10 for the first record, then 10 for the second"
+  pub ten : (k ≡ 10) ↔ (InRange n × ((¬ IsChain places n first) ⊎ (¬ IsChain places n second)))
+  -- "12 if the buffer has fewer than 65 places, even when the answer is yes"
+  pub twelve : (k ≡ 12) ↔ (InRange n × (IsChain places n first × (IsChain places n second × (room < longestCounterexample))))
+  pub none : (k ≡ 0) ↔ PassesBoth n first second room
+  pub no-other : (k ≡ 0) ⊎ ((k ≡ 3) ⊎ ((k ≡ 10) ⊎ (k ≡ 12)))
 
 -- The model of a parent.
 pub record ModelConditions (bytes : List ℕ) (parent : ℕ) (k : ℕ) : Type 0 where

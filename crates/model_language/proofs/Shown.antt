@@ -19,7 +19,7 @@ held-low m (name x) k = omega arith
 held-low m end k = omega arith
 
 -- No step falls, none leads to the start and none leaves the end.
-step-rises : (m : Model) (u v : Point) → Step m u v → (place m u ≤ place m v) × (0 < place m v) × (place m u ≤ m .count)
+pub step-rises : (m : Model) (u v : Point) → Step m u v → (place m u ≤ place m v) × (0 < place m v) × (place m u ≤ m .count)
 step-rises m u v s = go (s .way)
   where
     go : Over m u v ⊎ Repeat m u v → (place m u ≤ place m v) × (0 < place m v) × (place m u ≤ m .count)

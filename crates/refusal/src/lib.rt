@@ -28,7 +28,7 @@ pub enum Refusal {
     NotAChain,
     // 11: the word has more than 255 names, or a number that is not below the count of names.
     BadWord,
-    // 12: the output buffer is shorter than the text to be written.
+    // 12: the output buffer is shorter than the text to be written, or has fewer than 65 places for a word.
     BufferTooShort,
     // 13: the text does not have the form of a declaration.
     NotADeclaration,

@@ -1,12 +1,15 @@
 //! The calls that are compared, the answers that are due of each, and who answers them.
 
+use second::calls::MOST_COUNTEREXAMPLE;
 use second::record::{Record, EMPTY};
+use second::within::counterexample;
 use std::fmt::Write as _;
 
 /// The calls open to the outside, with the refusal's number first and the values beside it, whatever the number is.
 pub trait Calls {
     fn model_of_parent(&mut self, book: &[u8], parent: usize) -> (u8, Record);
     fn accepts_word(&mut self, names: usize, record: &Record, word: &[u8]) -> (u8, bool);
+    fn within(&mut self, names: usize, first: &Record, second: &Record, buffer: &mut [u8]) -> (u8, bool, usize);
     fn write_declaration(&mut self, book: &[u8], parent: usize, record: &Record, buffer: &mut [u8]) -> (u8, usize);
     fn write_from_sample(&mut self, book: &[u8], parent: usize, buffer: &mut [u8]) -> (u8, usize);
     fn write_dtd(&mut self, book: &[u8], buffer: &mut [u8]) -> (u8, usize);
@@ -29,6 +32,15 @@ fn or<T>(answer: Result<T, u8>, refused: T) -> (u8, T) {
     }
 }
 
+/// The number, yes or no, and the length, of what a call on two records answers.
+pub fn inclusion(answer: Result<Option<usize>, u8>) -> (u8, bool, usize) {
+    match answer {
+        Ok(None) => (0, true, 0),
+        Ok(Some(length)) => (0, false, length),
+        Err(number) => (number, false, 0),
+    }
+}
+
 impl Calls for Second {
     fn model_of_parent(&mut self, book: &[u8], parent: usize) -> (u8, Record) {
         or(second::calls::model_of_parent(book, parent), EMPTY)
@@ -36,6 +48,10 @@ impl Calls for Second {
 
     fn accepts_word(&mut self, names: usize, record: &Record, word: &[u8]) -> (u8, bool) {
         or(second::calls::accepts_word(names, record, word), false)
+    }
+
+    fn within(&mut self, names: usize, first: &Record, second: &Record, buffer: &mut [u8]) -> (u8, bool, usize) {
+        inclusion(second::calls::within(names, first, second, buffer))
     }
 
     fn write_declaration(&mut self, book: &[u8], parent: usize, record: &Record, buffer: &mut [u8]) -> (u8, usize) {
@@ -65,6 +81,7 @@ impl Calls for Second {
 pub enum Call {
     ModelOfParent { book: Vec<u8>, parent: usize },
     AcceptsWord { names: usize, record: Record, word: Vec<u8> },
+    Within { names: usize, first: Record, second: Record, buffer: Vec<u8> },
     WriteDeclaration { book: Vec<u8>, parent: usize, record: Record, buffer: Vec<u8> },
     WriteFromSample { book: Vec<u8>, parent: usize, buffer: Vec<u8> },
     WriteDtd { book: Vec<u8>, buffer: Vec<u8> },
@@ -77,6 +94,7 @@ pub enum Call {
 pub enum Answer {
     Model(u8, Record),
     Verdict(u8, bool),
+    Inclusion(u8, bool, usize, Vec<u8>),
     Written(u8, usize, Vec<u8>),
     Read(u8, usize, Record),
     Printed(Vec<u8>),
@@ -97,6 +115,11 @@ impl Call {
             Call::AcceptsWord { names, record, word } => {
                 let (number, yes) = calls.accepts_word(*names, record, word);
                 Answer::Verdict(number, yes)
+            }
+            Call::Within { names, first, second, buffer } => {
+                let mut after = buffer.clone();
+                let (number, yes, length) = calls.within(*names, first, second, &mut after);
+                Answer::Inclusion(number, yes, length, after)
             }
             Call::WriteDeclaration { book, parent, record, buffer } => {
                 let mut after = buffer.clone();
@@ -125,12 +148,50 @@ impl Call {
         match self {
             Call::ModelOfParent { .. } => "model_of_parent",
             Call::AcceptsWord { .. } => "accepts_word",
+            Call::Within { .. } => "within",
             Call::WriteDeclaration { .. } => "write_declaration",
             Call::WriteFromSample { .. } => "write_from_sample",
             Call::WriteDtd { .. } => "write_dtd",
             Call::ReadDeclaration { .. } => "read_declaration",
             Call::Dtd { .. } => "dtd",
         }
+    }
+
+    /// Whether an answer is as good as the one that is due. It has to be the same, but the word that shows a no is free: any word
+    /// of at most 65 names is good that the first accepts and the second does not, with all bytes behind it kept.
+    pub fn agrees(&self, answer: &Answer, due: &Answer) -> bool {
+        match (self, due, answer) {
+            (
+                Call::Within { names, first, second, buffer },
+                Answer::Inclusion(0, false, ..),
+                Answer::Inclusion(0, false, length, after),
+            ) => {
+                let (word, rest) = after.split_at((*length).min(after.len()));
+                *length <= MOST_COUNTEREXAMPLE
+                    && buffer[word.len()..] == *rest
+                    && word.iter().all(|&name| (name as usize) < *names)
+                    && first.accepts(word)
+                    && !second.accepts(word)
+            }
+            _ => answer == due,
+        }
+    }
+
+    /// What kind of answer it is, for the count of what was reached. A refused call on two records also tells which of them are
+    /// bad, or what a longer buffer would get.
+    pub fn kind_of(&self, answer: &Answer) -> String {
+        let kind = answer.kind();
+        let Call::Within { names, first, second, .. } = self else { return kind };
+        let more = match &kind[..] {
+            "10" => match [first, second].map(|record| record.is_chain(*names)) {
+                [false, true] => "-first",
+                [true, false] => "-second",
+                _ => "-both",
+            },
+            "12" => counterexample(*names, first, second).map_or("-yes", |_| "-no"),
+            _ => "",
+        };
+        kind + more
     }
 
     /// The call with its bytes in hexadecimal.
@@ -147,6 +208,10 @@ impl Call {
             Call::AcceptsWord { names, record, word } => {
                 bytes("word", word);
                 let _ = writeln!(out, "names: {names}\nrecord: {record:?}");
+            }
+            Call::Within { names, first, second, buffer } => {
+                bytes("buffer", buffer);
+                let _ = writeln!(out, "names: {names}\nfirst: {first:?}\nsecond: {second:?}");
             }
             Call::WriteDeclaration { book, parent, record, buffer } => {
                 bytes("book", book);
@@ -174,13 +239,20 @@ impl Call {
 }
 
 impl Answer {
-    /// What kind of answer it is, for the count of what was reached.
-    pub fn kind(&self) -> String {
+    /// What kind of answer it is by itself. A no on two records that the empty word shows is `empty`, and one with a word of 65
+    /// names `longest`; since the second implementation finds a shortest word, such a no needs that many.
+    fn kind(&self) -> String {
         match self {
-            Answer::Verdict(0, yes) => String::from(if *yes { "yes" } else { "no" }),
+            Answer::Inclusion(0, false, 0, _) => String::from("empty"),
+            Answer::Inclusion(0, false, MOST_COUNTEREXAMPLE, _) => String::from("longest"),
+            Answer::Verdict(0, yes) | Answer::Inclusion(0, yes, ..) => String::from(if *yes { "yes" } else { "no" }),
             Answer::Written(0, 0, _) => String::from("nothing"),
             Answer::Model(0, _) | Answer::Written(0, ..) | Answer::Read(0, ..) => String::from("0"),
-            Answer::Model(n, _) | Answer::Verdict(n, _) | Answer::Written(n, ..) | Answer::Read(n, ..) => n.to_string(),
+            Answer::Model(n, _)
+            | Answer::Verdict(n, _)
+            | Answer::Inclusion(n, ..)
+            | Answer::Written(n, ..)
+            | Answer::Read(n, ..) => n.to_string(),
             Answer::Printed(out) => match out.strip_prefix(b"refused ") {
                 Some(number) => String::from_utf8_lossy(number).trim().to_string(),
                 None => String::from(if out.is_empty() { "nothing" } else { "0" }),
@@ -197,6 +269,9 @@ impl Answer {
                     hex(buffer),
                     String::from_utf8_lossy(buffer)
                 )
+            }
+            Answer::Inclusion(number, yes, length, buffer) => {
+                format!("number {number}, {}, length {length}, buffer then {}", if *yes { "yes" } else { "no" }, hex(buffer))
             }
             Answer::Printed(out) => format!("printed {}", String::from_utf8_lossy(out)),
             other => format!("{other:?}"),

@@ -3,7 +3,7 @@
 use crate::calls::{Answer, Call};
 use crate::chance::Chance;
 use crate::make::*;
-use crate::{dtds, forms, symbols};
+use crate::{dtds, forms, pairs, symbols};
 use second::book::{bytes_of, Block};
 use second::record::{Record, EMPTY};
 
@@ -30,7 +30,7 @@ impl Kind {
     }
 }
 
-/// The quick ones first.
+/// The quick ones first; those of two records behind all others.
 pub const KINDS: &[Kind] = &[
     Kind { name: "paper", cases: 1, fixed: true, make: paper },
     Kind { name: "limits", cases: 1, fixed: true, make: limits },
@@ -42,6 +42,8 @@ pub const KINDS: &[Kind] = &[
     Kind { name: "dtds", cases: 400, fixed: false, make: dtds::calls },
     Kind { name: "large", cases: 12, fixed: false, make: large },
     Kind { name: "symbols", cases: symbols::CASES, fixed: true, make: symbols::calls },
+    Kind { name: "within", cases: 6000, fixed: false, make: pairs::by_chance },
+    Kind { name: "pairs", cases: pairs::CHAINS, fixed: true, make: pairs::all_pairs },
 ];
 
 fn undue(calls: Vec<Call>) -> Vec<Due> {
@@ -360,9 +362,12 @@ fn limits(c: &mut Chance, _: u64) -> Vec<Due> {
 }
 
 /// A word in letters over the names a to z; `-` is the empty word.
-fn word(letters: &str) -> Vec<u8> {
+pub fn word(letters: &str) -> Vec<u8> {
     letters.bytes().filter(|&b| b != b'-').map(|b| b - b'a').collect()
 }
+
+/// Factors, each its names in letters and its mode.
+pub type Factors = &'static [(&'static str, u8)];
 
 /// The record with these factors, their names in letters.
 pub fn record(factors: &[(&str, u8)]) -> Record {
@@ -413,7 +418,8 @@ fn exact_short_longer(text: &[u8]) -> [(Vec<u8>, Answer); 3] {
     })
 }
 
-/// What the papers write out: the samples of paper 01, what stands under them, its example, and texts of declarations.
+/// What the papers write out: the samples of paper 01, what stands under them, its example, and texts of declarations. Then pairs
+/// of records for request U4 of paper 02.
 fn paper(_: &mut Chance, _: u64) -> Vec<Due> {
     let parent = 25;
     let mut calls: Vec<Due> = Vec::new();
@@ -485,5 +491,6 @@ fn paper(_: &mut Chance, _: u64) -> Vec<Due> {
 
     calls.extend(longest());
     calls.extend(forms::texts());
+    calls.extend(pairs::written_down());
     calls
 }

@@ -2,13 +2,10 @@
 //! and every byte where white space has to be, may be or may not be. And every beginning with every token and every ending.
 
 use crate::calls::{Answer, Call};
-use crate::cases::{letters, record, Due};
+use crate::cases::{letters, record, Due, Factors};
 use crate::make::{LATER, WHITE};
 use second::book::bytes_of;
 use second::record::EMPTY;
-
-/// Factors, each its names in letters and its mode.
-type Factors = &'static [(&'static str, u8)];
 
 /// Models that are read.
 const READ: &[(&str, Factors)] = &[

@@ -60,6 +60,10 @@ mod library {
             raw::accepts_word(names, to(record), word)
         }
 
+        fn within(&mut self, names: usize, first: &Record, second: &Record, buffer: &mut [u8]) -> (u8, bool, usize) {
+            raw::within(names, to(first), to(second), buffer)
+        }
+
         fn write_declaration(&mut self, book: &[u8], parent: usize, record: &Record, buffer: &mut [u8]) -> (u8, usize) {
             raw::write_declaration(book, parent, to(record), buffer)
         }
@@ -91,6 +95,10 @@ impl Calls for Proved {
     }
 
     fn accepts_word(&mut self, _: usize, _: &Record, _: &[u8]) -> (u8, bool) {
+        unreachable!()
+    }
+
+    fn within(&mut self, _: usize, _: &Record, _: &Record, _: &mut [u8]) -> (u8, bool, usize) {
         unreachable!()
     }
 

@@ -1,16 +1,18 @@
 //! The comparison finds wrong programs: the traps and worthless versions of paper 01, answers that are wrong at one limit,
-//! readers that take less or more than request U1 of paper 02 allows, and DTDs that are not those of request U2. Each is the
-//! second implementation with one fault.
+//! readers that take less or more than request U1 of paper 02 allows, DTDs that are not those of request U2, and answers on two
+//! records that are not those of request U4. Each is the second implementation with one fault.
 
 use compare::calls::{Calls, Second};
 use compare::cases::{Kind, KINDS};
 use compare::make::{LATER, WHITE};
 use compare::{run, run_kinds, Reached, SEED};
 use second::book::{self, Block, Book};
+use second::calls::MOST_COUNTEREXAMPLE;
 use second::chain::Graph;
 use second::declaration::written;
 use second::facts::{Facts, Point};
 use second::record::{Record, EMPTY, NONE};
+use second::within::counterexample;
 
 /// The faults, each named once: `Fault`, with `None` for the right program, and `FAULTS`.
 macro_rules! faults {
@@ -56,6 +58,45 @@ faults! {
     PlusIsStar,
     QuestionIsStar,
     YesWhereRefused,
+    // Of two records: what is not looked at,
+    EmptyWordNotLookedAt,
+    StartNotLookedAt,
+    EndNotLookedAt,
+    RepetitionNotLookedAt,
+    RepetitionOfOneNameAlone,
+    SkipsNotLookedAt,
+    LowestNamesAlone,
+    LastFactorNotLookedAt,
+    NewNamesNotLookedAt,
+    // answers,
+    AlwaysWithin,
+    NeverWithin,
+    TurnedRound,
+    LengthWhereWithin,
+    WordWhereWithin,
+    // words,
+    WordOfBoth,
+    WordOfSecond,
+    WordOfNeither,
+    WordNotWritten,
+    WordOf66Names,
+    WordLengthOneMore,
+    WordLengthOneLess,
+    ByteBehindWordChanged,
+    AllPlacesWritten,
+    // and refusals.
+    FirstUnchecked,
+    SecondUnchecked,
+    NamesOfTwoCut,
+    RecordsBeforeCount,
+    BufferBeforeRecords,
+    BufferOf64Taken,
+    BufferOf65Refused,
+    BufferRefusedOnNoAlone,
+    BufferOfWordTaken,
+    RefusedYes,
+    RefusedLength,
+    RefusedWord,
     // Of the writer.
     OneByteShortTaken,
     ExactRefused,
@@ -278,6 +319,18 @@ impl Calls for Wrong {
         }
     }
 
+    fn within(&mut self, names: usize, first: &Record, second: &Record, buffer: &mut [u8]) -> (u8, bool, usize) {
+        let names = if self.is(NamesOfTwoCut) { names % 256 } else { names };
+        let number = self.refusal_of_two(names, first, second, buffer.len());
+        if number == 0 {
+            return self.answer_on_two(names, first, second, buffer);
+        }
+        if let (RefusedWord, Some(front)) = (self.0, buffer.first_mut()) {
+            *front = !*front;
+        }
+        (number, self.is(RefusedYes), usize::from(self.is(RefusedLength)))
+    }
+
     fn write_declaration(&mut self, bytes: &[u8], parent: usize, record: &Record, buffer: &mut [u8]) -> (u8, usize) {
         let mut whole = [0u8; 4096];
         let (number, length) = Second.write_declaration(bytes, parent, record, &mut whole);
@@ -319,6 +372,124 @@ impl Calls for Wrong {
 
     fn dtd(&mut self, book: &[u8]) -> Option<Vec<u8>> {
         Second.dtd(book)
+    }
+}
+
+/// Whether a chain has a word with these two side by side; none before is its start, and none behind its end.
+fn beside(chain: &Record, before: Option<u8>, behind: Option<u8>) -> bool {
+    let factor = |name: u8| chain.factor[name as usize] as usize;
+    if [before, behind].into_iter().flatten().any(|name| factor(name) >= chain.count) {
+        return false;
+    }
+    let (from, to) = (before.map_or(0, |name| factor(name) + 1), behind.map_or(chain.count, factor));
+    let again = from == to + 1 && chain.mode[to] >= 2;
+    again || (from <= to && (from..to).all(|i| chain.mode[i] % 2 == 1))
+}
+
+/// The faults of two records.
+impl Wrong {
+    fn refusal_of_two(&self, names: usize, first: &Record, second: &Record, places: usize) -> u8 {
+        let bad_first = !first.is_chain(names) && !self.is(FirstUnchecked);
+        let bad_second = !second.is_chain(names) && !self.is(SecondUnchecked);
+        let wanted = match self.0 {
+            BufferOf64Taken => 64,
+            BufferOf65Refused => 66,
+            _ => MOST_COUNTEREXAMPLE,
+        };
+        let mut checks = [(names == 0 || names > 64, 3), (bad_first || bad_second, 10), (places < wanted, 12)];
+        match self.0 {
+            RecordsBeforeCount => checks.swap(0, 1),
+            BufferBeforeRecords => checks.swap(1, 2),
+            _ => {}
+        }
+        let number = checks.iter().find(|(fails, _)| *fails).map_or(0, |(_, number)| *number);
+        match (self.0, number) {
+            (BufferRefusedOnNoAlone, 12) if counterexample(names, first, second).is_none() => 0,
+            (BufferOfWordTaken, 12) if counterexample(names, first, second).is_some_and(|word| word.len() <= places) => 0,
+            _ => number,
+        }
+    }
+
+    /// Whether it is looked at that these two may be side by side in the first, but not in the second.
+    fn looks_at(&self, first: &Record, second: &Record, before: Option<u8>, behind: Option<u8>) -> bool {
+        let factor = |name: Option<u8>| name.map(|x| first.factor[x as usize] as usize);
+        let (from, to) = (factor(before), factor(behind));
+        let within_factor = from.is_some() && from == to;
+        let names = || [before, behind].into_iter().flatten();
+        match self.0 {
+            EmptyWordNotLookedAt => before.is_some() || behind.is_some(),
+            StartNotLookedAt => before.is_some() || behind.is_none(),
+            EndNotLookedAt => before.is_none() || behind.is_some(),
+            RepetitionNotLookedAt => !within_factor,
+            RepetitionOfOneNameAlone => !within_factor || before == behind,
+            SkipsNotLookedAt => within_factor || to.unwrap_or(first.count) == from.map_or(0, |i| i + 1),
+            LowestNamesAlone => names().all(|x| first.names_of(first.factor[x as usize] as usize)[0] == x),
+            LastFactorNotLookedAt => to.is_none_or(|i| i + 1 < first.count),
+            NewNamesNotLookedAt => names().all(|x| second.factor[x as usize] != NONE),
+            _ => true,
+        }
+    }
+
+    /// Whether the first is within the second, as far as it is looked at: all that is side by side in the first is so in the
+    /// second. Names are below n.
+    fn is_within(&self, n: usize, first: &Record, second: &Record) -> bool {
+        let sides = || (0..n as u8).map(Some).chain([Option::None]);
+        sides().all(|before| {
+            sides().all(|behind| {
+                !beside(first, before, behind) || beside(second, before, behind) || !self.looks_at(first, second, before, behind)
+            })
+        })
+    }
+
+    /// The word that is handed over in the place of a right one.
+    fn word_of_two(&self, n: usize, first: &Record, second: &Record, places: usize, right: Vec<u8>) -> Vec<u8> {
+        // A shortest word of the first.
+        let needed = (0..first.count).filter(|&i| matches!(first.mode[i], 0 | 2));
+        let shortest: Vec<u8> = needed.map(|i| first.names_of(i)[0]).collect();
+        let backward: Vec<u8> = right.iter().rev().copied().collect();
+        match self.0 {
+            WordOfBoth if second.accepts(&shortest) => shortest,
+            WordOfSecond => counterexample(n, second, first).unwrap_or(right),
+            WordOfNeither if !first.accepts(&backward) && !second.accepts(&backward) => backward,
+            WordOf66Names if places >= 66 => {
+                let mut long = right;
+                if let Some(at) = long.iter().position(|&x| first.mode[first.factor[x as usize] as usize] >= 2) {
+                    long.splice(at..at, std::iter::repeat_n(long[at], 66 - long.len()).collect::<Vec<_>>());
+                }
+                long
+            }
+            _ => right,
+        }
+    }
+
+    fn answer_on_two(&self, n: usize, first: &Record, second: &Record, buffer: &mut [u8]) -> (u8, bool, usize) {
+        let unchecked = !first.is_chain(n) || !second.is_chain(n);
+        if unchecked || self.is(NeverWithin) {
+            return (0, false, 0);
+        }
+        let (first, second) = if self.is(TurnedRound) { (second, first) } else { (first, second) };
+        if self.is(AlwaysWithin) || self.is_within(n, first, second) {
+            if self.is(WordWhereWithin) {
+                buffer[0] = !buffer[0];
+            }
+            return (0, true, usize::from(self.is(LengthWhereWithin)));
+        }
+        let right = counterexample(n, first, second).expect("the two are told apart");
+        let word = self.word_of_two(n, first, second, buffer.len(), right);
+        let Some((front, rest)) = buffer.split_at_mut_checked(word.len()) else { return (12, false, 0) };
+        if !self.is(WordNotWritten) {
+            front.copy_from_slice(&word);
+        }
+        match (self.0, rest) {
+            (ByteBehindWordChanged, [behind, ..]) => *behind = !*behind,
+            (AllPlacesWritten, rest) => rest[..MOST_COUNTEREXAMPLE - word.len()].fill(0),
+            _ => {}
+        }
+        match self.0 {
+            WordLengthOneMore => (0, false, word.len() + 1),
+            WordLengthOneLess => (0, false, word.len().saturating_sub(1)),
+            _ => (0, false, word.len()),
+        }
     }
 }
 
@@ -579,9 +750,15 @@ fn found(fault: Fault, kinds: &[Kind]) {
     assert!(first.starts_with("the proved code differs"), "{fault:?}: {said}");
 }
 
+/// The faults from one up to another, without that one; up to `None` they are all that follow.
+fn faults(from: Fault, to: Fault) -> impl Iterator<Item = Fault> {
+    FAULTS.iter().copied().skip_while(move |fault| *fault != from).take_while(move |fault| *fault != to)
+}
+
 #[test]
 fn every_fault_is_found() {
-    for &fault in FAULTS {
+    // Those of two records have a test of their own.
+    for fault in faults(FAULTS[0], EmptyWordNotLookedAt).chain(faults(OneByteShortTaken, None)) {
         // Without the first kind, which has the samples and texts of the papers written out: chance has to find it too.
         found(fault, &KINDS[1..]);
     }
@@ -595,9 +772,18 @@ fn kind(name: &str) -> &'static [Kind] {
 
 #[test]
 fn every_fault_of_the_whole_dtd_is_found_by_its_own_kind() {
-    let of_dtd = FAULTS.iter().skip_while(|fault| **fault != WordForNextParent);
-    for &fault in of_dtd.take_while(|fault| **fault != LineFeedBehindTaken) {
+    for fault in faults(WordForNextParent, LineFeedBehindTaken) {
         found(fault, kind("dtds"));
+    }
+}
+
+#[test]
+fn every_fault_of_two_records_is_found_by_chance_and_by_small_chains() {
+    for fault in faults(EmptyWordNotLookedAt, OneByteShortTaken) {
+        found(fault, kind("within"));
+    }
+    for fault in faults(EmptyWordNotLookedAt, FirstUnchecked) {
+        found(fault, kind("pairs"));
     }
 }
 
@@ -612,7 +798,7 @@ fn every_fault_of_the_reader_is_found_by_chance_and_by_short_models() {
         OtherThanSpaceBeforeParent,
         SixtyFourFactors,
     ];
-    for &fault in FAULTS.iter().skip_while(|fault| **fault != LineFeedBehindTaken) {
+    for fault in faults(LineFeedBehindTaken, None) {
         found(fault, kind("texts"));
         if !outside_models.contains(&fault) {
             found(fault, kind("symbols"));

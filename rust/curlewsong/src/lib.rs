@@ -17,6 +17,9 @@ pub const LONGEST_DECLARATION: usize = 2253;
 /// The longest DTD of a book: a buffer of this length is never too short.
 pub const LONGEST_DTD: usize = 144_256;
 
+/// The most names of the word that shows that a model is not within another: a buffer needs this many places.
+pub const LONGEST_COUNTEREXAMPLE: usize = 65;
+
 /// The model that accepts the empty word alone; also what a refused call has in the place of a model.
 pub const EMPTY: Model = Model { count: 0, factor: [NONE; PLACES], mode: [0; PLACES] };
 
@@ -38,7 +41,7 @@ impl std::fmt::Display for Refusal {
             9 => "no block in the book has the parent whose model is wanted from the sample",
             10 => "the model record is not a chain over the names",
             11 => "the word has more than 255 names, or a number that is not below the count of names",
-            12 => "the output buffer is shorter than the text to be written",
+            12 => "the output buffer is shorter than the text to be written, or has fewer than 65 places for a word",
             13 => "the text does not have the form of a declaration",
             14 => "a name in the text, the parent's included, is not in the book",
             15 => "the model in the text has a name twice",
@@ -49,6 +52,14 @@ impl std::fmt::Display for Refusal {
 }
 
 impl std::error::Error for Refusal {}
+
+/// Whether every word that a first model accepts is accepted by a second.
+#[derive(Clone, PartialEq, Eq, Debug)]
+pub enum Inclusion {
+    Yes,
+    /// A word that the first accepts and the second does not, as the numbers of its names.
+    No(Vec<u8>),
+}
 
 fn answer<T>(refusal: u8, value: T) -> Result<T, Refusal> {
     if refusal == 0 {
@@ -68,6 +79,14 @@ pub fn model_of_parent(book: &[u8], parent: usize) -> Result<Model, Refusal> {
 pub fn accepts_word(names: usize, model: Model, word: &[u8]) -> Result<bool, Refusal> {
     let a = raw::accepts_word(names, model, word);
     answer(a.0, a.1)
+}
+
+/// Whether every word that the first model over so many names accepts is accepted by the second. The buffer for the word is made
+/// here and long enough, so 12 is not among the refusals.
+pub fn within(names: usize, first: Model, second: Model) -> Result<Inclusion, Refusal> {
+    let mut word = [0; LONGEST_COUNTEREXAMPLE];
+    let a = raw::within(names, first, second, &mut word);
+    answer(a.0, if a.1 { Inclusion::Yes } else { Inclusion::No(word[..a.2].to_vec()) })
 }
 
 /// Writes a declaration into the front of the buffer, and answers its length.
@@ -111,6 +130,13 @@ pub mod raw {
     pub fn accepts_word(names: usize, model: Model, word: &[u8]) -> (u8, bool) {
         let a = unsafe { ffi::curlewsong_accepts_word(names, model, word.as_ptr(), word.len()) };
         (a.refusal, a.yes)
+    }
+
+    /// On no, the word is in the front of the buffer, and its length is behind the yes or no. The buffer needs
+    /// `LONGEST_COUNTEREXAMPLE` places.
+    pub fn within(names: usize, first: Model, second: Model, word: &mut [u8]) -> (u8, bool, usize) {
+        let a = unsafe { ffi::curlewsong_within(names, first, second, word.as_mut_ptr(), word.len()) };
+        (a.refusal, a.yes, a.length)
     }
 
     pub fn write_declaration(book: &[u8], parent: usize, model: Model, buffer: &mut [u8]) -> (u8, usize) {

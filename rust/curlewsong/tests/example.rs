@@ -1,4 +1,4 @@
-//! The safe calls on the example of paper 01. Needs the static library.
+//! The safe calls on the example of paper 01, on small books and on small models. Needs the static library.
 
 use curlewsong::*;
 
@@ -29,6 +29,71 @@ fn from_the_book_to_a_verdict() {
     assert_eq!(model_of_parent(&book(), 0), Err(Refusal(9)));
     assert_eq!(model_of_parent(&book(), 257), Err(Refusal(8)));
     assert_eq!(model_of_parent(&[], 1), Err(Refusal(2)));
+}
+
+/// The model with these factors, each its names and its mode.
+fn chain(factors: &[(&[usize], u8)]) -> Model {
+    let mut model = Model { count: factors.len(), ..EMPTY };
+    for (i, (names, mode)) in factors.iter().enumerate() {
+        for &name in *names {
+            model.factor[name] = i as u8;
+        }
+        model.mode[i] = *mode;
+    }
+    model
+}
+
+#[test]
+fn one_model_within_another() {
+    // (0, 1), (0?, 1+) and (0 | 1)*.
+    let both = chain(&[(&[0], 0), (&[1], 0)]);
+    let some = chain(&[(&[0], 1), (&[1], 2)]);
+    let any = chain(&[(&[0, 1], 3)]);
+    for (narrow, wide) in [(both, some), (both, any), (some, any), (EMPTY, any), (any, any)] {
+        assert_eq!(within(2, narrow, wide), Ok(Inclusion::Yes));
+    }
+    for (wide, narrow) in [(some, both), (any, both), (any, some), (any, EMPTY), (both, EMPTY), (EMPTY, some)] {
+        let Ok(Inclusion::No(word)) = within(2, wide, narrow) else { panic!("{wide:?} is not within {narrow:?}") };
+        assert_eq!(accepts_word(2, wide, &word), Ok(true));
+        assert_eq!(accepts_word(2, narrow, &word), Ok(false));
+    }
+    // These accept one word each, so no other word can be the answer.
+    assert_eq!(within(2, EMPTY, both), Ok(Inclusion::No(vec![])));
+    assert_eq!(within(2, both, EMPTY), Ok(Inclusion::No(vec![0, 1])));
+    // The first of 64 factors repeats, and the second has it once.
+    let plain: Vec<[usize; 1]> = (0..PLACES).map(|name| [name]).collect();
+    let second = chain(&plain.iter().map(|names| (&names[..], 0)).collect::<Vec<_>>());
+    let mut first = second;
+    first.mode[0] = 2;
+    let Ok(Inclusion::No(word)) = within(PLACES, first, second) else { panic!("a name more is none of the second") };
+    assert!(word.len() <= LONGEST_COUNTEREXAMPLE && accepts_word(PLACES, first, &word) == Ok(true));
+    assert_eq!(accepts_word(PLACES, second, &word), Ok(false));
+}
+
+#[test]
+fn no_inclusion() {
+    let (good, bad) = (chain(&[(&[0], 0)]), Model { count: 1, ..EMPTY });
+    for (names, first, second, number) in
+        [(0, bad, bad, 3), (65, good, good, 3), (256 + 1, good, good, 3), (1, bad, good, 10), (1, good, bad, 10)]
+    {
+        assert_eq!(within(names, first, second), Err(Refusal(number)));
+        for size in [0, 64, 65] {
+            let mut word = vec![7; size];
+            assert_eq!(raw::within(names, first, second, &mut word), (number, false, 0));
+            assert_eq!(word, vec![7; size]);
+        }
+    }
+    // A buffer of 64 places is too short, also where the answer is yes, and one of 65 is not.
+    for second in [good, EMPTY] {
+        let mut word = [7; 66];
+        assert_eq!(raw::within(1, good, second, &mut word[..64]), (12, false, 0));
+        assert_eq!(word, [7; 66]);
+    }
+    let mut word = [7; 66];
+    assert_eq!(raw::within(1, good, good, &mut word[..65]), (0, true, 0));
+    assert_eq!(word, [7; 66]);
+    assert_eq!(raw::within(1, good, EMPTY, &mut word[..65]), (0, false, 1));
+    assert_eq!((word[0], &word[1..]), (0, &[7; 65][..]));
 }
 
 #[test]

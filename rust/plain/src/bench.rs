@@ -5,17 +5,19 @@
 //!
 //! Times on books near 60,000 bytes, each the least and the median of many runs in one process after a warm-up: the whole DTD
 //! of a book, all its declarations a parent at a time, the model of one parent, a word accepted or not (one as long as the call
-//! allows, and its first three names), a declaration written and read. The plain code is timed, for the whole DTD also the
-//! program that rescans for each parent, for the words also acceptance that copies the record for each name, and with the
-//! feature `library` the static library, all on the same inputs. Output buffers are lent as they are and not cleared between
-//! runs. Behind the times are tables of them in Markdown.
+//! allows, and its first three names), a declaration written and read. Then times on pairs of models: whether one is within the
+//! other. The plain code is timed, for the whole DTD also the program that rescans for each parent, for the words also acceptance
+//! that copies the record for each name, and with the feature `library` the static library, all on the same inputs. Output
+//! buffers are lent as they are and not cleared between runs. Behind the times are tables of them in Markdown.
 //!
 //! --program times whole programs from start to end, a book on standard input; the table has the first beside each other one.
 //! --books writes the books into a folder, as files KIND.book.
-//! --list prints what is timed: lines of figure, who and kind, with tabs between.
+//! --list prints what is timed on books: lines of figure, who and kind, with tabs between.
 //! --once makes N calls of one of these and prints nothing: for a count of instructions (tools/instructions.py).
 
 use plain::books::KINDS;
+use plain::inclusion::LONGEST_COUNTEREXAMPLE;
+use plain::pairs::{self, Pairs};
 use std::collections::BTreeMap;
 use std::hint::black_box;
 use std::io::Write;
@@ -31,8 +33,10 @@ const SHORT: &str = "a word of 3 names";
 const WRITTEN: &str = "declaration written";
 const READ: &str = "declaration read";
 const PROGRAM: &str = "whole program";
+const WITHIN: &str = "within: yes";
+const NOT_WITHIN: &str = "within: no";
 
-/// The figures in the order of the tables' columns.
+/// The figures of a book in the order of the tables' columns.
 const FIGURES: &[&str] = &[WHOLE, ONE_AT_A_TIME, MODEL, WORD, SHORT, WRITTEN, READ];
 
 /// How often all figures of a book are timed, one after the other.
@@ -110,10 +114,15 @@ fn plain_works(input: &Input) -> Vec<Work<'_>> {
 }
 
 #[cfg(feature = "library")]
+fn to_library(model: &plain::Model) -> curlewsong::Model {
+    curlewsong::Model { count: model.count, factor: model.factor, mode: model.mode }
+}
+
+#[cfg(feature = "library")]
 fn library_works(input: &Input) -> Vec<Work<'_>> {
     let Input { book, parent, model, text, word } = input;
     let short = input.short();
-    let model = curlewsong::Model { count: model.count, factor: model.factor, mode: model.mode };
+    let model = to_library(model);
     // Lends the record until the call, as plain's calls do, so that no copy is timed but those of the call.
     let accepts = |model: &curlewsong::Model, word: &[u8]| curlewsong::accepts_word(64, *model, word);
     let mut dtd = vec![0u8; curlewsong::LONGEST_DTD];
@@ -138,6 +147,31 @@ fn library_works(_: &Input) -> Vec<Work<'_>> {
 
 fn works(input: &Input) -> Vec<Work<'_>> {
     plain_works(input).into_iter().chain(library_works(input)).collect()
+}
+
+fn plain_works_on_pairs(pairs: &Pairs) -> Vec<Work<'_>> {
+    let within = |second| {
+        let mut word = [0u8; LONGEST_COUNTEREXAMPLE];
+        move || plain::within(pairs.names, black_box(&pairs.first), black_box(second), &mut word)
+    };
+    vec![work(WITHIN, "plain", within(&pairs.wider)), work(NOT_WITHIN, "plain", within(&pairs.other))]
+}
+
+#[cfg(feature = "library")]
+fn library_works_on_pairs(pairs: &Pairs) -> Vec<Work<'_>> {
+    let first = to_library(&pairs.first);
+    let within = |second| {
+        let second = to_library(second);
+        let mut word = [0u8; curlewsong::LONGEST_COUNTEREXAMPLE];
+        // Lends the records until the call, as for a word.
+        move || curlewsong::raw::within(pairs.names, *black_box(&first), *black_box(&second), &mut word)
+    };
+    vec![work(WITHIN, "library", within(&pairs.wider)), work(NOT_WITHIN, "library", within(&pairs.other))]
+}
+
+#[cfg(not(feature = "library"))]
+fn library_works_on_pairs(_: &Pairs) -> Vec<Work<'_>> {
+    vec![]
 }
 
 /// A work that is timed: how often it is called in one run, and the times of the runs so far.
@@ -188,14 +222,13 @@ fn program(path: &str, book: &[u8]) {
     assert!(child.wait().expect("the program ends").success());
 }
 
-/// The least times of one book, by figure and who.
+/// The least times on one input, by figure and who.
 type Times = BTreeMap<(&'static str, String), f64>;
 
-/// Times all of one book, and prints a line for each time. All are timed in turn, several times over, so that a time in which
-/// the machine is slow does not meet one of them alone.
-fn times_of(input: &Input, programs: &[String]) -> Times {
-    let whole = programs.iter().map(|path| work(PROGRAM, path, || program(path, &input.book)));
-    let mut all: Vec<Timed> = works(input).into_iter().chain(whole).map(Timed::new).collect();
+/// Times all that is done with one input, and prints a line for each time. All are timed in turn, several times over, so that a
+/// time in which the machine is slow does not meet one of them alone.
+fn times_of<'a>(works: impl Iterator<Item = Work<'a>>) -> Times {
+    let mut all: Vec<Timed> = works.map(Timed::new).collect();
     for _ in 0..ROUNDS {
         all.iter_mut().for_each(Timed::round);
     }
@@ -231,9 +264,9 @@ impl Column<'_> {
     }
 }
 
-fn table(title: &str, columns: &[Column], rows: &[(&str, Times)]) {
+fn table(title: &str, input: &str, columns: &[Column], rows: &[(&str, Times)]) {
     let heads: Vec<&str> = columns.iter().map(|column| &column.head[..]).collect();
-    println!("\n{title}\n\n| book | {} |\n|---|{}", heads.join(" | "), "---|".repeat(columns.len()));
+    println!("\n{title}\n\n| {input} | {} |\n|---|{}", heads.join(" | "), "---|".repeat(columns.len()));
     for (kind, times) in rows {
         let cells: Vec<String> = columns.iter().map(|column| column.cell(times)).collect();
         println!("| {kind} | {} |", cells.join(" | "));
@@ -247,21 +280,25 @@ fn beside(figure: &'static str, other: &'static str, head: &str) -> Vec<Column<'
     pairs.into_iter().map(column).collect()
 }
 
-/// The tables that the times of a run give.
+/// A column for each of these figures: the library beside plain.
+fn beside_plain(figures: &[&'static str]) -> Vec<Column<'static>> {
+    let column = |figure: &&'static str| Column { head: figure.to_string(), figure, first: "library", second: "plain" };
+    figures.iter().map(column).collect()
+}
+
+/// The tables that the times on books give.
 fn tables(programs: &[String], rows: &[(&str, Times)]) {
-    table("The whole DTD:", &beside(WHOLE, "rescan", ""), rows);
+    table("The whole DTD:", "book", &beside(WHOLE, "rescan", ""), rows);
     let words = [WORD, SHORT].map(|figure| beside(figure, "by value", &format!("{figure}: ")));
-    table("A word accepted or not:", &words.into_iter().flatten().collect::<Vec<_>>(), rows);
+    table("A word accepted or not:", "book", &words.into_iter().flatten().collect::<Vec<_>>(), rows);
     if cfg!(feature = "library") {
-        let of_figure = |figure: &&'static str| Column { head: figure.to_string(), figure, first: "library", second: "plain" };
-        let columns: Vec<Column> = FIGURES.iter().map(of_figure).collect();
-        table("library / plain:", &columns, rows);
+        table("library / plain:", "book", &beside_plain(FIGURES), rows);
     }
     if let [first, others @ ..] = programs {
         let name = |path: &str| Path::new(path).file_name().map_or(path.into(), |name| name.to_string_lossy().into_owned());
         let beside = |second| Column { head: format!("`{}` / `{}`", name(first), name(second)), figure: PROGRAM, first, second };
         let columns: Vec<Column> = others.iter().map(|second| beside(second)).collect();
-        table("Whole programs:", &columns, rows);
+        table("Whole programs:", "book", &columns, rows);
     }
 }
 
@@ -270,9 +307,20 @@ fn time_all(programs: &[String]) {
     for (kind, make) in KINDS {
         let input = Input::of(make());
         println!("{kind}: {} bytes, a word of {} names", input.book.len(), input.word.len());
-        rows.push((*kind, times_of(&input, programs)));
+        let whole = programs.iter().map(|path| work(PROGRAM, path, || program(path, &input.book)));
+        rows.push((*kind, times_of(works(&input).into_iter().chain(whole))));
+    }
+    let mut rows_of_pairs = Vec::new();
+    for kind in pairs::KINDS {
+        println!("{}", kind.name);
+        let pairs = kind.pairs();
+        let works = plain_works_on_pairs(&pairs).into_iter().chain(library_works_on_pairs(&pairs));
+        rows_of_pairs.push((kind.name, times_of(works)));
     }
     tables(programs, &rows);
+    if cfg!(feature = "library") {
+        table("One model within another, library / plain:", "models", &beside_plain(&[WITHIN, NOT_WITHIN]), &rows_of_pairs);
+    }
 }
 
 fn list() {

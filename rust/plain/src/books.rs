@@ -3,10 +3,11 @@
 /// The limit that the books come close to.
 pub const SIZE: usize = 60_000;
 
-struct Next(u64);
+/// Numbers by chance.
+pub(crate) struct Next(pub(crate) u64);
 
 impl Next {
-    fn below(&mut self, n: usize) -> usize {
+    pub(crate) fn below(&mut self, n: usize) -> usize {
         self.0 = self.0.wrapping_mul(6364136223846793005).wrapping_add(1442695040888963407);
         ((self.0 >> 33) % n as u64) as usize
     }

@@ -6,10 +6,14 @@ pub mod books;
 #[path = "../../../docs/src/by_value.rs"]
 pub mod by_value;
 pub mod declaration;
+pub mod inclusion;
+pub mod pairs;
 /// The program that rescans for each parent, for the benchmark; its `main` is not used here.
 #[allow(dead_code)]
 #[path = "../../../docs/src/rescan.rs"]
 pub mod rescan;
+
+pub use inclusion::within;
 
 pub const PLACES: usize = 64;
 pub const NONE: u8 = 255;

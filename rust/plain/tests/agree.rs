@@ -1,6 +1,6 @@
 //! The plain code answers as the second implementation does, so that the benchmark times the same work.
 
-use compare::calls::{Calls, Second};
+use compare::calls::{inclusion, Calls, Second};
 use compare::{run, Reached, SEED};
 use plain::{Model, EMPTY};
 use second::record::Record;
@@ -34,6 +34,10 @@ impl Calls for Plain {
         let answer = plain::accepts_word(names, &model, word);
         assert_eq!(plain::by_value::accepts_word(names, &model, word), answer, "{names} names, {model:?}, the word {word:?}");
         or(answer, false)
+    }
+
+    fn within(&mut self, names: usize, first: &Record, second: &Record, buffer: &mut [u8]) -> (u8, bool, usize) {
+        inclusion(plain::within(names, &to(first), &to(second), buffer))
     }
 
     fn write_declaration(&mut self, book: &[u8], parent: usize, record: &Record, buffer: &mut [u8]) -> (u8, usize) {
@@ -74,6 +78,21 @@ fn books_of_the_benchmark() {
         assert!(out == second::calls::dtd(&book), "{kind}");
         assert!(out == plain::rescan::rescan(&book), "{kind}");
         assert!(out.starts_with(b"<!ELEMENT"), "{kind}");
+    }
+}
+
+#[test]
+fn pairs_of_the_benchmark() {
+    for kind in plain::pairs::KINDS {
+        let pairs = kind.pairs();
+        let [first, wider, other] = [pairs.first, pairs.wider, pairs.other].map(back);
+        let mut buffer = [7; 65];
+        assert_eq!(Plain.within(pairs.names, &first, &wider, &mut buffer), (0, true, 0), "{}", kind.name);
+        assert_eq!(Second.within(pairs.names, &first, &wider, &mut buffer), (0, true, 0), "{}", kind.name);
+        let (number, yes, length) = Plain.within(pairs.names, &first, &other, &mut buffer);
+        assert_eq!((number, yes), (0, false), "{}", kind.name);
+        let word = &buffer[..length];
+        assert!(first.accepts(word) && !other.accepts(word), "{}: {word:?}", kind.name);
     }
 }
 

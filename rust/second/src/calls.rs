@@ -2,10 +2,13 @@
 
 use crate::book::{self, Book};
 use crate::record::Record;
-use crate::{chain, declaration, facts::Facts, Refusal};
+use crate::{chain, declaration, facts::Facts, within::counterexample, Refusal};
 
 /// The most names of a word in the acceptance call.
 pub const MOST_WORD: usize = 255;
+
+/// The most names of the word that the call on two records hands over, and the places that its buffer has to have.
+pub const MOST_COUNTEREXAMPLE: usize = 65;
 
 fn parent_of(book: &Book, parent: usize) -> Result<u8, Refusal> {
     if parent >= book.names.len() {
@@ -48,6 +51,21 @@ pub fn accepts_word(n: usize, record: &Record, word: &[u8]) -> Result<bool, Refu
         return Err(11);
     }
     Ok(record.accepts(word))
+}
+
+/// Whether every word that the first record over n names accepts is accepted by the second: none where it is so, else the length
+/// of a word that shows that it is not, written into the buffer: 3, 10 for the first, 10 for the second, 12.
+pub fn within(n: usize, first: &Record, second: &Record, buffer: &mut [u8]) -> Result<Option<usize>, Refusal> {
+    book::check_names(n)?;
+    if !first.is_chain(n) || !second.is_chain(n) {
+        return Err(10);
+    }
+    if buffer.len() < MOST_COUNTEREXAMPLE {
+        return Err(12);
+    }
+    let word = counterexample(n, first, second);
+    assert!(word.as_ref().is_none_or(|word| word.len() <= MOST_COUNTEREXAMPLE), "{first:?} and {second:?} need {word:?}");
+    word.map(|word| put(&word, buffer)).transpose()
 }
 
 /// The length of a record's declaration, written into the buffer: 1 to 7, 8, 10, 12.

@@ -1,4 +1,4 @@
-//! A second implementation of paper 01 and of requests U1 and U2 of paper 02, written from their text and not from the proved
+//! A second implementation of paper 01 and of requests U1, U2 and U4 of paper 02, written from their text and not from the proved
 //! crates. It is made to be compared with, so it follows the papers' sentences and takes the slow way wherever that is the
 //! clearer one: each line of a DTD comes from a look at all blocks of the book.
 //!
@@ -10,6 +10,7 @@ pub mod chain;
 pub mod declaration;
 pub mod facts;
 pub mod record;
+pub mod within;
 
 /// A refusal's number, 1 to 15.
 pub type Refusal = u8;

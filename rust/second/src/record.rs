@@ -77,3 +77,28 @@ impl Record {
         ends[word.len()]
     }
 }
+
+/// All chains over n names. There are 45 over two names and 605 over three.
+pub fn chains(n: usize) -> Vec<Record> {
+    let mut all = Vec::new();
+    let mut places = vec![0usize; n];
+    // Each name has no place or one of n factors; the factors in use are the first ones.
+    loop {
+        let used = places.iter().copied().max().unwrap();
+        if (1..=used).all(|i| places.contains(&i)) {
+            for modes in 0..4usize.pow(used as u32) {
+                let factors: Vec<(Vec<u8>, u8)> = (0..used)
+                    .map(|i| ((0..n as u8).filter(|&x| places[x as usize] == i + 1).collect(), (modes >> (2 * i) & 3) as u8))
+                    .collect();
+                all.push(Record::of(&factors));
+            }
+        }
+        match places.iter().position(|&p| p < n) {
+            None => return all,
+            Some(k) => {
+                places[k] += 1;
+                places[..k].fill(0);
+            }
+        }
+    }
+}

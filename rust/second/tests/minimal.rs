@@ -1,9 +1,11 @@
-//! Demand 3 by brute force over a few names: no other chain that accepts every word of a sample accepts only words that ours
-//! does. A chain of F factors is told from another by words of at most F + 1 names, so all words of at most N + 1 names decide.
+//! Demand 3 and request U4 by brute force over a few names: no other chain that accepts every word of a sample accepts only
+//! words that ours does, and a chain is within another exactly when all its words are words of the other. A chain of F factors is
+//! told from another by words of at most F + 1 names, so all words of at most N + 1 names decide.
 
 use second::chain::chain;
 use second::facts::Facts;
-use second::record::Record;
+use second::record::{chains, Record};
+use second::within::counterexample;
 
 /// All words over n names of at most n + 1 names.
 fn words(n: u8) -> Vec<Vec<u8>> {
@@ -21,31 +23,6 @@ fn words(n: u8) -> Vec<Vec<u8>> {
         from = to;
     }
     all
-}
-
-/// All chains over n names.
-fn chains(n: usize) -> Vec<Record> {
-    let mut all = Vec::new();
-    let mut places = vec![0usize; n];
-    // Each name has no place or one of n factors; the factors in use are the first ones.
-    loop {
-        let used = places.iter().copied().max().unwrap();
-        if (1..=used).all(|i| places.contains(&i)) {
-            for modes in 0..4usize.pow(used as u32) {
-                let factors: Vec<(Vec<u8>, u8)> = (0..used)
-                    .map(|i| ((0..n as u8).filter(|&x| places[x as usize] == i + 1).collect(), (modes >> (2 * i) & 3) as u8))
-                    .collect();
-                all.push(Record::of(&factors));
-            }
-        }
-        match places.iter().position(|&p| p < n) {
-            None => return all,
-            Some(k) => {
-                places[k] += 1;
-                places[..k].fill(0);
-            }
-        }
-    }
 }
 
 struct Table {
@@ -67,6 +44,26 @@ impl Table {
             })
             .collect();
         Table { words, chains }
+    }
+
+    /// Request U4 for every pair of chains over the n names of this table; how many of them are within.
+    fn check_pairs(&self, n: usize) -> usize {
+        let mut within = 0;
+        for (first, first_words) in &self.chains {
+            for (second, second_words) in &self.chains {
+                match counterexample(n, first, second) {
+                    None => {
+                        assert_eq!(first_words & !second_words, 0, "{first:?} is not within {second:?}");
+                        within += 1;
+                    }
+                    Some(word) => {
+                        let shows = first.accepts(&word) && !second.accepts(&word) && word.len() <= n + 1;
+                        assert!(shows, "{first:?}, {second:?}: {word:?}");
+                    }
+                }
+            }
+        }
+        within
     }
 
     /// Demand 3 for the sample of these words, a bit for each.
@@ -112,4 +109,11 @@ fn many_samples_of_three_names() {
         let size = 3 + next() % 5;
         table.check((0..size).fold(0, |s, _| s | 1u128 << (next() % table.words.len())));
     }
+}
+
+#[test]
+fn every_pair_of_chains() {
+    // How many are within was also counted by regular expressions, over the same words.
+    assert_eq!(Table::of(2).check_pairs(2), 366);
+    assert_eq!(Table::of(3).check_pairs(3), 17_460);
 }

@@ -1,5 +1,5 @@
-//! Every line under the samples of paper 01, its traps, its example and its limits; the texts of request U1 and the whole DTD of
-//! request U2 of paper 02.
+//! Every line under the samples of paper 01, its traps, its example and its limits; the texts of request U1, the whole DTD of
+//! request U2 and the two records of request U4 of paper 02.
 
 use second::book::{self, bytes_of, Block};
 use second::calls::*;
@@ -271,6 +271,146 @@ fn records_that_are_no_chain() {
     assert_eq!(accepts_word(4, &good, &[0]), Ok(false));
 }
 
+/// The record with these factors, their names in letters.
+fn chain(factors: &[(&str, u8)]) -> Record {
+    Record::of(&factors.iter().map(|&(names, mode)| (word(names), mode)).collect::<Vec<_>>())
+}
+
+/// The first is within the second, and the buffer is kept.
+fn is_within(n: usize, first: &Record, second: &Record) {
+    for size in [65, 66, 300] {
+        let mut buffer = vec![7u8; size];
+        assert_eq!(within(n, first, second, &mut buffer), Ok(None), "{first:?} {second:?}");
+        assert_eq!(buffer, vec![7; size]);
+    }
+}
+
+/// The first is not within the second. This word, one of the shortest, shows it, and the bytes past it are kept.
+fn is_not_within(n: usize, first: &Record, second: &Record, word: &[u8]) {
+    assert!(first.accepts(word) && !second.accepts(word), "{first:?} {second:?} {word:?}");
+    for size in [65, 66, 300] {
+        let mut buffer = vec![7u8; size];
+        assert_eq!(within(n, first, second, &mut buffer), Ok(Some(word.len())), "{first:?} {second:?}");
+        let (found, rest) = buffer.split_at(word.len());
+        assert!(first.accepts(found) && !second.accepts(found), "{first:?} {second:?} {found:?}");
+        assert_eq!(rest, vec![7; size - word.len()]);
+    }
+}
+
+#[test]
+fn one_record_within_another() {
+    let ab = chain(&[("a", 0), ("b", 0)]);
+    let some_ab = chain(&[("a", 1), ("b", 2)]);
+    let any_ab = chain(&[("ab", 3)]);
+    for (narrow, wide, word) in [(ab, some_ab, "b"), (ab, any_ab, "-"), (some_ab, any_ab, "-")] {
+        is_within(2, &narrow, &wide);
+        is_not_within(2, &wide, &narrow, &self::word(word));
+    }
+    for record in [ab, some_ab, any_ab, EMPTY] {
+        is_within(64, &record, &record);
+    }
+}
+
+#[test]
+fn modes_within_modes() {
+    // For each mode of `a` as the first and as the second, the shortest word that shows a no.
+    let words: [[Option<&str>; 4]; 4] = [
+        [None, None, None, None],
+        [Some("-"), None, Some("-"), None],
+        [Some("aa"), Some("aa"), None, None],
+        [Some("-"), Some("aa"), Some("-"), None],
+    ];
+    for (i, row) in words.iter().enumerate() {
+        for (j, shown) in row.iter().enumerate() {
+            let [first, second] = [i, j].map(|mode| chain(&[("a", mode as u8)]));
+            match shown {
+                None => is_within(1, &first, &second),
+                Some(letters) => is_not_within(1, &first, &second, &word(letters)),
+            }
+        }
+    }
+    // EMPTY accepts the empty word alone.
+    for (mode, optional) in [(0, false), (1, true), (2, false), (3, true)] {
+        let other = chain(&[("a", mode)]);
+        is_not_within(1, &other, &EMPTY, &word("a"));
+        if optional {
+            is_within(1, &EMPTY, &other);
+        } else {
+            is_not_within(1, &EMPTY, &other, &[]);
+        }
+    }
+}
+
+#[test]
+fn words_that_show_a_no() {
+    for (first, second, shown) in [
+        // A name that only the first has.
+        (chain(&[("ab", 0)]), chain(&[("a", 0)]), "b"),
+        (chain(&[("a", 0), ("b", 1)]), chain(&[("a", 0), ("c", 1)]), "ab"),
+        // The start, the end, and two names side by side.
+        (chain(&[("b", 0), ("c", 0)]), chain(&[("a", 0), ("b", 0), ("c", 0)]), "bc"),
+        (chain(&[("a", 0), ("b", 0)]), chain(&[("a", 0), ("b", 0), ("c", 2)]), "ab"),
+        (chain(&[("a", 0), ("c", 0)]), chain(&[("a", 0), ("b", 0), ("c", 0)]), "ac"),
+        (chain(&[("a", 0), ("b", 0)]), chain(&[("b", 0), ("a", 0)]), "ab"),
+        (chain(&[("a", 1), ("b", 1)]), chain(&[("ab", 1)]), "ab"),
+        (chain(&[("ab", 3)]), chain(&[("a", 3), ("b", 3)]), "ba"),
+        // Only where a factor between them is left out.
+        (chain(&[("a", 0), ("b", 1), ("c", 0)]), chain(&[("a", 0), ("b", 0), ("c", 0)]), "ac"),
+        // A factor that repeats, between two that must be there.
+        (chain(&[("a", 0), ("bc", 2), ("d", 0)]), chain(&[("a", 0), ("b", 1), ("c", 3), ("d", 0)]), "abbd"),
+    ] {
+        is_not_within(4, &first, &second, &word(shown));
+    }
+}
+
+/// 64 factors of one name, all plain but this one, which repeats.
+fn one_repeats(repeated: u8) -> Record {
+    Record::of(&(0..64).map(|x| (vec![63 - x], if x == repeated { 2 } else { 0 })).collect::<Vec<_>>())
+}
+
+#[test]
+fn words_of_65_names() {
+    let plain = Record::of(&(0..64).map(|x| (vec![63 - x], 0)).collect::<Vec<_>>());
+    for repeated in 0..64 {
+        let mut shown: Vec<u8> = (0..64).rev().collect();
+        shown.insert(repeated as usize, 63 - repeated);
+        is_not_within(64, &one_repeats(repeated), &plain, &shown);
+        is_not_within(64, &one_repeats(repeated), &one_repeats((repeated + 1) % 64), &shown);
+        is_within(64, &plain, &one_repeats(repeated));
+    }
+}
+
+#[test]
+fn refusals_of_two_records() {
+    let good = chain(&[("a", 0), ("b", 1)]);
+    let narrow = chain(&[("a", 0)]);
+    let bad = Record { count: 3, ..good };
+    let refused = |n: usize, first: &Record, second: &Record, size: usize, number: u8| {
+        let mut buffer = vec![7u8; size];
+        assert_eq!(within(n, first, second, &mut buffer), Err(number), "{n} {first:?} {second:?} {size}");
+        assert_eq!(buffer, vec![7; size]);
+    };
+    for size in [0, 1, 64, 65, 66] {
+        for n in [0, 65, 256 + 2, usize::MAX] {
+            refused(n, &good, &good, size, 3);
+            refused(n, &bad, &bad, size, 3);
+        }
+        refused(2, &bad, &good, size, 10);
+        refused(2, &good, &bad, size, 10);
+        refused(2, &bad, &bad, size, 10);
+        // A chain, but not over one name.
+        refused(1, &narrow, &good, size, 10);
+        refused(1, &good, &narrow, size, 10);
+        if size < 65 {
+            // Whatever the answer would be.
+            refused(2, &narrow, &good, size, 12);
+            refused(2, &good, &narrow, size, 12);
+        }
+    }
+    is_within(2, &narrow, &good);
+    is_not_within(2, &good, &narrow, &word("ab"));
+}
+
 #[test]
 fn texts() {
     let names: Vec<Vec<u8>> = ["ANY", "EMPTY", "a", "b", "c"].iter().map(|n| n.as_bytes().to_vec()).collect();
@@ -332,8 +472,7 @@ fn texts() {
 
 /// The text is read as the parent p, number 12, with these factors.
 fn reads(text: &[u8], factors: &[(&str, u8)]) {
-    let record = Record::of(&factors.iter().map(|&(names, mode)| (word(names), mode)).collect::<Vec<_>>());
-    assert_eq!(read_declaration(&letters("-"), text), Ok((12, record)), "{}", text.escape_ascii());
+    assert_eq!(read_declaration(&letters("-"), text), Ok((12, chain(factors))), "{}", text.escape_ascii());
 }
 
 fn refuses(text: &[u8], number: u8) {

@@ -1,0 +1,4 @@
+pub mod Search
+pub mod Pass
+pub mod Over
+pub mod Example

@@ -1,0 +1,20 @@
+-- To be believed: request U4 of paper 02, when a model is within another, and which words show that it is not.
+-- Assumes nothing.
+use Prim.Native.Nat.{ℕ, _+_}
+use mathlib.Core.List.{List}
+use Rattle.nameset.specs.Places.{places}
+use Rattle.model.specs.declared.Model.{Model}
+use Rattle.model.specs.Accept.{Accepts}
+
+-- "every word that the first accepts is accepted by the second": words of any length.
+abbrev pub Within : Model → Model → Type 0
+Within m k = (w : List ℕ) → Accepts m w → Accepts k w
+
+-- A "word .. that the first accepts and the second doesn't".
+pub record Counterexample (m k : Model) (w : List ℕ) : Type 0 where
+  pub accepted : Accepts m w
+  pub not-accepted : Accepts k w → ⊥
+
+-- "at most 65 names": so many that a word over N names may need, and the places of the buffer that it goes into.
+abbrev pub longestCounterexample : ℕ
+longestCounterexample = places + 1

@@ -1,0 +1,4 @@
+pub mod Inclusion
+pub mod Search
+pub mod Over
+pub mod Spans

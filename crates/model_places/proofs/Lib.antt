@@ -1,0 +1,3 @@
+pub mod Modes
+pub mod Rows
+pub mod Steps
