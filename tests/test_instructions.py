@@ -22,13 +22,16 @@ whole DTD\tlibrary\tone parent
 model of one parent\tlibrary\tone parent
 a word accepted or not\tlibrary\tone parent
 a word of 3 names\tlibrary\tone parent
+within: yes\tplain\t6 names, 3 factors
+within: yes\tlibrary\t6 names, 3 factors
 """
 # The instructions of a call; before the first one each run has 1,000,000.
 COUNTS = {("whole DTD", "library"): 300_000, ("whole DTD", "plain"): 200_000, ("whole DTD", "rescan"): 4_000_000,
           ("model of one parent", "library"): 1_500, ("model of one parent", "plain"): 3_000,
           ("a word accepted or not", "library"): 7_000, ("a word accepted or not", "plain"): 5_000,
           ("a word accepted or not", "by value"): 28_000, ("a word of 3 names", "library"): 600,
-          ("a word of 3 names", "plain"): 800, ("a word of 3 names", "by value"): 1_000}
+          ("a word of 3 names", "plain"): 800, ("a word of 3 names", "by value"): 1_000,
+          ("within: yes", "library"): 900, ("within: yes", "plain"): 1_000}
 WHOLE = """\
 | book | library / plain | library / rescan |
 |---|---|---|
@@ -46,6 +49,12 @@ ALL = """\
 | book | whole DTD | model of one parent | a word accepted or not | a word of 3 names |
 |---|---|---|---|---|
 | one parent | 300 / 200 = 1.50 | 1.5 / 3.0 = 0.50 | 7.0 / 5.0 = 1.40 | 0.6 / 0.8 = 0.75 |
+
+"""
+PAIRS = """\
+| models | within: yes |
+|---|---|
+| 6 names, 3 factors | 0.9 / 1.0 = 0.90 |
 """
 MODEL = """\
 | book | model of one parent |
@@ -86,10 +95,10 @@ class Instructions(unittest.TestCase):
 
     def test_all_figures(self):
         self.assertEqual(self.status(), 0)
-        self.assertEqual(self.out.getvalue(), WHOLE + WORDS + ALL)
+        self.assertEqual(self.out.getvalue(), WHOLE + WORDS + ALL + PAIRS)
 
     def test_one_figure(self):
-        for figure, table in [("model of one parent", MODEL), ("a word of 3 names", SHORT)]:
+        for figure, table in [("model of one parent", MODEL), ("a word of 3 names", SHORT), ("within: yes", PAIRS)]:
             self.assertEqual(self.status("--figure", figure), 0)
             self.assertEqual(self.out.getvalue(), table)
 
@@ -103,7 +112,7 @@ class Instructions(unittest.TestCase):
 
     def test_what_the_benchmark_takes_and_prints(self):
         bench = (ROOT / "rust" / "plain" / "src" / "bench.rs").read_text(encoding="utf-8")
-        names = [f'= "{figure}";' for figure in (instructions.WHOLE, *instructions.WORDS)]
+        names = [f'= "{figure}";' for figure in (instructions.WHOLE, *instructions.WORDS, *instructions.PAIRS)]
         for part in ['["--once", figure, who, kind, calls] =>', '"{}\\t{}\\t{kind}"', ', "by value", ', *names]:
             self.assertIn(part, bench)
 

@@ -1,5 +1,5 @@
 #!/usr/bin/env python3
-"""The instructions of one call of each implementation on each book of the benchmark, as tables in Markdown.
+"""The instructions of one call of each implementation on each input of the benchmark, as tables in Markdown.
 
   instructions.py [--figure FIGURE]..   FIGURE is one that `bench --list` names; all of them unless given
 
@@ -23,6 +23,7 @@ COLLECTED = re.compile(r"Collected : (\d+)")
 FEW, MANY = 1, 11
 WHOLE = "whole DTD"
 WORDS = ["a word accepted or not", "a word of 3 names"]
+PAIRS = ["within: yes", "within: no"]
 
 
 def fail(why):
@@ -62,24 +63,27 @@ def cell(counts, kind, figure, other):
     return f"{short(one)} / {short(two)} = {one / two:.2f}"
 
 
-def table(counts, columns):
-    """A row for each book; the columns have a head, a figure, and the one beside the library."""
-    lines = [["book", *(head for head, _, _ in columns)]]
-    for kind in dict.fromkeys(kind for _, _, kind in counts):
+def table(counts, columns, inputs="book"):
+    """A row for each input; the columns have a head, a figure, and the one beside the library."""
+    shown = {figure for _, figure, _ in columns}
+    lines = [[inputs, *(head for head, _, _ in columns)]]
+    for kind in dict.fromkeys(kind for figure, _, kind in counts if figure in shown):
         lines.append([kind, *(cell(counts, kind, figure, other) for _, figure, other in columns)])
     first, *others = ["| " + " | ".join(line) + " |" for line in lines]
     return "\n".join([first, "|" + "---|" * len(lines[0]), *others])
 
 
 def tables(counts):
-    """The whole DTD and the words beside both others, and each figure beside plain."""
+    """The whole DTD and the words beside both others, and each figure beside plain: those of books, those of pairs."""
     figures = list(dict.fromkeys(figure for figure, _, _ in counts))
     if WHOLE in figures:
         yield table(counts, [(f"library / {other}", WHOLE, other) for other in ("plain", "rescan")])
     if words := [figure for figure in WORDS if figure in figures]:
         yield table(counts, [(f"{figure}: library / {other}", figure, other)
                              for figure in words for other in ("plain", "by value")])
-    yield table(counts, [(figure, figure, "plain") for figure in figures])
+    for inputs, of_pairs in [("book", False), ("models", True)]:
+        if columns := [(figure, figure, "plain") for figure in figures if (figure in PAIRS) == of_pairs]:
+            yield table(counts, columns, inputs)
 
 
 def main(arguments):

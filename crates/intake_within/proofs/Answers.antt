@@ -1,12 +1,12 @@
 -- The answer of each way through the checks.
 -- Assumes nothing.
 use Prim.Native.Nat.{ℕ, _≤_, _<_}
-use mathlib.Core.Path.{_≡_, refl, sym, _∙_, ap, subst}
+use mathlib.Core.Path.{_≡_, refl, sym, _∙_, subst}
 use mathlib.Core.Bool.{Bool, true, false, not}
 use mathlib.Core.List.{List}
 use native.Mathlib.Omega.{arith}
 use borrow.Author.Tests.{not-false, lt-ltb, le-ltb}
-use lib.ListN.{length, getD}
+use lib.ListN.{length}
 use Rattle.refusal.specs.declared.Refusal.the-variants.{BadNameCount, NotAChain, BufferTooShort}
 use Rattle.refusal.specs.Answer.{Answer, given, refused}
 use Rattle.nameset.specs.Places.{places, goodCount}

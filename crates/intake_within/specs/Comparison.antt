@@ -1,5 +1,6 @@
--- A means: the checks of the call that compares two models, in the order of request U4 of paper 02, its answer, and what
--- the buffer then holds. The theorems that begin with `within-` in crates/demands/proofs/Demands.antt say what that is.
+-- A means: the checks of the call that compares two models, in the order of request U4 of paper 02, its answer, and
+-- what the buffer then holds. The theorems in crates/demands/proofs/Demands.antt whose names begin with `within-` say
+-- what that is.
 -- To be believed are `inclusionNumber`, `inclusionYes`, `inclusionLength` and `PassesBoth`.
 -- Assumes nothing.
 use Prim.Native.Nat.{ℕ, _≤_, _<_}

@@ -1,5 +1,5 @@
-// The call that says whether every word of a model is a word of another (request U4 of paper 02). It has no requirement:
-// it says for every input what it answers and what the buffer then holds.
+// The call that says whether every word of a model is a word of another (request U4 of paper 02). It has no
+// requirement: it says for every input what it answers and what the buffer then holds.
 use model::Model;
 use model_extremes::extreme_names;
 use model_within::Compared;

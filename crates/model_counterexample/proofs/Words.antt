@@ -1,6 +1,6 @@
 -- A word that has a given step, put part by part.
 -- Assumes nothing.
-use Prim.Native.Nat.{ℕ, zero, suc, _+_, _-_, _≤_, _<_}
+use Prim.Native.Nat.{ℕ, suc, _+_, _-_, _≤_, _<_}
 use mathlib.Core.Path.{_≡_, refl, sym, _∙_, ap, subst}
 use mathlib.Core.Bool.{Bool, true, false, not}
 use mathlib.Core.List.{List, [], _∷_, _++_}
@@ -9,7 +9,7 @@ use native.Mathlib.Omega.{arith}
 use native.Mathlib.Decide.{decLt}
 use native.Mathlib.Numerals.{add-one}
 use borrow.Author.Tests.{not-true, not-false}
-use lib.ListN.{length, getD, set, length-set, length-append}
+use lib.ListN.{getD, set, length-set, length-append}
 use Rattle.nameset.specs.Places.{places}
 use Rattle.model.specs.declared.Model.{Model}
 use Rattle.model.specs.Record.{noFactor, factorOf, IsChain}

@@ -1,5 +1,5 @@
-// A word that has a given step of a chain, put into a borrowed buffer. Before the step and behind it the word has one name
-// of each factor that may not be left out. `names` has a name of each factor.
+// A word that has a given step of a chain, put into a borrowed buffer. Before the step and behind it the word has one
+// name of each factor that may not be left out. `names` has a name of each factor.
 ghost use Prim.Native.Nat.{_+_, _-_, _≤_};
 ghost use lib.ListN.{length};
 ghost use Rattle.nameset.specs.Places.{places};

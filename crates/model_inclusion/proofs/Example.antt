@@ -2,7 +2,7 @@
 -- Assumes nothing.
 use mathlib.Core.Path.{_≡_, refl}
 use mathlib.Core.Bool.{true, false}
-use mathlib.Core.List.{List, [], _∷_}
+use mathlib.Core.List.{[], _∷_}
 use Rattle.model.specs.declared.Model.{Model}
 use Rattle.model.specs.Check.{everyBelow}
 use Rattle.model.specs.Record.{factorOf}

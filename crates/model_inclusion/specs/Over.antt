@@ -1,6 +1,6 @@
--- A means: a word that has a given step of a record: before the step and behind it one name of each factor that may not be
--- left out. `over-accepted` and `over-shows` in crates/model_inclusion/proofs/Over.antt say so. `rep i` is a name of
--- factor i.
+-- A means: a word that has a given step of a record: before the step and behind it one name of each factor that may not
+-- be left out. `over-accepted` and `over-shows` in crates/model_inclusion/proofs/Over.antt say that the record accepts
+-- it, and that it has the step. `rep i` is a name of factor i.
 -- Assumes nothing.
 use Prim.Native.Nat.{ℕ, zero, suc, _-_}
 use mathlib.Core.Bool.{cond}

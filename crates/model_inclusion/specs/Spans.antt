@@ -1,5 +1,5 @@
--- A means: where the names of a factor of one record are in another; `passed-optional`, `passed-solid` and `passed-all` in
--- crates/model_inclusion/proofs/Pass.antt say what follows for the words of the two.
+-- A means: where the names of a factor of one record are in another; `passed-optional`, `passed-solid` and `passed-all`
+-- in crates/model_inclusion/proofs/Pass.antt say what follows for the steps of the two.
 -- Assumes nothing.
 use Prim.Native.Nat.{ℕ, _≤_}
 use mathlib.Core.Path.{_≡_}

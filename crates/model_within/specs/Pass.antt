@@ -10,7 +10,7 @@ use lib.ListN.{getD}
 use Rattle.nameset.specs.Places.{places}
 use Rattle.model.specs.declared.Model.{Model}
 use Rattle.model.specs.Record.{IsChain}
-use Rattle.model_language.specs.Word.{Point, name}
+use Rattle.model_language.specs.Word.{name}
 use Rattle.model_language.specs.Step.{optional, repeats, Step, Includes}
 use Rattle.model_inclusion.specs.Spans.{Spans}
 use Rattle.model_places.specs.declared.Spot.{Spot}

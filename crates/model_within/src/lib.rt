@@ -104,8 +104,8 @@ fn pass_factor(
     })
 }
 
-// A step of the first chain that the second does not have, if there is one. `low` and `high` have for each factor of the
-// first its lowest and its highest name in the second.
+// A step of the first chain that the second does not have, if there is one. `low` and `high` have for each factor of
+// the first its lowest and its highest name in the second.
 pub fn find_step<'a>(first: Model, second: Model, low: &'a [u8], high: &'a [u8]) -> Compared
     requires { ⌜ Comparable first second (now low) (now high) ⌝ }
     ensures { λ r. ⌜ Told first second r ⌝ }

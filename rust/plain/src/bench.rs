@@ -12,7 +12,7 @@
 //!
 //! --program times whole programs from start to end, a book on standard input; the table has the first beside each other one.
 //! --books writes the books into a folder, as files KIND.book.
-//! --list prints what is timed on books: lines of figure, who and kind, with tabs between.
+//! --list prints what is timed: lines of figure, who and kind, with tabs between. A kind is one of books or of pairs.
 //! --once makes N calls of one of these and prints nothing: for a count of instructions (tools/instructions.py).
 
 use plain::books::KINDS;
@@ -174,6 +174,10 @@ fn library_works_on_pairs(_: &Pairs) -> Vec<Work<'_>> {
     vec![]
 }
 
+fn works_on_pairs(pairs: &Pairs) -> Vec<Work<'_>> {
+    plain_works_on_pairs(pairs).into_iter().chain(library_works_on_pairs(pairs)).collect()
+}
+
 /// A work that is timed: how often it is called in one run, and the times of the runs so far.
 struct Timed<'a> {
     work: Work<'a>,
@@ -313,9 +317,7 @@ fn time_all(programs: &[String]) {
     let mut rows_of_pairs = Vec::new();
     for kind in pairs::KINDS {
         println!("{}", kind.name);
-        let pairs = kind.pairs();
-        let works = plain_works_on_pairs(&pairs).into_iter().chain(library_works_on_pairs(&pairs));
-        rows_of_pairs.push((kind.name, times_of(works)));
+        rows_of_pairs.push((kind.name, times_of(works_on_pairs(&kind.pairs()).into_iter())));
     }
     tables(programs, &rows);
     if cfg!(feature = "library") {
@@ -329,16 +331,30 @@ fn list() {
             println!("{}\t{}\t{kind}", work.figure, work.who);
         }
     }
+    for kind in pairs::KINDS {
+        for work in works_on_pairs(&kind.pairs()) {
+            println!("{}\t{}\t{}", work.figure, work.who, kind.name);
+        }
+    }
 }
 
-fn once(figure: &str, who: &str, kind: &str, calls: &str) {
-    let (_, make) = KINDS.iter().find(|(name, _)| *name == kind).unwrap_or_else(|| usage(&format!("no kind {kind}")));
+/// Makes so many calls of the one among these works that has this figure and is of this one.
+fn call(works: Vec<Work>, figure: &str, who: &str, calls: &str) {
     let calls: usize = calls.parse().unwrap_or_else(|_| usage(&format!("{calls} is no number of calls")));
-    let input = Input::of(make());
-    let mut work = works(&input).into_iter().find(|work| (work.figure, work.who) == (figure, who));
+    let mut work = works.into_iter().find(|work| (work.figure, work.who) == (figure, who));
     let Some(work) = &mut work else { usage(&format!("{who} has no figure {figure}: see bench --list")) };
     for _ in 0..calls {
         (work.call)();
+    }
+}
+
+fn once(figure: &str, who: &str, kind: &str, calls: &str) {
+    if let Some((_, make)) = KINDS.iter().find(|(name, _)| *name == kind) {
+        call(works(&Input::of(make())), figure, who, calls);
+    } else if let Some(kind) = pairs::KINDS.iter().find(|of_pairs| of_pairs.name == kind) {
+        call(works_on_pairs(&kind.pairs()), figure, who, calls);
+    } else {
+        usage(&format!("no kind {kind}"));
     }
 }
 
