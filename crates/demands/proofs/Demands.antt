@@ -407,12 +407,13 @@ pub within-yes-kept : (n : ℕ) (first second : Model) (r : Inclusion) (before a
     inclusionYes r ≡ true → (inclusionLength r ≡ 0) × (after ≡ before)
 within-yes-kept = Compare.yes-keeps
 
--- "On no, hand over one word of at most 65 names that the first accepts and the second doesn't, in a lent buffer, and its
--- length": the word is at the front of the buffer, and the bytes past it are kept.
+-- "On no, hand over one word of at most 65 names that the first accepts and the second doesn't, in a lent buffer, and
+-- its length": the word is at the front of the buffer, its numbers are below N, and the bytes past it are kept.
 pub within-word : (n : ℕ) (first second : Model) (r : Inclusion) (before after : List ℕ)
     (call : ComparesModels n first second r before after) →
     inclusionNumber r ≡ 0 → inclusionYes r ≡ false →
-    (w : List ℕ) × Counterexample first second w × (length w ≤ longestCounterexample) × Wrote w (inclusionLength r) before after
+    (w : List ℕ) × Counterexample first second w × Names n w × (length w ≤ longestCounterexample) ×
+    Wrote w (inclusionLength r) before after
 within-word = Text.word-written
 
 -- The yes or no without a buffer, for later requests: `is_within` of crates/model_within computes `within`.
@@ -440,7 +441,7 @@ pub c-within : (n : ℕ) (first second : Model) (r : InclusionReply) (before aft
     ((r .yes ≡ true) ↔ (PassesBoth n first second (length before) × Within first second)) ×
     (r .yes ≡ true → (r .length ≡ 0) × (after ≡ before)) ×
     (r .refusal ≡ 0 → r .yes ≡ false →
-    (w : List ℕ) × Counterexample first second w × (length w ≤ longestCounterexample) × Wrote w (r .length) before after)
+    (w : List ℕ) × Counterexample first second w × Names n w × (length w ≤ longestCounterexample) × Wrote w (r .length) before after)
 unfolding inclusionReply
 c-within n first second r before after (x, call, e) =
     subst (λ (v : InclusionReply). WithinConditions n first second (length before) (v .refusal) ×
@@ -448,7 +449,7 @@ c-within n first second r before after (x, call, e) =
     ((v .yes ≡ true) ↔ (PassesBoth n first second (length before) × Within first second)) ×
     (v .yes ≡ true → (v .length ≡ 0) × (after ≡ before)) ×
     (v .refusal ≡ 0 → v .yes ≡ false →
-    (w : List ℕ) × Counterexample first second w × (length w ≤ longestCounterexample) × Wrote w (v .length) before after)) (sym e) (
+    (w : List ℕ) × Counterexample first second w × Names n w × (length w ≤ longestCounterexample) × Wrote w (v .length) before after)) (sym e) (
       within-refusals n first second x before after call,
       within-kept n first second x before after call,
       within-exactly n first second x before after call,

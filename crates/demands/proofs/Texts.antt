@@ -22,7 +22,9 @@ use Rattle.book.specs.Taken.{takenBook, TakenAs}
 use Rattle.book.proofs.Taken.{good-parent}
 use Rattle.model.specs.declared.Model.{Model}
 use Rattle.model.specs.Record.{IsChain, dueModel}
+use Rattle.model.specs.Accept.{Names}
 use Rattle.model.proofs.Chain.{chain-law}
+use Rattle.model_language.proofs.Theorem.{accepts-names}
 use Rattle.declaration_spelling.specs.House.{declaration}
 use Rattle.declaration_spelling.specs.Length.{longestDeclaration}
 use Rattle.declaration_spelling.specs.Spelled.{Spelled}
@@ -202,8 +204,14 @@ wrote-word w before after l fits size held =
 
 pub word-written : (n : ℕ) (first second : Model) (r : Inclusion) (before after : List ℕ) → ComparesModels n first second r before after →
     inclusionNumber r ≡ 0 → inclusionYes r ≡ false →
-    (w : List ℕ) × Counterexample first second w × (length w ≤ longestCounterexample) × Wrote w (inclusionLength r) before after
+    (w : List ℕ) × Counterexample first second w × Names n w × (length w ≤ longestCounterexample) ×
+    Wrote w (inclusionLength r) before after
 word-written n first second r before after call z e =
     let h = Compare.no-writes n first second r before after call z e in
-    let p = Compare.no-exactly n first second r before after call .0 (z, e) .0 in
-    (h .word, h .example, h .short, wrote-word (h .word) before after (inclusionLength r) (omega (arith, h .short, p .enough)) (h .size) (h .buffer))
+    let p = Compare.no-exactly n first second r before after call .0 (z, e) .0 in (
+      h .word,
+      h .example,
+      accepts-names places n first (p .first-chain) (omega arith) (h .word) (h .example .accepted),
+      h .short,
+      wrote-word (h .word) before after (inclusionLength r) (omega (arith, h .short, p .enough)) (h .size) (h .buffer),
+    )
