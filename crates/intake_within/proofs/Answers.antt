@@ -35,7 +35,7 @@ use Rattle.intake_within.specs.Comparison.{comparisonOf, Leaves, Compare
 
 -- ---- two chains
 
-module _ (n : ℕ) (l : n ≤ places) (a b : Model) (c : IsChain places n a) (d : IsChain places n b) (t : Compared) (q : Told a b t) where
+module _ (n : ℕ) (a b : Model) (c : IsChain places n a) (d : IsChain places n b) (t : Compared) (q : Told a b t) where
   pub says-yes : (d₀ : List ℕ) → t ≡ Included → Leaves a b (given (within n a b)) Yes d₀ d₀
   says-yes d₀ e = subst (λ (z : Bool). Leaves a b (given z) Yes d₀ d₀) (told-yes n a b c d t q e) (refl, refl)
 
@@ -49,7 +49,6 @@ module _ (n : ℕ) (l : n ≤ places) (a b : Model) (c : IsChain places n a) (d 
     stepping x h =
         record {
           names = n;
-          few = l;
           chain = c;
           named = best-in (Lower (b .factor)) n a c (x .low) (h .lowest);
           step = apart .0;

@@ -6,14 +6,13 @@ use mathlib.Core.Bool.{Bool, true, false, not}
 use mathlib.Core.List.{List, [], _∷_, _++_}
 use mathlib.Core.Logic.{_⊎_, inl, inr}
 use native.Mathlib.Omega.{arith}
-use native.Mathlib.Decide.{decLt}
 use native.Mathlib.Numerals.{add-one}
 use borrow.Author.Tests.{not-true, not-false}
 use lib.ListN.{getD, set, length-set, length-append}
 use Rattle.nameset.specs.Places.{places}
 use Rattle.model.specs.declared.Model.{Model}
-use Rattle.model.specs.Record.{noFactor, factorOf, IsChain}
-use Rattle.model_language.specs.Word.{Point, start, name, end}
+use Rattle.model.specs.Record.{noFactor, factorOf}
+use Rattle.model_language.specs.Word.{Point, name}
 use Rattle.model_language.specs.Step.{optional, place, Held}
 use Rattle.model_language.proofs.Shown.{step-rises}
 use Rattle.model_inclusion.specs.Over.{needed, lead, tail, wordOver}
@@ -23,7 +22,7 @@ use Rattle.byte_buffer.proofs.Puts.{Left, left-start, left-is, left-put, left-d
 use Rattle.model_places.specs.declared.Spot.{Spot}
 use Rattle.model_places.specs.declared.Spot.the-variants.{Start, Name, End}
 use Rattle.model_places.specs.Places.{point}
-use Rattle.model_counterexample.specs.Word.{nameIn, Small, Stepping, Shown}
+use Rattle.model_counterexample.specs.Word.{nameIn, Stepping, Shown}
 
 -- ---- parts, put one behind the other
 
@@ -79,13 +78,13 @@ rest-done modes names i stop d₀ at whole d to h l =
 -- ---- the names before a point, and those behind it
 
 -- A name of a factor of the record, as the code finds it.
-module _ (m : Model) (u : Spot) (x own : ℕ) (e : u ≡ Name x) (o : own ≡ getD (m .factor) x noFactor) (s : Small m (point u)) where
+module _ (m : Model) (u : Spot) (x own : ℕ) (e : u ≡ Name x) (o : own ≡ getD (m .factor) x noFactor) (s : Held m (point u)) where
   own-is : own ≡ factorOf m x
   unfolding factorOf
   own-is = o
 
-  pub low : (x < places) × (own < m .count)
-  low = let q : Small m (name x) = subst (λ (z : Spot). Small m (point z)) e s in (q .0, omega (arith, own-is, q .1))
+  pub low : own < m .count
+  low = let q : Held m (name x) = subst (λ (z : Spot). Held m (point z)) e s in omega (arith, own-is)
 
   -- the names before it, and itself
   pub lead-put : (names d₀ d : List ℕ) (at : ℕ) → Put d₀ 0 (needed (m .mode) (nameIn names) 0 (own - 0)) at d
@@ -116,23 +115,7 @@ tail-none m rep u d at (inr e) = rw e (put-nothing d at)
 
 -- ---- the whole word
 
--- A point of a step of a chain.
-small : (n : ℕ) (m : Model) → n ≤ places → IsChain places n m → (u : Point) → Held m u → Small m u
-small n m l c start h = tt
-small n m l c end h = tt
-small n m l c (name x) h = go (decLt x n)
-  where
-    go : Dec (x < n) → (x < places) × (factorOf m x < m .count)
-    go (yes q) = (omega arith, h)
-    go (no q) = absurd (omega (arith, c .others x (omega arith), c .few))
-
 module _ (m : Model) (row : List ℕ) (u v : Point) (s : Stepping m row u v) where
-  pub from-small : Small m u
-  from-small = small (s .names) m (s .few) (s .chain) u (s .step .leaves)
-
-  pub to-small : Small m v
-  to-small = small (s .names) m (s .few) (s .chain) v (s .step .meets)
-
   module _ (d₀ d : List ℕ) (at : ℕ) (p : Put d₀ 0 (lead m (nameIn row) u) at d) where
     -- before the step there are no more names than factors
     pub lead-short : at ≤ place m v

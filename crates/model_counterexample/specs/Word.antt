@@ -9,7 +9,7 @@ use Rattle.nameset.specs.Places.{places}
 use Rattle.model.specs.declared.Model.{Model}
 use Rattle.model.specs.Record.{factorOf, IsChain}
 use Rattle.model.specs.Accept.{Accepts}
-use Rattle.model_language.specs.Word.{Point, start, name, end, Shows}
+use Rattle.model_language.specs.Word.{Point, Shows}
 use Rattle.model_language.specs.Step.{Step}
 use Rattle.byte_buffer.specs.Put.{Put}
 
@@ -17,16 +17,9 @@ use Rattle.byte_buffer.specs.Put.{Put}
 unfoldable pub nameIn : List ℕ → ℕ → ℕ
 nameIn row i = getD row i 0
 
--- A point whose name, if it is one, has a place, and is held by a factor of the record.
-abbrev pub Small : Model → Point → Type 0
-Small m start = Unit {0}
-Small m (name x) = (x < places) × (factorOf m x < m .count)
-Small m end = Unit {0}
-
 -- A chain over some names, a row that has a name of each of its factors, and a step of it.
 pub record Stepping (m : Model) (row : List ℕ) (u v : Point) : Type 0 where
   pub names : ℕ
-  pub few : names ≤ places
   pub chain : IsChain places names m
   pub named : (i : ℕ) → i < m .count → factorOf m (nameIn row i) ≡ i
   pub step : Step m u v

@@ -5,10 +5,10 @@ ghost use lib.ListN.{length};
 ghost use Rattle.nameset.specs.Places.{places};
 ghost use Rattle.model_inclusion.specs.Inclusion.{longestCounterexample};
 ghost use Rattle.model_inclusion.specs.Over.{needed, lead, tail};
-ghost use Rattle.model_language.specs.Step.{place};
+ghost use Rattle.model_language.specs.Step.{place, Held};
 ghost use Rattle.model_places.specs.Places.{point};
 ghost use Rattle.byte_buffer.specs.Put.{Put};
-ghost use Rattle.model_counterexample.specs.Word.{nameIn, Small, Stepping, Shown};
+ghost use Rattle.model_counterexample.specs.Word.{nameIn, Stepping, Shown};
 use model::Model;
 use model::NO_FACTOR;
 use model::entry;
@@ -41,15 +41,15 @@ fn put_needed(
 
 // The names up to a point that a step leaves.
 fn put_lead(word: &mut [u8], m: Model, names: &[u8], u: Spot) -> usize
-    requires { ⌜ Small m (point u) × (m .count ≤ places) × (longestCounterexample ≤ length (now word)) ⌝ }
+    requires { ⌜ Held m (point u) × (m .count ≤ places) × (longestCounterexample ≤ length (now word)) ⌝ }
     ensures { λ r. ⌜ Put (now (word .entry)) 0 (lead m (nameIn (now (names .entry))) (point u)) r (now (word .exit)) ⌝ }
 {
     match u {
         Spot::Start => 0,
         Spot::Name(x) => {
-            let own = entry(&m.factor, x, NO_FACTOR) as usize;
+            let own = entry(&m.factor, x as usize, NO_FACTOR) as usize;
             let at = put_needed(word, 0, &m.mode, names, 0, own);
-            word[at] = x as u8;
+            word[at] = x;
             at + 1
         }
         Spot::End => 0,
@@ -58,14 +58,14 @@ fn put_lead(word: &mut [u8], m: Model, names: &[u8], u: Spot) -> usize
 
 // The names from a point on that a step leads to.
 fn put_tail(word: &mut [u8], at: usize, m: Model, names: &[u8], v: Spot) -> usize
-    requires { ⌜ Small m (point v) × (m .count ≤ places) × (at ≤ place m (point v)) × (longestCounterexample ≤ length (now word)) ⌝ }
+    requires { ⌜ Held m (point v) × (m .count ≤ places) × (at ≤ place m (point v)) × (longestCounterexample ≤ length (now word)) ⌝ }
     ensures { λ r. ⌜ Put (now (word .entry)) at (tail m (nameIn (now (names .entry))) (point v)) r (now (word .exit)) ⌝ }
 {
     match v {
         Spot::Start => at,
         Spot::Name(y) => {
-            let own = entry(&m.factor, y, NO_FACTOR) as usize;
-            word[at] = y as u8;
+            let own = entry(&m.factor, y as usize, NO_FACTOR) as usize;
+            word[at] = y;
             put_needed(word, at + 1, &m.mode, names, own + 1, m.count)
         }
         Spot::End => at,

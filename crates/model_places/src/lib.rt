@@ -17,7 +17,7 @@ pub const LEFT: usize = PLACES + 1;
 // A point of a word: its start, a name, its end.
 pub enum Spot {
     Start,
-    Name(usize),
+    Name(u8),
     End,
 }
 
@@ -93,7 +93,7 @@ fn place_of(count: usize, factor: &[u8], u: Spot) -> usize
 {
     match u {
         Spot::Start => 0,
-        Spot::Name(x) => entry(factor, x, NO_FACTOR) as usize + 1,
+        Spot::Name(x) => entry(factor, x as usize, NO_FACTOR) as usize + 1,
         Spot::End => count + 1,
     }
 }

@@ -28,8 +28,8 @@ struct Gap {
 
 // Of the names of a factor of the first, the lowest in the second and the highest.
 struct Span {
-    low: usize,
-    high: usize,
+    low: u8,
+    high: u8,
 }
 
 // A factor is passed, or a step into it is not one of the second.
@@ -64,7 +64,7 @@ fn has_loop(count: usize, factor: &[u8], modes: &[u8], far: &[u8], mode: u8, s: 
 }
 
 // The lowest point behind a factor: if the factor may be left out, the one before it.
-fn low_next(mode: u8, low: Spot, lo: usize) -> Spot
+fn low_next(mode: u8, low: Spot, lo: u8) -> Spot
     ensures { λ r. ⌜ r ≡ lowNext mode low lo ⌝ }
 {
     if is_optional(mode) {
@@ -120,8 +120,8 @@ pub fn find_step<'a>(first: Model, second: Model, low: &'a [u8], high: &'a [u8])
     let mut i = 0;
     while i < first.count {
         let s = Span {
-            low: entry(low, i, 0) as usize,
-            high: entry(high, i, 0) as usize,
+            low: entry(low, i, 0),
+            high: entry(high, i, 0),
         };
         match pass_factor(second.count, &factor, &modes, &far, gap, s, first.mode[i]) {
             Passing::On(next) => {

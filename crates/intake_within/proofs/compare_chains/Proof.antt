@@ -18,14 +18,14 @@ put-word-requires c κs =
     let f = u .before .before in
     let x = f .before .before .before .before .before .before in
     let p = x .before .before .before .before .before .before .before .before .pre in
-    (stepping _ (p .0) _ _ (p .1) (p .2) _ (f .find-step .ensures) _ _ (u .u .given .1) _ (x .extreme-names .ensures), p .3)
+    (stepping _ _ _ (p .1) (p .2) _ (f .find-step .ensures) _ _ (u .u .given .1) _ (x .extreme-names .ensures), p .3)
 
 returns : tie.Need-returns
 returns c =
     let f = c .before .before in
     let x = f .before .before .before .before .before .before in
     let p = x .before .before .before .before .before .before .before .before .pre in
-    says-yes _ (p .0) _ _ (p .1) (p .2) _ (f .find-step .ensures) _ (c .enum-told .given .1)
+    says-yes _ _ _ (p .1) (p .2) _ (f .find-step .ensures) _ (c .enum-told .given .1)
 
 returns-2 : tie.Need-returns-2
 returns-2 c =
@@ -34,7 +34,7 @@ returns-2 c =
     let f = u .before .before in
     let x = f .before .before .before .before .before .before in
     let p = x .before .before .before .before .before .before .before .before .pre in
-    says-no _ (p .0) _ _ (p .1) (p .2) _ (f .find-step .ensures) _ _ (u .u .given .1) _ _ _ (w .put-word .ensures)
+    says-no _ _ _ (p .1) (p .2) _ (f .find-step .ensures) _ _ (u .u .given .1) _ _ _ (w .put-word .ensures)
 
 pub compare-chains-spec : {M : Type 1} → statement M
 compare-chains-spec =

@@ -12,13 +12,12 @@ use Rattle.model_counterexample.proofs.Words.{low, lead-put, lead-none}
 use Rattle.model_counterexample.proofs.put_lead.Statement.{statement}
 use Rattle.model_counterexample.proofs.put_lead.Tie as tie
 
--- The name and its factor are below the number of places.
-below : (c : tie.After-entry) → (c .before .before .before .before .before .u .given .0 .0 < places) × (c .entry .result < places)
+-- The factor of the name is below the number of places.
+below : (c : tie.After-entry) → c .entry .result < places
 below c =
     let u = c .before .before .before .before .before in
     let s = u .before .before .before .before in
-    let q = low (s .args .t2) (s .args .u) (u .u .given .0 .0) (c .entry .result) (u .u .given .1) (c .entry .ensures) (s .pre .0) in
-    (q .0, omega (arith, q .1, s .pre .1))
+    omega (arith, low (s .args .t2) (s .args .u) (u .u .given .0 .0) (c .entry .result) (u .u .given .1) (c .entry .ensures) (s .pre .0), s .pre .1)
 
 -- Before the name there are fewer names than places.
 before : (c : tie.After-put-needed) → c .put-needed .result < places
@@ -31,9 +30,6 @@ put-needed-requires : tie.Need-put-needed-requires
 put-needed-requires c κs =
     let e = c .before .before .before .before in
     omega (arith, below e, e .before .before .before .before .before .before .before .before .before .pre .2)
-
-cast-word : tie.Need-cast-word
-cast-word c = let q = below (c .before .before .before .before .before .before .before) in omega arith
 
 slice-write-word : tie.Need-slice-write-word
 slice-write-word c =
@@ -65,5 +61,5 @@ returns-3 c = lead-none _ _ _ _ (inr (c .enum-told2 .given .1))
 pub put-lead-spec : {M : Type 1} → statement M
 put-lead-spec =
     tie.close
-    (tie.spec (λ c. search needs) (λ c. search needs) (λ c κs. search needs) (λ c. search needs) put-needed-requires
-    cast-word slice-write-word add-result (λ c. search needs) returns same-length returns-2 returns-3)
+    (tie.spec (λ c. search needs) (λ c. search needs) (λ c. search needs) (λ c κs. search needs) (λ c. search needs)
+    put-needed-requires slice-write-word add-result (λ c. search needs) returns same-length returns-2 returns-3)

@@ -6,15 +6,12 @@ use mathlib.Core.Logic.{inl, inr}
 use native.Mathlib.Omega.{arith}
 use lib.ListN.{length-set}
 use borrow.Author.Needs.{needs}
-use Rattle.nameset.specs.Places.{places}
 use Rattle.model_counterexample.proofs.Words.{low, tail-room, tail-put, tail-none}
 use Rattle.model_counterexample.proofs.put_tail.Statement.{statement}
 use Rattle.model_counterexample.proofs.put_tail.Tie as tie
 
--- The name is below the number of places, and its factor is one of the chain.
-below : (c : tie.After-entry) →
-    (c .before .before .before .before .before .v .given .0 .0 < places)
-    × (c .entry .result < c .before .before .before .before .before .before .before .before .before .args .t3 .count)
+-- The factor of the name is one of the chain.
+below : (c : tie.After-entry) → c .entry .result < c .before .before .before .before .before .before .before .before .before .args .t3 .count
 below c =
     let v = c .before .before .before .before .before in
     let s = v .before .before .before .before in
@@ -26,9 +23,6 @@ room c =
     let v = c .before .before .before .before .before in
     let s = v .before .before .before .before in
     tail-room (s .args .t3) (s .args .v) (v .v .given .0 .0) (c .entry .result) (v .v .given .1) (c .entry .ensures) (s .pre .0) (s .args .at) (s .pre .2)
-
-cast-word : tie.Need-cast-word
-cast-word c = let q = below c in omega arith
 
 slice-write-word : tie.Need-slice-write-word
 slice-write-word c =
@@ -65,6 +59,6 @@ returns-3 c = tail-none _ _ _ _ _ (inr (c .enum-told2 .given .1))
 pub put-tail-spec : {M : Type 1} → statement M
 put-tail-spec =
     tie.close
-    (tie.spec (λ c. search needs) (λ c. search needs) (λ c κs. search needs) (λ c. search needs) cast-word
+    (tie.spec (λ c. search needs) (λ c. search needs) (λ c. search needs) (λ c κs. search needs) (λ c. search needs)
     slice-write-word add-put-needed (λ c. search needs) put-needed-requires (λ c. search needs) returns same-length
     returns-2 returns-3)

@@ -2,20 +2,20 @@
 -- Assumes nothing.
 use native.Mathlib.Omega.{arith}
 use borrow.Author.Needs.{needs}
-use Rattle.model_counterexample.proofs.Words.{from-small, to-small, lead-short, word-shown}
+use Rattle.model_counterexample.proofs.Words.{lead-short, word-shown}
 use Rattle.model_counterexample.proofs.put_word.Statement.{statement}
 use Rattle.model_counterexample.proofs.put_word.Tie as tie
 
 put-lead-requires : tie.Need-put-lead-requires
 put-lead-requires c κs =
     let p = c .before .before .before .pre in
-    (from-small _ _ _ _ (p .0), p .0 .chain .few, p .1)
+    (p .0 .step .leaves, p .0 .chain .few, p .1)
 
 put-tail-requires : tie.Need-put-tail-requires
 put-tail-requires c κs =
     let l = c .before .before .before in
     let p = l .before .before .before .before .pre in
-    (to-small _ _ _ _ (p .0), p .0 .chain .few, lead-short _ _ _ _ (p .0) _ _ _ (l .put-lead .ensures), omega (arith, p .1, l .put-lead .ensures .same))
+    (p .0 .step .meets, p .0 .chain .few, lead-short _ _ _ _ (p .0) _ _ _ (l .put-lead .ensures), omega (arith, p .1, l .put-lead .ensures .same))
 
 returns : tie.Need-returns
 returns c =

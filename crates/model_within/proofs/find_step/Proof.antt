@@ -88,7 +88,7 @@ returns-3 c =
 pub find-step-spec : {M : Type 1} → statement M
 find-step-spec =
     tie.close
-    (tie.spec Inv-loop μ-loop (λ c. search needs) far-row-requires loop-holds (λ c κs. search needs) (λ c. search needs)
-    (λ c κs. search needs) (λ c. search needs) (λ c. search needs) (λ c. search needs) (λ c. search needs)
+    (tie.spec Inv-loop μ-loop (λ c. search needs) far-row-requires loop-holds (λ c κs. search needs)
+    (λ c κs. search needs) (λ c. search needs) (λ c. search needs) (λ c. search needs)
     element-copy-out-pass-factor pass-factor-requires (λ c. search needs) (λ c. search needs) returns add-i loop-less
     loop-again (λ c. search needs) (λ c. search needs) (λ c. search needs) has-step-requires returns-2 returns-3)
