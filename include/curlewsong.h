@@ -125,7 +125,7 @@ curlewsong_verdict curlewsong_accepts_word(size_t names, curlewsong_model model,
  * keep their values. On yes all bytes do, and the length is 0. The buffer needs CURLEWSONG_LONGEST_COUNTEREXAMPLE
  * places, also where the answer is yes. Refusals, in this order: 3, 10 (the first model, then the second), 12. */
 curlewsong_inclusion curlewsong_within(size_t names, curlewsong_model first, curlewsong_model second,
-                                       uint8_t *word, size_t word_length);
+                                       uint8_t *buffer, size_t buffer_length);
 
 /* Writes the declaration of the parent with this model to the front of the buffer, in canonical form (paper 01 calls it
  * the house spelling), and answers its length. The bytes behind it keep their values: no line feed and no NUL is

@@ -11,7 +11,7 @@ use Rattle.declaration_reading.specs.declared.Declaration.{Declaration}
 use Rattle.intake_word.specs.declared.Acceptance.{Acceptance}
 use Rattle.intake_word.specs.declared.Acceptance.the-variants.{Yes, No, Refused}
 use Rattle.intake_within.specs.declared.Inclusion.{Inclusion}
-use Rattle.intake_within.specs.declared.Inclusion.the-variants as Included
+use Rattle.intake_within.specs.declared.Inclusion.the-variants as Case
 use Rattle.intake_sample.specs.declared.Inferred.{Inferred}
 use Rattle.intake_word.specs.Acceptance.{acceptanceNumber, acceptanceYes}
 use Rattle.intake_within.specs.Comparison.{inclusionNumber, inclusionYes, inclusionLength}
@@ -33,15 +33,15 @@ verdict-refused x f n e k = rw (e, k)
 
 -- ---- a comparison for each case
 
-pub included-yes : (x : Inclusion) → x ≡ Included.Yes → record { refusal = 0; yes = true; length = 0 } ≡ inclusionReply x
+pub included-yes : (x : Inclusion) → x ≡ Case.Yes → record { refusal = 0; yes = true; length = 0 } ≡ inclusionReply x
 unfolding inclusionReply inclusionNumber inclusionYes inclusionLength
 included-yes x e = rw e
 
-pub included-no : (x : Inclusion) (l : ℕ) → x ≡ Included.No l → record { refusal = 0; yes = false; length = l } ≡ inclusionReply x
+pub included-no : (x : Inclusion) (l : ℕ) → x ≡ Case.No l → record { refusal = 0; yes = false; length = l } ≡ inclusionReply x
 unfolding inclusionReply inclusionNumber inclusionYes inclusionLength
 included-no x l e = rw e
 
-pub included-refused : (x : Inclusion) (f : Refusal) (n : ℕ) → x ≡ Included.Refused f → n ≡ numberOf f → record { refusal = n; yes = false; length = 0 } ≡ inclusionReply x
+pub included-refused : (x : Inclusion) (f : Refusal) (n : ℕ) → x ≡ Case.Refused f → n ≡ numberOf f → record { refusal = n; yes = false; length = 0 } ≡ inclusionReply x
 unfolding inclusionReply inclusionNumber inclusionYes inclusionLength
 included-refused x f n e k = rw (e, k)
 

@@ -1,6 +1,6 @@
 -- The three demands, over the seven calls open to the outside, the same calls for C, and the program; then requests U2
--- and U4 of paper 02. Each statement begins with `pub`; what follows, from `unfolding` or the repeated name on, is its proof: skip
--- it. Quotes are from the demands, which call paper 01 "document 01", and from the papers.
+-- and U4 of paper 02. Each statement begins with `pub`; what follows, from `unfolding` or the repeated name on, is its
+-- proof: skip it. Quotes are from the demands, which call paper 01 "document 01", and from the papers.
 -- In a quarter of an hour: `no-better-model` with specs/Results, the names that end in `-refusals` with
 -- specs/Conditions, those that end in `-kept`, then demand 2. The part for C repeats them for replies in C.
 -- A theorem about an answer assumes one thing of it, `call`: the answer is as the call's contract (`ensures`) promises.
@@ -34,7 +34,7 @@ use Rattle.model_language.specs.Word.{Point, name, end, Fact}
 use Rattle.model_language.specs.Reach.{Reach}
 use Rattle.model_inclusion.specs.Inclusion.{Within, Counterexample, longestCounterexample}
 use Rattle.model_inclusion.specs.Search as Search
-use Rattle.model_inclusion.proofs.Search as Included
+use Rattle.model_inclusion.proofs.Search as Inclusion-law
 use Rattle.follow.specs.Follow.{Follow, followOf, steps}
 use Rattle.follow.specs.Sample.{wordsOf, SameWords}
 use Rattle.follow_table.specs.Table.{tabled, Keeps}
@@ -389,7 +389,7 @@ dtd-from-facts bytes b taken = dtd-by-facts bytes b (taken-law bytes b .0 taken)
 -- ==== paper 02, request U4
 
 -- "Say yes exactly when every word that the first accepts is accepted by the second", whatever its length; and no
--- exactly when that is not so. A call that is stopped says neither.
+-- exactly when that is not so. A refused call answers no as well; `within-not` is about calls that were not refused.
 pub within-exactly : (n : ℕ) (first second : Model) (r : Inclusion) (before after : List ℕ)
     (call : ComparesModels n first second r before after) →
     (inclusionYes r ≡ true) ↔ (PassesBoth n first second (length before) × Within first second)
@@ -401,11 +401,11 @@ pub within-not : (n : ℕ) (first second : Model) (r : Inclusion) (before after 
     (PassesBoth n first second (length before) × (¬ Within first second))
 within-not = Compare.no-exactly
 
--- "On yes all bytes" are kept, and "on yes the length is 0".
-pub within-yes-kept : (n : ℕ) (first second : Model) (r : Inclusion) (before after : List ℕ)
+-- "Bytes past it, and on yes all bytes, are kept; on yes the length is 0": what is kept on yes.
+pub within-yes : (n : ℕ) (first second : Model) (r : Inclusion) (before after : List ℕ)
     (call : ComparesModels n first second r before after) →
     inclusionYes r ≡ true → (inclusionLength r ≡ 0) × (after ≡ before)
-within-yes-kept = Compare.yes-keeps
+within-yes = Compare.yes-keeps
 
 -- "On no, hand over one word of at most 65 names that the first accepts and the second doesn't, in a lent buffer, and
 -- its length": the word is at the front of the buffer, its numbers are below N, and the bytes past it are kept.
@@ -419,7 +419,7 @@ within-word = Text.word-written
 -- The yes or no without a buffer, for later requests: `is_within` of crates/model_within computes `within`.
 pub within-law : (n : ℕ) (first second : Model) → IsChain places n first → IsChain places n second →
     (Search.within n first second ≡ true) ↔ Within first second
-within-law n first second c d = Included.within-law places n first second c d (omega arith)
+within-law n first second c d = Inclusion-law.within-law places n first second c d (omega arith)
 
 -- ==== the calls for C and Rust
 
@@ -453,7 +453,7 @@ c-within n first second r before after (x, call, e) =
       within-refusals n first second x before after call,
       within-kept n first second x before after call,
       within-exactly n first second x before after call,
-      within-yes-kept n first second x before after call,
+      within-yes n first second x before after call,
       within-word n first second x before after call,
     )
 

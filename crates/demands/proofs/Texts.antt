@@ -1,5 +1,5 @@
--- The calls that write: what a refused call leaves, what is in the buffer after one that was not, and that a declaration
--- reads back.
+-- The calls that write: what a refused call leaves, what is in the buffer after one that was not, and that a
+-- declaration reads back.
 -- Assumes nothing.
 use Prim.Native.Nat.{ℕ, _≤_, _<_}
 use mathlib.Core.Path.{_≡_, refl, sym, _∙_, ap, subst}

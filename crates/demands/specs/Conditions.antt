@@ -67,7 +67,8 @@ pub record WordConditions (n : ℕ) (m : Model) (w : List ℕ) (k : ℕ) : Type 
 -- The comparison of two models over n names, with a buffer of `room` places (request U4 of paper 02).
 pub record WithinConditions (n : ℕ) (first second : Model) (room : ℕ) (k : ℕ) : Type 0 where
   pub three : (k ≡ 3) ↔ OutOfRange n
-  -- "10 for the first record, then 10 for the second"
+  -- "10 for the first record, then 10 for the second": one number for both, so it does not tell which one was seen
+  -- first
   pub ten : (k ≡ 10) ↔ (InRange n × ((¬ IsChain places n first) ⊎ (¬ IsChain places n second)))
   -- "12 if the buffer has fewer than 65 places, even when the answer is yes"
   pub twelve : (k ≡ 12) ↔ (InRange n × (IsChain places n first × (IsChain places n second × (room < longestCounterexample))))

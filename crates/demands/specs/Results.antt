@@ -14,8 +14,9 @@ use Rattle.model_language.specs.Word.{AcceptsAll}
 use Rattle.intake_sample.specs.declared.Inferred.{Inferred}
 use Rattle.intake_sample.specs.Inference.{sampleOf, InfersModel}
 
--- The text is at the front of the buffer: a declaration in canonical form (paper 01's house spelling), or a whole DTD.
--- Its length was answered, and the bytes behind it are those that the buffer held before.
+-- The text is at the front of the buffer: a declaration in canonical form (paper 01's house spelling), a whole DTD, or
+-- a word as the numbers of its names. Its length was answered, and the bytes behind it are those that the buffer held
+-- before.
 pub record Wrote (text : List ℕ) (answered : ℕ) (before after : List ℕ) : Type 0 where
   pub size : answered ≡ length text
   pub front : take answered after ≡ text

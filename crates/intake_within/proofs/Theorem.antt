@@ -20,7 +20,7 @@ use Rattle.model.specs.Check.{isChain}
 use Rattle.model.proofs.Chain.{chain-law}
 use Rattle.model_inclusion.specs.Inclusion.{Within, longestCounterexample}
 use Rattle.model_inclusion.specs.Search.{within}
-use Rattle.model_inclusion.proofs.Search.{within-law}
+use Rattle.model_inclusion.proofs.Search.{within-law, not-within}
 use Rattle.intake_within.specs.declared.Inclusion.{Inclusion}
 use Rattle.intake_within.specs.Comparison.{comparisonOf, inclusionNumber, inclusionYes, inclusionLength, PassesBoth, WordWritten, Leaves, ComparesModels}
 
@@ -97,7 +97,7 @@ module _ (n : ℕ) (first second : Model) (r : Inclusion) (before after : List �
       from : PassesBoth n first second (length before) × Within first second → inclusionYes r ≡ true
       from (p, w) = ap inclusionYes (leaves (given true) (passes-given n first second (length before) p ∙ ap given (pass-within n first second (length before) p .1 w)) .0)
 
-  -- "On yes all bytes are kept; on yes the length is 0."
+  -- On yes the length is 0, and all bytes are kept.
   pub yes-keeps : inclusionYes r ≡ true → (inclusionLength r ≡ 0) × (after ≡ before)
   unfolding inclusionYes inclusionLength
   yes-keeps e = go (comparisonOf n first second (length before)) (call .leaves)
@@ -125,7 +125,7 @@ module _ (n : ℕ) (first second : Model) (r : Inclusion) (before after : List �
       to : inclusionNumber r ≡ 0 → inclusionYes r ≡ false → (x : Answer Bool) → comparisonOf n first second (length before) ≡ x → Leaves first second x r before after
           → PassesBoth n first second (length before) × (¬ Within first second)
       to z e (given true) q h = absurd (false≢true (sym e ∙ ap inclusionYes (h .0)))
-      to z e (given false) q (l, k, w) = (given-passes n first second (length before) false q .0, λ f. w .example .not-accepted (f (w .word) (w .example .accepted)))
+      to z e (given false) q (l, k, w) = (given-passes n first second (length before) false q .0, not-within first second (w .word) (w .example))
       to z e (refused f) q h = absurd (let p : 0 < answerNumber {A = Bool} (refused f) = number-positive f in omega (arith, ap inclusionNumber (h .0)))
 
       from : PassesBoth n first second (length before) → ¬ Within first second → (b : Bool) → within n first second ≡ b → (inclusionNumber r ≡ 0) × (inclusionYes r ≡ false)

@@ -27,7 +27,8 @@ pub enum Inclusion {
 // The most names that the word has, and the places that the buffer needs.
 const LONGEST: usize = PLACES + 1;
 
-// Whether a record is a chain. Its two rows are copied here, once for the call.
+// Whether a record is a chain. Its two rows are copied here, once for each record; without the copies a call over up
+// to 24 names takes longer.
 fn is_chain(names: usize, m: Model) -> bool
     ensures { λ r. ⌜ r ≡ isChain places names m ⌝ }
 {

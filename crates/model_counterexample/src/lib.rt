@@ -15,7 +15,8 @@ use model::entry;
 use model_places::Spot;
 use model_places::is_optional;
 
-// A name of each of the factors from `first` up to `end` that may not be left out.
+// Puts a name of each of the factors from `first` up to `end` that may not be left out, from place `at` on. Answers the
+// place behind them.
 fn put_needed(
     word: &mut [u8],
     at: usize,
@@ -39,7 +40,7 @@ fn put_needed(
     to
 }
 
-// The names up to a point that a step leaves.
+// Puts the names up to a point that a step leaves, and answers how many they are.
 fn put_lead(word: &mut [u8], m: Model, names: &[u8], u: Spot) -> usize
     requires { ⌜ Held m (point u) × (m .count ≤ places) × (longestCounterexample ≤ length (now word)) ⌝ }
     ensures { λ r. ⌜ Put (now (word .entry)) 0 (lead m (nameIn (now (names .entry))) (point u)) r (now (word .exit)) ⌝ }
@@ -56,7 +57,7 @@ fn put_lead(word: &mut [u8], m: Model, names: &[u8], u: Spot) -> usize
     }
 }
 
-// The names from a point on that a step leads to.
+// Puts the names from a point on that a step leads to, from place `at` on. Answers the place behind them.
 fn put_tail(word: &mut [u8], at: usize, m: Model, names: &[u8], v: Spot) -> usize
     requires { ⌜ Held m (point v) × (m .count ≤ places) × (at ≤ place m (point v)) × (longestCounterexample ≤ length (now word)) ⌝ }
     ensures { λ r. ⌜ Put (now (word .entry)) at (tail m (nameIn (now (names .entry))) (point v)) r (now (word .exit)) ⌝ }
@@ -72,7 +73,7 @@ fn put_tail(word: &mut [u8], at: usize, m: Model, names: &[u8], v: Spot) -> usiz
     }
 }
 
-// A word of the chain that has the step from u to v.
+// Puts a word of the chain that has the step from u to v, and answers its length.
 pub fn put_word(word: &mut [u8], m: Model, names: &[u8], u: Spot, v: Spot) -> usize
     requires { ⌜ Stepping m (now names) (point u) (point v) × (longestCounterexample ≤ length (now word)) ⌝ }
     ensures { λ r. ⌜ Shown m (point u) (point v) (now (word .entry)) r (now (word .exit)) ⌝ }

@@ -22,13 +22,14 @@ Lower factors a b = getD factors a noFactor ≤ getD factors b noFactor
 abbrev pub Higher : List ℕ → ℕ → ℕ → Type 0
 Higher factors a b = getD factors b noFactor ≤ getD factors a noFactor
 
--- Of the name before, if there is one, and the name x, r is the one that R prefers.
+-- r is the name before, if there is one, or the name x, and R holds of r and each of them.
 pub record Chosen (R : ℕ → ℕ → Type 0) (before x r : ℕ) : Type 0 where
   pub one : (r ≡ x) ⊎ ((r ≡ before) × (before ≡ noName → ⊥))
   pub new : R r x
   pub old : (before ≡ noName → ⊥) → R r before
 
--- For each factor that holds one of the first n names, the row has the name of that factor that R prefers.
+-- For each factor that holds one of the first n names, the row has a name of that factor, and R holds of it and each of
+-- the first n names that the factor holds.
 pub record Best (R : ℕ → ℕ → Type 0) (factors : List ℕ) (n : ℕ) (row : List ℕ) : Type 0 where
   pub size : length row ≡ places
   pub own : (i : ℕ) → i < places → (getD row i 0 ≡ noName) ⊎ (getD factors (getD row i 0) noFactor ≡ i)

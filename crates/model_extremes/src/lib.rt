@@ -1,5 +1,5 @@
-// Of the names of each factor of one record, the one that is lowest in another record, and the one that is highest
-// there. A name is lower than another if its factor comes first; a name that no factor holds is the highest.
+// Of the names of each factor of one record, one that is lowest in another record, and one that is highest there. A
+// name is lower than another if its factor comes earlier; a name that no factor holds is above all others.
 ghost use Prim.Native.Nat.{_≤_};
 ghost use Rattle.nameset.specs.Places.{places};
 ghost use Rattle.model_extremes.specs.Extremes.{Lower, Higher, Chosen, AreExtremes};
@@ -10,7 +10,7 @@ use nameset::PLACES;
 // In a row: a factor of which no name was seen.
 const NO_NAME: u8 = 255;
 
-// For each factor its lowest name and its highest.
+// For each factor one of its lowest names and one of its highest.
 pub struct Extremes {
     pub low: [u8; PLACES],
     pub high: [u8; PLACES],

@@ -1,6 +1,6 @@
 -- The steps of m compared with those of k in one pass over m's factors. Of the points that a step of m to factor i may
--- leave, two are kept: the one that is lowest in k and the one that is highest. Of the names of factor i two are looked
--- at, in the same way. If k has the steps between these, it has all steps of m into that factor.
+-- leave, two are kept: the one that is lowest in k and the one that is highest. Of the names of factor i two
+-- are looked at, in the same way. If k has the steps between these, it has all steps of m into that factor.
 -- Assumes nothing.
 use Prim.Native.Nat.{ℕ, suc, _≤_, _<_}
 use mathlib.Core.Path.{_≡_, refl, sym, _∙_}
@@ -178,8 +178,8 @@ module _ (m k : Model) (i : ℕ) (low high : Point) (lo hi : ℕ) (l : i < m .co
         }
 
     -- it may not
-    pub passed-solid : optional (modeOf m i) ≡ false → Passed m k (suc i) (name lo) (name hi)
-    passed-solid e =
+    pub passed-required : optional (modeOf m i) ≡ false → Passed m k (suc i) (name lo) (name hi)
+    passed-required e =
         let h = n .hi-in in
         let g = n .lo-in in
         record {

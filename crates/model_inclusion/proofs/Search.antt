@@ -16,8 +16,8 @@ use Rattle.model.proofs.Acceptance.{accepts-law}
 use Rattle.model_language.specs.Word.{Point}
 use Rattle.model_language.specs.Step.{Step, Includes}
 use Rattle.model_language.proofs.Theorem.{words-steps, words-decided}
-use Rattle.model_inclusion.specs.Inclusion.{Within}
-use Rattle.model_inclusion.specs.Search.{everyWord, kept, within}
+use Rattle.model_inclusion.specs.Inclusion.{Within, Counterexample}
+use Rattle.model_inclusion.specs.Search.{everyWord, acceptedToo, within}
 
 every-law : (n l : ℕ) (test : List ℕ → Bool) → (everyWord n l test ≡ true) ↔ ((w : List ℕ) → length w ≡ l → Names n w → test w ≡ true)
 unfolding everyWord
@@ -44,9 +44,9 @@ implies-law : (a b : Bool) → ((not a || b) ≡ true) ↔ (a ≡ true → b ≡
 implies-law true b = (λ e q. e, λ f. f refl)
 implies-law false b = (λ e q. absurd (false≢true q), λ f. refl)
 
-kept-law : (m k : Model) (w : List ℕ) → (kept m k w ≡ true) ↔ (Accepts m w → Accepts k w)
-unfolding kept
-kept-law m k w =
+accepted-law : (m k : Model) (w : List ℕ) → (acceptedToo m k w ≡ true) ↔ (Accepts m w → Accepts k w)
+unfolding acceptedToo
+accepted-law m k w =
     let a = implies-law (accepts m w) (accepts k w) in
     (λ e p. accepts-law k w .0 (a .0 e (accepts-law m w .1 p)), λ f. a .1 (λ e. accepts-law k w .1 (f (accepts-law m w .0 e))))
 
@@ -56,10 +56,14 @@ kept-law m k w =
 short-law : (n : ℕ) (m k : Model) → (within n m k ≡ true) ↔ ((w : List ℕ) → length w ≤ m .count + 1 → Names n w → Accepts m w → Accepts k w)
 unfolding within
 short-law n m k =
-    let a = all-law (m .count + 2) (λ l. everyWord n l (kept m k)) in (
-      λ e w h q. kept-law m k w .0 (every-law n (length w) (kept m k) .0 (a .0 e (length w) (omega arith)) w refl q),
-      λ f. a .1 (λ l h. every-law n l (kept m k) .1 (λ w g q. kept-law m k w .1 (f w (omega arith) q))),
+    let a = all-law (m .count + 2) (λ l. everyWord n l (acceptedToo m k)) in (
+      λ e w h q. accepted-law m k w .0 (every-law n (length w) (acceptedToo m k) .0 (a .0 e (length w) (omega arith)) w refl q),
+      λ f. a .1 (λ l h. every-law n l (acceptedToo m k) .1 (λ w g q. accepted-law m k w .1 (f w (omega arith) q))),
     )
+
+-- A model with a counterexample is not within the other.
+pub not-within : (m k : Model) (w : List ℕ) → Counterexample m k w → ¬ Within m k
+not-within m k w c f = c .not-accepted (f w (c .accepted))
 
 -- Two chains over the same n names.
 module _ (size n : ℕ) (m k : Model) (c : IsChain size n m) (d : IsChain size n k) (small : size ≤ noFactor) where

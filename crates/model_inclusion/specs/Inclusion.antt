@@ -15,6 +15,7 @@ pub record Counterexample (m k : Model) (w : List ℕ) : Type 0 where
   pub accepted : Accepts m w
   pub not-accepted : Accepts k w → ⊥
 
--- "at most 65 names": so many that a word over N names may need, and the places of the buffer that it goes into.
+-- "at most 65 names": over at most 64 names some counterexample has no more than this, and the buffer that it is put
+-- into has to have so many places.
 abbrev pub longestCounterexample : ℕ
 longestCounterexample = places + 1

@@ -14,10 +14,10 @@ everyWord n zero test = test []
 everyWord n (suc l) test = everyBelow n (λ x. everyWord n l (λ w. test (x ∷ w)))
 
 -- Whether k accepts the word, if m does.
-unfoldable pub kept : Model → Model → List ℕ → Bool
-kept m k w = not (accepts m w) || accepts k w
+unfoldable pub acceptedToo : Model → Model → List ℕ → Bool
+acceptedToo m k w = not (accepts m w) || accepts k w
 
--- Whether k accepts every word of at most F + 1 of the n names that m accepts. If both are chains over these names,
--- that is every word of m.
+-- Whether k accepts every word over the n names, of length at most F + 1, that m accepts. If both are chains over these
+-- names, that is every word of m.
 unfoldable pub within : ℕ → Model → Model → Bool
-within n m k = everyBelow (m .count + 2) (λ l. everyWord n l (kept m k))
+within n m k = everyBelow (m .count + 2) (λ l. everyWord n l (acceptedToo m k))

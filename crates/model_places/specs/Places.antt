@@ -40,7 +40,8 @@ pub record FarRow (count : ℕ) (modes row : List ℕ) : Type 0 where
   pub size : length row ≡ suc places
   pub far : (p : ℕ) → p ≤ count → getD row p 0 ≡ farthest count modes p
 
--- Whether the record m has the step from u to v: u is not the end, and v is from the nearest to the farthest place.
+-- Whether the record m has the step from u to v: u is the start or a name that a factor holds, and v is from the
+-- nearest to the farthest place that a step from u leads to.
 unfoldable pub hasStep : Model → Point → Point → Bool
 hasStep m u v =
     leb (place m u) (m .count)

@@ -11,7 +11,7 @@ use Rattle.model_language.specs.Step.{repeats}
 use Rattle.model_places.specs.declared.Spot.{Spot}
 use Rattle.model_places.specs.declared.Spot.the-variants.{Name}
 use Rattle.model_places.specs.Places.{point, hasStep}
-use Rattle.model_within.specs.declared.Gap.{Gap}
+use Rattle.model_within.specs.declared.Frontier.{Frontier}
 use Rattle.model_within.specs.declared.Span.{Span}
 use Rattle.model_within.specs.declared.Passing.the-variants.{On, Stuck}
 use Rattle.model_within.specs.Pass.{lowNext, PassedBy}
@@ -34,7 +34,7 @@ loop-off false b e = absurd (false≢true (sym e))
 
 -- ---- past a factor
 
-module _ (k : Model) (g : Gap) (s : Span) (mode : ℕ) where
+module _ (k : Model) (g : Frontier) (s : Span) (mode : ℕ) where
   pub stuck-low : {b : Bool} → b ≡ hasStep k (point (g .low)) (name (s .high)) → not b ≡ true → PassedBy k g s mode (Stuck (g .low) (Name (s .high)))
   stuck-low {b} t e = (sym t ∙ not-true b e, inl (refl, refl))
 

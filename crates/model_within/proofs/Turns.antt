@@ -16,7 +16,7 @@ use Rattle.model_language.specs.Step.{optional, repeats, Step}
 use Rattle.model_inclusion.specs.Search.{within}
 use Rattle.model_inclusion.specs.Spans.{Spans}
 use Rattle.model_inclusion.proofs.Search.{steps-in, steps-out}
-use Rattle.model_inclusion.proofs.Pass.{Passed, step-low, step-high, step-loop, passed-optional, passed-solid, step-last, passed-all}
+use Rattle.model_inclusion.proofs.Pass.{Passed, step-low, step-high, step-loop, passed-optional, passed-required, step-last, passed-all}
 use Rattle.model_places.specs.declared.Spot.{Spot}
 use Rattle.model_places.specs.declared.Spot.the-variants.{Name, End}
 use Rattle.model_places.specs.Places.{point, hasStep}
@@ -24,7 +24,7 @@ use Rattle.model_places.proofs.Steps.{step-law, no-step}
 use Rattle.model_extremes.specs.declared.Extremes.{Extremes}
 use Rattle.model_extremes.specs.Extremes.{AreExtremes}
 use Rattle.model_extremes.proofs.Rows.{extremes-law}
-use Rattle.model_within.specs.declared.Gap.{Gap}
+use Rattle.model_within.specs.declared.Frontier.{Frontier}
 use Rattle.model_within.specs.declared.Span.{Span}
 use Rattle.model_within.specs.declared.Passing.{Passing}
 use Rattle.model_within.specs.declared.Passing.the-variants.{On, Stuck}
@@ -50,8 +50,8 @@ module _ (m k : Model) (low high : List ℕ) (h : Comparable m k low high) where
     spans : Spans m k i (s .low) (s .high)
     spans = rw (lo, hi) (h .spans i l)
 
-    module _ (mode : ℕ) (e : mode ≡ getD (m .mode) i 0) (g : Gap) (p : Passed m k i (point (g .low)) (point (g .high))) (r : Passing) (q : PassedBy k g s mode r) where
-      pub turn-on : (next : Gap) → r ≡ On next → Passed m k (i + 1) (point (next .low)) (point (next .high))
+    module _ (mode : ℕ) (e : mode ≡ getD (m .mode) i 0) (g : Frontier) (p : Passed m k i (point (g .low)) (point (g .high))) (r : Passing) (q : PassedBy k g s mode r) where
+      pub turn-on : (next : Frontier) → r ≡ On next → Passed m k (i + 1) (point (next .low)) (point (next .high))
       unfolding modeOf lowNext
       turn-on next z = go (subst (λ (t : Passing). PassedBy k g s mode t) z q)
         where
@@ -73,7 +73,7 @@ module _ (m k : Model) (low high : List ℕ) (h : Comparable m k low high) where
                   rw (y, d, add-one) (passed-optional m k i (point (g .low)) (point (g .high)) (s .low) (s .high) l p spans first second loop o)
               at false o =
                   let y : next .low ≡ Name (s .low) = c ∙ rw (e, o) in
-                  rw (y, d, add-one) (passed-solid m k i (point (g .low)) (point (g .high)) (s .low) (s .high) l p spans first second loop o)
+                  rw (y, d, add-one) (passed-required m k i (point (g .low)) (point (g .high)) (s .low) (s .high) l p spans first second loop o)
 
       pub turn-stuck : (u v : Spot) → r ≡ Stuck u v → Told m k (Apart u v)
       unfolding modeOf
@@ -87,7 +87,7 @@ module _ (m k : Model) (low high : List ℕ) (h : Comparable m k low high) where
 
   -- ---- the end of the pass
 
-  module _ (i : ℕ) (g : Gap) (p : Passed m k i (point (g .low)) (point (g .high))) (l : i ≤ m .count) (o : m .count ≤ i) where
+  module _ (i : ℕ) (g : Frontier) (p : Passed m k i (point (g .low)) (point (g .high))) (l : i ≤ m .count) (o : m .count ≤ i) where
     whole : Passed m k (m .count) (point (g .low)) (point (g .high))
     whole = let e : i ≡ m .count = omega arith in subst (λ (z : ℕ). Passed m k z (point (g .low)) (point (g .high))) e p
 

@@ -16,7 +16,7 @@ use Rattle.model_inclusion.specs.Spans.{Spans}
 use Rattle.model_places.specs.declared.Spot.{Spot}
 use Rattle.model_places.specs.declared.Spot.the-variants.{Name}
 use Rattle.model_places.specs.Places.{point, hasStep}
-use Rattle.model_within.specs.declared.Gap.{Gap}
+use Rattle.model_within.specs.declared.Frontier.{Frontier}
 use Rattle.model_within.specs.declared.Span.{Span}
 use Rattle.model_within.specs.declared.Passing.{Passing}
 use Rattle.model_within.specs.declared.Passing.the-variants.{On, Stuck}
@@ -34,9 +34,9 @@ pub record Comparable (m k : Model) (low high : List ℕ) : Type 0 where
 unfoldable pub lowNext : ℕ → Spot → ℕ → Spot
 lowNext mode low lo = cond (optional mode) low (Name lo)
 
--- k has the three steps into a factor of this mode that are asked for, and n is the gap behind it; or it does not have
--- the step from u to v, which is one of the three.
-abbrev pub PassedBy : Model → Gap → Span → ℕ → Passing → Type 0
+-- k has the three steps into a factor of this mode that are asked for, and n is the frontier behind it; or it does not
+-- have the step from u to v, which is one of the three.
+abbrev pub PassedBy : Model → Frontier → Span → ℕ → Passing → Type 0
 PassedBy k g s mode (On n) =
     (hasStep k (point (g .low)) (name (s .high)) ≡ true) × (hasStep k (point (g .high)) (name (s .low)) ≡ true)
     × (repeats mode ≡ true → hasStep k (name (s .high)) (name (s .low)) ≡ true)

@@ -21,7 +21,7 @@ use model_places::is_optional;
 use model_places::is_repeated;
 
 // Of the points that a step of the first to the next factor may leave, the lowest in the second and the highest.
-struct Gap {
+struct Frontier {
     low: Spot,
     high: Spot,
 }
@@ -34,7 +34,7 @@ struct Span {
 
 // A factor is passed, or a step into it is not one of the second.
 enum Passing {
-    On(Gap),
+    On(Frontier),
     Stuck(Spot, Spot),
 }
 
@@ -80,7 +80,7 @@ fn pass_factor(
     factor: &[u8],
     modes: &[u8],
     far: &[u8],
-    g: Gap,
+    g: Frontier,
     s: Span,
     mode: u8,
 ) -> Passing
@@ -98,7 +98,7 @@ fn pass_factor(
     if !has_loop(count, factor, modes, far, mode, s) {
         return Passing::Stuck(Spot::Name(s.high), Spot::Name(s.low));
     }
-    Passing::On(Gap {
+    Passing::On(Frontier {
         low: low_next(mode, low, s.low),
         high: Spot::Name(s.high),
     })
@@ -113,7 +113,7 @@ pub fn find_step<'a>(first: Model, second: Model, low: &'a [u8], high: &'a [u8])
     let factor = second.factor;
     let modes = second.mode;
     let far = far_row(second.count, &modes);
-    let mut gap = Gap {
+    let mut frontier = Frontier {
         low: Spot::Start,
         high: Spot::Start,
     };
@@ -123,9 +123,17 @@ pub fn find_step<'a>(first: Model, second: Model, low: &'a [u8], high: &'a [u8])
             low: entry(low, i, 0),
             high: entry(high, i, 0),
         };
-        match pass_factor(second.count, &factor, &modes, &far, gap, s, first.mode[i]) {
+        match pass_factor(
+            second.count,
+            &factor,
+            &modes,
+            &far,
+            frontier,
+            s,
+            first.mode[i],
+        ) {
             Passing::On(next) => {
-                gap = next;
+                frontier = next;
             }
             Passing::Stuck(u, v) => {
                 return Compared::Apart(u, v);
@@ -133,7 +141,7 @@ pub fn find_step<'a>(first: Model, second: Model, low: &'a [u8], high: &'a [u8])
         }
         i += 1;
     }
-    let last = gap.low;
+    let last = frontier.low;
     if has_step(second.count, &factor, &modes, &far, last, Spot::End) {
         Compared::Included
     } else {

@@ -76,6 +76,19 @@ impl Calls for Second {
     }
 }
 
+/// The bytes on each side of a buffer that is lent. No call may change them.
+const GUARD: [u8; 64] = [0x5a; 64];
+
+/// What a call answers that is lent these bytes, and what they are then. Where the call changed a byte beside them, all are given
+/// back, so that no answer agrees.
+fn lent<T>(buffer: &[u8], call: impl FnOnce(&mut [u8]) -> T) -> (T, Vec<u8>) {
+    let mut all = [&GUARD[..], buffer, &GUARD[..]].concat();
+    let inside = GUARD.len()..GUARD.len() + buffer.len();
+    let answer = call(&mut all[inside.clone()]);
+    let kept = all[..inside.start] == GUARD && all[inside.end..] == GUARD;
+    (answer, if kept { all[inside].to_vec() } else { all })
+}
+
 /// One call with all that it is given.
 #[derive(Clone)]
 pub enum Call {
@@ -117,23 +130,19 @@ impl Call {
                 Answer::Verdict(number, yes)
             }
             Call::Within { names, first, second, buffer } => {
-                let mut after = buffer.clone();
-                let (number, yes, length) = calls.within(*names, first, second, &mut after);
+                let ((number, yes, length), after) = lent(buffer, |bytes| calls.within(*names, first, second, bytes));
                 Answer::Inclusion(number, yes, length, after)
             }
             Call::WriteDeclaration { book, parent, record, buffer } => {
-                let mut after = buffer.clone();
-                let (number, length) = calls.write_declaration(book, *parent, record, &mut after);
+                let ((number, length), after) = lent(buffer, |bytes| calls.write_declaration(book, *parent, record, bytes));
                 Answer::Written(number, length, after)
             }
             Call::WriteFromSample { book, parent, buffer } => {
-                let mut after = buffer.clone();
-                let (number, length) = calls.write_from_sample(book, *parent, &mut after);
+                let ((number, length), after) = lent(buffer, |bytes| calls.write_from_sample(book, *parent, bytes));
                 Answer::Written(number, length, after)
             }
             Call::WriteDtd { book, buffer } => {
-                let mut after = buffer.clone();
-                let (number, length) = calls.write_dtd(book, &mut after);
+                let ((number, length), after) = lent(buffer, |bytes| calls.write_dtd(book, bytes));
                 Answer::Written(number, length, after)
             }
             Call::ReadDeclaration { book, text } => {

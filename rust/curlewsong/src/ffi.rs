@@ -52,7 +52,7 @@ pub struct Read {
 extern "C" {
     pub fn curlewsong_model_of_parent(book: *const u8, book_length: usize, parent: usize) -> ModelAnswer;
     pub fn curlewsong_accepts_word(names: usize, model: Model, word: *const u8, word_length: usize) -> Verdict;
-    pub fn curlewsong_within(names: usize, first: Model, second: Model, word: *mut u8, word_length: usize) -> Inclusion;
+    pub fn curlewsong_within(names: usize, first: Model, second: Model, buffer: *mut u8, buffer_length: usize) -> Inclusion;
     pub fn curlewsong_write_declaration(
         book: *const u8,
         book_length: usize,

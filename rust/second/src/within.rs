@@ -1,6 +1,6 @@
 //! Whether every word that one chain accepts is accepted by another. The two read all words together, name by name, and a pair of
-//! places that they have been at before is not followed again. Such pairs are few, so the search ends, and it decides words of
-//! any length.
+//! places that they have been at before is not followed again. There are finitely many such pairs, so the search ends, and it
+//! decides words of any length.
 
 use crate::record::Record;
 use std::collections::{BTreeSet, VecDeque};

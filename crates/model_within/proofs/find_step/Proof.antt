@@ -11,10 +11,10 @@ use Rattle.model_within.proofs.find_step.Statement.{statement}
 use Rattle.model_within.proofs.find_step.Tie as tie
 
 abbrev Inv-loop : tie.InvT-loop
-Inv-loop second low high first factor modes far gap₀ i₀ gap i = (i ≤ first .count) × Passed first second i (point (gap .low)) (point (gap .high))
+Inv-loop second low high first factor modes far frontier₀ i₀ frontier i = (i ≤ first .count) × Passed first second i (point (frontier .low)) (point (frontier .high))
 
 abbrev μ-loop : tie.MeasureT-loop
-μ-loop second low high first factor modes far gap₀ i₀ gap i = first .count - i
+μ-loop second low high first factor modes far frontier₀ i₀ frontier i = first .count - i
 
 far-row-requires : tie.Need-far-row-requires Inv-loop μ-loop
 far-row-requires c κs = c .before .before .before .before .before .pre .second .few
@@ -39,7 +39,7 @@ returns c =
     let t = e .before .before in
     let l = t .before in
     let s = l .before .before .before .before .before .before .before in
-    turn-stuck (s .args .t1) (s .args .second) _ _ (s .pre) (l .loop .i) (t .loop-test .taken) _ (e .before .entry .ensures) (e .entry2 .ensures) _ refl (l .loop .gap) (l .loop .inv .1)
+    turn-stuck (s .args .t1) (s .args .second) _ _ (s .pre) (l .loop .i) (t .loop-test .taken) _ (e .before .entry .ensures) (e .entry2 .ensures) _ refl (l .loop .frontier) (l .loop .inv .1)
     (p .pass-factor .result) (p .pass-factor .ensures) _ _ (c .before .u .given .1)
 
 -- Factor i is one of the first chain's.
@@ -62,7 +62,7 @@ loop-again c =
     let l = t .before in
     let s = l .before .before .before .before .before .before .before in (
       omega (arith, t .loop-test .taken),
-      turn-on (s .args .t1) (s .args .second) _ _ (s .pre) (l .loop .i) (t .loop-test .taken) _ (e .before .entry .ensures) (e .entry2 .ensures) _ refl (l .loop .gap) (l .loop .inv .1)
+      turn-on (s .args .t1) (s .args .second) _ _ (s .pre) (l .loop .i) (t .loop-test .taken) _ (e .before .entry .ensures) (e .entry2 .ensures) _ refl (l .loop .frontier) (l .loop .inv .1)
           (p .pass-factor .result) (p .pass-factor .ensures) _ (c .before .next .given .1),
     )
 
@@ -76,14 +76,14 @@ returns-2 c =
     let o = c .before .before .before .before .before in
     let l = o .before in
     let s = l .before .before .before .before .before .before .before in
-    ends-in (s .args .t1) (s .args .second) _ _ (s .pre) (l .loop .i) (l .loop .gap) (l .loop .inv .1) (l .loop .inv .0) (o .loop-test .left) (c .before .has-step .ensures) (c .if1 .taken)
+    ends-in (s .args .t1) (s .args .second) _ _ (s .pre) (l .loop .i) (l .loop .frontier) (l .loop .inv .1) (l .loop .inv .0) (o .loop-test .left) (c .before .has-step .ensures) (c .if1 .taken)
 
 returns-3 : tie.Need-returns-3 Inv-loop μ-loop
 returns-3 c =
     let o = c .before .before .before .before .before in
     let l = o .before in
     let s = l .before .before .before .before .before .before .before in
-    ends-out (s .args .t1) (s .args .second) _ _ (s .pre) (l .loop .i) (l .loop .gap) (l .loop .inv .1) (l .loop .inv .0) (o .loop-test .left) (c .before .has-step .ensures) (c .if1 .left)
+    ends-out (s .args .t1) (s .args .second) _ _ (s .pre) (l .loop .i) (l .loop .frontier) (l .loop .inv .1) (l .loop .inv .0) (o .loop-test .left) (c .before .has-step .ensures) (c .if1 .left)
 
 pub find-step-spec : {M : Type 1} → statement M
 find-step-spec =
