@@ -1,20 +1,21 @@
 -- What the tests of one factor say.
 -- Assumes nothing.
-use Prim.Native.Nat.{ℕ}
-use mathlib.Core.Path.{_≡_, refl, sym, _∙_}
+use Prim.Native.Nat.{ℕ, _≤_, _<_}
+use mathlib.Core.Path.{_≡_, refl, sym, _∙_, ap}
 use mathlib.Core.Bool.{Bool, true, false, not, _||_, false≢true}
 use mathlib.Core.Logic.{inl, inr}
-use borrow.Author.Tests.{not-true, not-false}
+use borrow.Author.Tests.{not-true, not-false, lt-ltb, le-ltb}
+use Rattle.nameset.specs.Places.{places}
 use Rattle.model.specs.declared.Model.{Model}
 use Rattle.model_language.specs.Word.{name}
 use Rattle.model_language.specs.Step.{repeats}
 use Rattle.model_places.specs.declared.Spot.{Spot}
-use Rattle.model_places.specs.declared.Spot.the-variants.{Name}
+use Rattle.model_places.specs.declared.Spot.the-variants.{Start, Name}
 use Rattle.model_places.specs.Places.{point, hasStep}
 use Rattle.model_within.specs.declared.Frontier.{Frontier}
 use Rattle.model_within.specs.declared.Span.{Span}
 use Rattle.model_within.specs.declared.Passing.the-variants.{On, Stuck}
-use Rattle.model_within.specs.Pass.{lowNext, PassedBy}
+use Rattle.model_within.specs.Pass.{spotAt, lowNext, PassedBy}
 
 -- ---- the step back from a factor's highest name to its lowest
 
@@ -35,25 +36,35 @@ loop-off false b e = absurd (false≢true (sym e))
 -- ---- past a factor
 
 module _ (k : Model) (g : Frontier) (s : Span) (mode : ℕ) where
-  pub stuck-low : {b : Bool} → b ≡ hasStep k (point (g .low)) (name (s .high)) → not b ≡ true → PassedBy k g s mode (Stuck (g .low) (Name (s .high)))
-  stuck-low {b} t e = (sym t ∙ not-true b e, inl (refl, refl))
+  pub stuck-low : {b : Bool} {u : Spot} → u ≡ spotAt (g .low) → b ≡ hasStep k (point u) (name (s .high)) → not b ≡ true → PassedBy k g s mode (Stuck u (Name (s .high)))
+  stuck-low {b} q t e = (sym t ∙ not-true b e, inl (q, refl))
 
-  pub stuck-high : {b : Bool} → b ≡ hasStep k (point (g .high)) (name (s .low)) → not b ≡ true → PassedBy k g s mode (Stuck (g .high) (Name (s .low)))
-  stuck-high {b} t e = (sym t ∙ not-true b e, inr (inl (refl, refl)))
+  pub stuck-high : {b : Bool} {u : Spot} → u ≡ spotAt (g .high) → b ≡ hasStep k (point u) (name (s .low)) → not b ≡ true → PassedBy k g s mode (Stuck u (Name (s .low)))
+  stuck-high {b} q t e = (sym t ∙ not-true b e, inr (inl (q, refl)))
 
   pub stuck-loop : {b : Bool} → b ≡ (not (repeats mode) || hasStep k (name (s .high)) (name (s .low))) → not b ≡ true → PassedBy k g s mode (Stuck (Name (s .high)) (Name (s .low)))
   stuck-loop {b} t e =
       let q = loop-off (repeats mode) (hasStep k (name (s .high)) (name (s .low))) (sym t ∙ not-true b e) in
       (q .0, inr (inr (refl, refl, q .1)))
 
-  pub passed : {a b c : Bool} {low : Spot} → a ≡ hasStep k (point (g .low)) (name (s .high)) → not a ≡ false
-      → b ≡ hasStep k (point (g .high)) (name (s .low)) → not b ≡ false
+  pub passed : {a b c : Bool} {u v : Spot} {low : ℕ} → u ≡ spotAt (g .low) → v ≡ spotAt (g .high) → a ≡ hasStep k (point u) (name (s .high)) → not a ≡ false
+      → b ≡ hasStep k (point v) (name (s .low)) → not b ≡ false
       → c ≡ (not (repeats mode) || hasStep k (name (s .high)) (name (s .low))) → not c ≡ false
-      → low ≡ lowNext mode (g .low) (s .low) → PassedBy k g s mode (On record { low = low; high = Name (s .high) })
-  passed {a} {b} {c} t d u e v f h = (
-    sym t ∙ not-false a d,
-    sym u ∙ not-false b e,
+      → low ≡ lowNext mode (g .low) (s .low) → PassedBy k g s mode (On record { low = low; high = s .high })
+  passed {a} {b} {c} p q t d u e v f h = (
+    ap (λ (z : Spot). hasStep k (point z) (name (s .high))) (sym p) ∙ sym t ∙ not-false a d,
+    ap (λ (z : Spot). hasStep k (point z) (name (s .low))) (sym q) ∙ sym u ∙ not-false b e,
     loop-on (repeats mode) (hasStep k (name (s .high)) (name (s .low))) (sym v ∙ not-false c f),
     h,
     refl,
   )
+
+-- ---- the numbers of a frontier
+
+pub spot-name : (x : ℕ) → x < places → Name x ≡ spotAt x
+unfolding spotAt
+spot-name x l = rw (lt-ltb x places l)
+
+pub spot-start : (x : ℕ) → places ≤ x → Start ≡ spotAt x
+unfolding spotAt
+spot-start x l = rw (le-ltb x places l)

@@ -6,11 +6,12 @@ use mathlib.Core.Bool.{Bool, true, false}
 use mathlib.Core.List.{List}
 use mathlib.Core.Logic.{inl, inr}
 use native.Mathlib.Omega.{arith}
+use native.Mathlib.Decide.{decLt}
 use native.Mathlib.Numerals.{add-one}
-use lib.ListN.{getD}
+use lib.ListN.{getD, List·getD-eq-default}
 use Rattle.nameset.specs.Places.{places}
 use Rattle.model.specs.declared.Model.{Model}
-use Rattle.model.specs.Record.{modeOf, IsChain}
+use Rattle.model.specs.Record.{noFactor, factorOf, modeOf, IsChain}
 use Rattle.model_language.specs.Word.{Point, name, end}
 use Rattle.model_language.specs.Step.{optional, repeats, Step}
 use Rattle.model_inclusion.specs.Search.{within}
@@ -30,7 +31,8 @@ use Rattle.model_within.specs.declared.Passing.{Passing}
 use Rattle.model_within.specs.declared.Passing.the-variants.{On, Stuck}
 use Rattle.model_within.specs.declared.Compared.{Compared}
 use Rattle.model_within.specs.declared.Compared.the-variants.{Included, Apart}
-use Rattle.model_within.specs.Pass.{Comparable, lowNext, PassedBy, Told}
+use Rattle.model_within.proofs.Tests.{spot-name}
+use Rattle.model_within.specs.Pass.{Comparable, spotAt, lowNext, PassedBy, Told}
 
 -- Chains with the extremes of their factors.
 pub comparable : (n : ℕ) (m k : Model) (r : Extremes) → IsChain places n m → IsChain places n k → AreExtremes n (m .factor) (k .factor) r
@@ -47,55 +49,71 @@ module _ (m k : Model) (low high : List ℕ) (h : Comparable m k low high) where
   -- ---- factor i
 
   module _ (i : ℕ) (l : i < m .count) (s : Span) (lo : s .low ≡ getD low i 0) (hi : s .high ≡ getD high i 0) where
+    -- a name of factor i has a place
+    below : (x : ℕ) → factorOf m x ≡ i → x < places
+    unfolding factorOf
+    below x e = go (decLt x places)
+      where
+        go : Dec (x < places) → x < places
+        go (yes q) = q
+        go (no q) = absurd (omega (arith, h .first .few, List·getD-eq-default (m .factor) noFactor {n = x} (omega (arith, h .first .factors))))
+
     spans : Spans m k i (s .low) (s .high)
     spans = rw (lo, hi) (h .spans i l)
 
-    module _ (mode : ℕ) (e : mode ≡ getD (m .mode) i 0) (g : Frontier) (p : Passed m k i (point (g .low)) (point (g .high))) (r : Passing) (q : PassedBy k g s mode r) where
-      pub turn-on : (next : Frontier) → r ≡ On next → Passed m k (i + 1) (point (next .low)) (point (next .high))
+    module _ (mode : ℕ) (e : mode ≡ getD (m .mode) i 0) (g : Frontier) (p : Passed m k i (point (spotAt (g .low))) (point (spotAt (g .high)))) (r : Passing) (q : PassedBy k g s mode r) where
+      pub turn-on : (next : Frontier) → r ≡ On next → Passed m k (i + 1) (point (spotAt (next .low))) (point (spotAt (next .high)))
       unfolding modeOf lowNext
       turn-on next z = go (subst (λ (t : Passing). PassedBy k g s mode t) z q)
         where
-          go : PassedBy k g s mode (On next) → Passed m k (i + 1) (point (next .low)) (point (next .high))
+          go : PassedBy k g s mode (On next) → Passed m k (i + 1) (point (spotAt (next .low))) (point (spotAt (next .high)))
           go (a, b, f, c, d) = at (optional (modeOf m i)) refl
             where
-              first : Step k (point (g .low)) (name (s .high))
+              first : Step k (point (spotAt (g .low))) (name (s .high))
               first = has _ _ a
 
-              second : Step k (point (g .high)) (name (s .low))
+              second : Step k (point (spotAt (g .high))) (name (s .low))
               second = has _ _ b
 
               loop : repeats (modeOf m i) ≡ true → Step k (name (s .high)) (name (s .low))
               loop y = has _ _ (f (ap repeats e ∙ y))
 
-              at : (o : Bool) → optional (modeOf m i) ≡ o → Passed m k (i + 1) (point (next .low)) (point (next .high))
+              low-name : spotAt (s .low) ≡ Name (s .low)
+              low-name = sym (spot-name (s .low) (below (s .low) (spans .lo-in)))
+
+              high-name : spotAt (next .high) ≡ Name (s .high)
+              high-name = ap spotAt d ∙ sym (spot-name (s .high) (below (s .high) (spans .hi-in)))
+
+              at : (o : Bool) → optional (modeOf m i) ≡ o → Passed m k (i + 1) (point (spotAt (next .low))) (point (spotAt (next .high)))
               at true o =
                   let y : next .low ≡ g .low = c ∙ rw (e, o) in
-                  rw (y, d, add-one) (passed-optional m k i (point (g .low)) (point (g .high)) (s .low) (s .high) l p spans first second loop o)
+                  rw (y, high-name, add-one) (passed-optional m k i (point (spotAt (g .low))) (point (spotAt (g .high))) (s .low) (s .high) l p spans first second loop o)
               at false o =
-                  let y : next .low ≡ Name (s .low) = c ∙ rw (e, o) in
-                  rw (y, d, add-one) (passed-required m k i (point (g .low)) (point (g .high)) (s .low) (s .high) l p spans first second loop o)
+                  let y : next .low ≡ s .low = c ∙ rw (e, o) in
+                  rw (y, low-name, high-name, add-one) (passed-required m k i (point (spotAt (g .low))) (point (spotAt (g .high))) (s .low) (s .high) l p spans first second loop o)
 
       pub turn-stuck : (u v : Spot) → r ≡ Stuck u v → Told m k (Apart u v)
       unfolding modeOf
       turn-stuck u v z = go (subst (λ (t : Passing). PassedBy k g s mode t) z q)
         where
           go : PassedBy k g s mode (Stuck u v) → Told m k (Apart u v)
-          go (stop, inl (a, b)) = (rw (a, b) (step-low m k i (point (g .low)) (point (g .high)) (s .low) (s .high) l p spans), not-has _ _ stop)
-          go (stop, inr (inl (a, b))) = (rw (a, b) (step-high m k i (point (g .low)) (point (g .high)) (s .low) (s .high) l p spans), not-has _ _ stop)
+          go (stop, inl (a, b)) = (rw (a, b) (step-low m k i (point (spotAt (g .low))) (point (spotAt (g .high))) (s .low) (s .high) l p spans), not-has _ _ stop)
+          go (stop, inr (inl (a, b))) = (rw (a, b) (step-high m k i (point (spotAt (g .low))) (point (spotAt (g .high))) (s .low) (s .high) l p spans), not-has _ _ stop)
           go (stop, inr (inr (a, b, f))) =
-              (rw (a, b) (step-loop m k i (point (g .low)) (point (g .high)) (s .low) (s .high) l p spans (ap repeats (sym e) ∙ f)), not-has _ _ stop)
+              (rw (a, b) (step-loop m k i (point (spotAt (g .low))) (point (spotAt (g .high))) (s .low) (s .high) l p spans (ap repeats (sym e) ∙ f)), not-has _ _ stop)
 
   -- ---- the end of the pass
 
-  module _ (i : ℕ) (g : Frontier) (p : Passed m k i (point (g .low)) (point (g .high))) (l : i ≤ m .count) (o : m .count ≤ i) where
-    whole : Passed m k (m .count) (point (g .low)) (point (g .high))
-    whole = let e : i ≡ m .count = omega arith in subst (λ (z : ℕ). Passed m k z (point (g .low)) (point (g .high))) e p
+  module _ (i : ℕ) (g : Frontier) (p : Passed m k i (point (spotAt (g .low))) (point (spotAt (g .high)))) (l : i ≤ m .count) (o : m .count ≤ i) where
+    whole : Passed m k (m .count) (point (spotAt (g .low))) (point (spotAt (g .high)))
+    whole = let e : i ≡ m .count = omega arith in subst (λ (z : ℕ). Passed m k z (point (spotAt (g .low))) (point (spotAt (g .high)))) e p
 
-    pub ends-in : {b : Bool} → b ≡ hasStep k (point (g .low)) end → b ≡ true → Told m k Included
-    ends-in t e = passed-all m k (point (g .low)) (point (g .high)) whole (has _ _ (sym t ∙ e))
+    pub ends-in : {b : Bool} {u : Spot} → u ≡ spotAt (g .low) → b ≡ hasStep k (point u) end → b ≡ true → Told m k Included
+    ends-in q t e =
+        passed-all m k (point (spotAt (g .low))) (point (spotAt (g .high))) whole (has _ _ (ap (λ (z : Spot). hasStep k (point z) end) (sym q) ∙ sym t ∙ e))
 
-    pub ends-out : {b : Bool} → b ≡ hasStep k (point (g .low)) end → b ≡ false → Told m k (Apart (g .low) End)
-    ends-out t e = (step-last m k (point (g .low)) (point (g .high)) whole, not-has _ _ (sym t ∙ e))
+    pub ends-out : {b : Bool} {u : Spot} → u ≡ spotAt (g .low) → b ≡ hasStep k (point u) end → b ≡ false → Told m k (Apart u End)
+    ends-out q t e = (rw q (step-last m k (point (spotAt (g .low))) (point (spotAt (g .high))) whole), not-has _ _ (sym t ∙ e))
 
 -- ---- yes or no
 

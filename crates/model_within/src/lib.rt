@@ -10,7 +10,7 @@ ghost use Rattle.model_language.specs.Word.{name};
 ghost use Rattle.model_language.specs.Step.{repeats};
 ghost use Rattle.model_inclusion.specs.Search.{within};
 ghost use Rattle.model_places.specs.Places.{FarRow, hasStep};
-ghost use Rattle.model_within.specs.Pass.{Comparable, lowNext, PassedBy, Told};
+ghost use Rattle.model_within.specs.Pass.{Comparable, spotAt, lowNext, PassedBy, Told};
 use model::Model;
 use model::entry;
 use model_extremes::extreme_names;
@@ -19,11 +19,13 @@ use model_places::far_row;
 use model_places::has_step;
 use model_places::is_optional;
 use model_places::is_repeated;
+use nameset::PLACES;
 
 // Of the points that a step of the first to the next factor may leave, the lowest in the second and the highest.
+// Each is the number of a name, or `PLACES` for the start: points as enums would be packed and unpacked for each factor.
 struct Frontier {
-    low: Spot,
-    high: Spot,
+    low: usize,
+    high: usize,
 }
 
 // Of the names of a factor of the first, the lowest in the second and the highest.
@@ -63,15 +65,22 @@ fn has_loop(count: usize, factor: &[u8], modes: &[u8], far: &[u8], mode: u8, s: 
     }
 }
 
+// The point that such a number means.
+fn spot_at(x: usize) -> Spot
+    ensures { λ r. ⌜ r ≡ spotAt x ⌝ }
+{
+    if x < PLACES {
+        Spot::Name(x as u8)
+    } else {
+        Spot::Start
+    }
+}
+
 // The lowest point behind a factor: if the factor may be left out, the one before it.
-fn low_next(mode: u8, low: Spot, lo: u8) -> Spot
+fn low_next(mode: u8, low: usize, lo: usize) -> usize
     ensures { λ r. ⌜ r ≡ lowNext mode low lo ⌝ }
 {
-    if is_optional(mode) {
-        low
-    } else {
-        Spot::Name(lo)
-    }
+    if is_optional(mode) { low } else { lo }
 }
 
 // Past a factor of this mode, whose names have these extremes; or a step into it that the second does not have.
@@ -87,8 +96,8 @@ fn pass_factor(
     requires { ⌜ (count ≤ places) × FarRow count (now modes) (now far) ⌝ }
     ensures { λ r. ⌜ PassedBy (ofRows count (now (factor .entry)) (now (modes .entry))) g s mode r ⌝ }
 {
-    let low = g.low;
-    let high = g.high;
+    let low = spot_at(g.low);
+    let high = spot_at(g.high);
     if !has_step(count, factor, modes, far, low, Spot::Name(s.high)) {
         return Passing::Stuck(low, Spot::Name(s.high));
     }
@@ -99,8 +108,8 @@ fn pass_factor(
         return Passing::Stuck(Spot::Name(s.high), Spot::Name(s.low));
     }
     Passing::On(Frontier {
-        low: low_next(mode, low, s.low),
-        high: Spot::Name(s.high),
+        low: low_next(mode, g.low, s.low as usize),
+        high: s.high as usize,
     })
 }
 
@@ -114,8 +123,8 @@ pub fn find_step<'a>(first: Model, second: Model, low: &'a [u8], high: &'a [u8])
     let modes = second.mode;
     let far = far_row(second.count, &modes);
     let mut frontier = Frontier {
-        low: Spot::Start,
-        high: Spot::Start,
+        low: PLACES,
+        high: PLACES,
     };
     let mut i = 0;
     while i < first.count {
@@ -141,7 +150,7 @@ pub fn find_step<'a>(first: Model, second: Model, low: &'a [u8], high: &'a [u8])
         }
         i += 1;
     }
-    let last = frontier.low;
+    let last = spot_at(frontier.low);
     if has_step(second.count, &factor, &modes, &far, last, Spot::End) {
         Compared::Included
     } else {

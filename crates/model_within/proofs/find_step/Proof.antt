@@ -1,17 +1,20 @@
 -- `find_step` meets its contract: the factors before i are passed.
 -- Assumes nothing.
 use Prim.Native.Nat.{_-_, _≤_, _<_}
-use mathlib.Core.Path.{refl}
+use mathlib.Core.Path.{refl, sym}
 use native.Mathlib.Omega.{arith}
 use borrow.Author.Needs.{needs}
+use Rattle.nameset.specs.Places.{places}
 use Rattle.model_inclusion.proofs.Pass.{Passed, passed-none}
 use Rattle.model_places.specs.Places.{point}
+use Rattle.model_within.specs.Pass.{spotAt}
+use Rattle.model_within.proofs.Tests.{spot-start}
 use Rattle.model_within.proofs.Turns.{turn-on, turn-stuck, ends-in, ends-out}
 use Rattle.model_within.proofs.find_step.Statement.{statement}
 use Rattle.model_within.proofs.find_step.Tie as tie
 
 abbrev Inv-loop : tie.InvT-loop
-Inv-loop second low high first factor modes far frontier₀ i₀ frontier i = (i ≤ first .count) × Passed first second i (point (frontier .low)) (point (frontier .high))
+Inv-loop second low high first factor modes far frontier₀ i₀ frontier i = (i ≤ first .count) × Passed first second i (point (spotAt (frontier .low))) (point (spotAt (frontier .high)))
 
 abbrev μ-loop : tie.MeasureT-loop
 μ-loop second low high first factor modes far frontier₀ i₀ frontier i = first .count - i
@@ -20,7 +23,7 @@ far-row-requires : tie.Need-far-row-requires Inv-loop μ-loop
 far-row-requires c κs = c .before .before .before .before .before .pre .second .few
 
 loop-holds : tie.Need-loop-holds Inv-loop μ-loop
-loop-holds c = (omega arith, passed-none _ _)
+loop-holds c = (omega arith, rw (sym (spot-start places (omega arith))) (passed-none _ _))
 
 element-copy-out-pass-factor : tie.Need-element-copy-out-pass-factor Inv-loop μ-loop
 element-copy-out-pass-factor c =
@@ -68,22 +71,26 @@ loop-again c =
 
 has-step-requires : tie.Need-has-step-requires Inv-loop μ-loop
 has-step-requires c κs =
-    let r = c .before .before .before .before .before in
+    let r = c .before .before .before .before .before .before in
     (r .before .before .before .before .before .before .pre .second .few, r .far-row .ensures)
 
 returns-2 : tie.Need-returns-2 Inv-loop μ-loop
 returns-2 c =
-    let o = c .before .before .before .before .before in
+    let a = c .before .before .before .before .before in
+    let o = a .before in
     let l = o .before in
     let s = l .before .before .before .before .before .before .before in
-    ends-in (s .args .t1) (s .args .second) _ _ (s .pre) (l .loop .i) (l .loop .frontier) (l .loop .inv .1) (l .loop .inv .0) (o .loop-test .left) (c .before .has-step .ensures) (c .if1 .taken)
+    ends-in (s .args .t1) (s .args .second) _ _ (s .pre) (l .loop .i) (l .loop .frontier) (l .loop .inv .1) (l .loop .inv .0) (o .loop-test .left)
+    (a .spot-at .ensures) (c .before .has-step .ensures) (c .if1 .taken)
 
 returns-3 : tie.Need-returns-3 Inv-loop μ-loop
 returns-3 c =
-    let o = c .before .before .before .before .before in
+    let a = c .before .before .before .before .before in
+    let o = a .before in
     let l = o .before in
     let s = l .before .before .before .before .before .before .before in
-    ends-out (s .args .t1) (s .args .second) _ _ (s .pre) (l .loop .i) (l .loop .frontier) (l .loop .inv .1) (l .loop .inv .0) (o .loop-test .left) (c .before .has-step .ensures) (c .if1 .left)
+    ends-out (s .args .t1) (s .args .second) _ _ (s .pre) (l .loop .i) (l .loop .frontier) (l .loop .inv .1) (l .loop .inv .0) (o .loop-test .left)
+    (a .spot-at .ensures) (c .before .has-step .ensures) (c .if1 .left)
 
 pub find-step-spec : {M : Type 1} → statement M
 find-step-spec =
@@ -91,4 +98,4 @@ find-step-spec =
     (tie.spec Inv-loop μ-loop (λ c. search needs) far-row-requires loop-holds (λ c κs. search needs)
     (λ c κs. search needs) (λ c. search needs) (λ c. search needs) (λ c. search needs)
     element-copy-out-pass-factor pass-factor-requires (λ c. search needs) (λ c. search needs) returns add-i loop-less
-    loop-again (λ c. search needs) (λ c. search needs) (λ c. search needs) has-step-requires returns-2 returns-3)
+    loop-again (λ c κs. search needs) (λ c. search needs) (λ c. search needs) (λ c. search needs) has-step-requires returns-2 returns-3)
