@@ -4,6 +4,7 @@
 -- Assumes nothing.
 use Prim.Native.Nat.{ℕ}
 use mathlib.Core.Path.{_≡_}
+use mathlib.Core.Bool.{Bool}
 use mathlib.Core.List.{List}
 use Rattle.refusal.specs.Answer.{outcomeNumber}
 use Rattle.model.specs.declared.Model.{Model}
@@ -33,8 +34,12 @@ modelReply x = record { refusal = outcomeNumber (x .outcome); model = x .model }
 unfoldable pub verdict : Acceptance → Verdict
 verdict x = record { refusal = acceptanceNumber x; yes = acceptanceYes x }
 
+-- The reply with these parts.
+abbrev pub inclusionOf : ℕ → Bool → ℕ → InclusionReply
+inclusionOf n b l = record { refusal = n; yes = b; length = l }
+
 unfoldable pub inclusionReply : Inclusion → InclusionReply
-inclusionReply x = record { refusal = inclusionNumber x; yes = inclusionYes x; length = inclusionLength x }
+inclusionReply x = inclusionOf (inclusionNumber x) (inclusionYes x) (inclusionLength x)
 
 unfoldable pub lengthReply : Written → LengthReply
 lengthReply x = record { refusal = outcomeNumber (x .outcome); length = x .length }

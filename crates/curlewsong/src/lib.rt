@@ -5,7 +5,7 @@ use intake::Acceptance;
 use intake::Inclusion;
 use model::Model;
 ghost use mathlib.Core.Path.{_≡_};
-ghost use Rattle.curlewsong.specs.Reply.{verdict, inclusionReply, lengthReply, RepliesModel, RepliesWord, RepliesWithin, RepliesWritten, RepliesSample, RepliesDtd, RepliesText};
+ghost use Rattle.curlewsong.specs.Reply.{verdict, inclusionOf, inclusionReply, lengthReply, RepliesModel, RepliesWord, RepliesWithin, RepliesWritten, RepliesSample, RepliesDtd, RepliesText};
 
 // A model, or the empty one and why.
 #[repr(C)]
@@ -63,25 +63,23 @@ fn verdict_of(answer: Acceptance) -> Verdict
     }
 }
 
+fn replied(refusal: u8, yes: bool, length: usize) -> InclusionReply
+    ensures { λ r. ⌜ r ≡ inclusionOf refusal yes length ⌝ }
+{
+    InclusionReply {
+        refusal,
+        yes,
+        length,
+    }
+}
+
 fn inclusion_of(answer: Inclusion) -> InclusionReply
     ensures { λ r. ⌜ r ≡ inclusionReply answer ⌝ }
 {
     match answer {
-        Inclusion::Yes => InclusionReply {
-            refusal: 0,
-            yes: true,
-            length: 0,
-        },
-        Inclusion::No(length) => InclusionReply {
-            refusal: 0,
-            yes: false,
-            length,
-        },
-        Inclusion::Refused(refusal) => InclusionReply {
-            refusal: refusal::number(refusal),
-            yes: false,
-            length: 0,
-        },
+        Inclusion::Yes => replied(0, true, 0),
+        Inclusion::No(length) => replied(0, false, length),
+        Inclusion::Refused(stop) => replied(refusal::number(stop), false, 0),
     }
 }
 

@@ -64,15 +64,15 @@ pub record WordConditions (n : ℕ) (m : Model) (w : List ℕ) (k : ℕ) : Type 
   pub none : (k ≡ 0) ↔ Passes n m w
   pub no-other : (k ≡ 0) ⊎ ((k ≡ 3) ⊎ ((k ≡ 10) ⊎ (k ≡ 11)))
 
--- The comparison of two models over n names, with a buffer of `room` places (request U4 of paper 02).
-pub record WithinConditions (n : ℕ) (first second : Model) (room : ℕ) (k : ℕ) : Type 0 where
-  pub three : (k ≡ 3) ↔ OutOfRange n
+-- The comparison of two models over so many names (`count`), with a buffer of `room` places (request U4 of paper 02).
+pub record WithinConditions (count : ℕ) (first second : Model) (room : ℕ) (k : ℕ) : Type 0 where
+  pub three : (k ≡ 3) ↔ OutOfRange count
   -- "10 for the first record, then 10 for the second": one number for both, so it does not tell which one was seen
   -- first
-  pub ten : (k ≡ 10) ↔ (InRange n × ((¬ IsChain places n first) ⊎ (¬ IsChain places n second)))
+  pub ten : (k ≡ 10) ↔ (InRange count × ((¬ IsChain places count first) ⊎ (¬ IsChain places count second)))
   -- "12 if the buffer has fewer than 65 places, even when the answer is yes"
-  pub twelve : (k ≡ 12) ↔ (InRange n × (IsChain places n first × (IsChain places n second × (room < longestCounterexample))))
-  pub none : (k ≡ 0) ↔ PassesBoth n first second room
+  pub twelve : (k ≡ 12) ↔ (InRange count × (IsChain places count first × (IsChain places count second × (room < longestCounterexample))))
+  pub none : (k ≡ 0) ↔ PassesBoth count first second room
   pub no-other : (k ≡ 0) ⊎ ((k ≡ 3) ⊎ ((k ≡ 10) ⊎ (k ≡ 12)))
 
 -- The model of a parent.
