@@ -12,8 +12,8 @@ use Rattle.nameset.specs.Places.{places}
 use Rattle.nameset.specs.declared.NameSet.{NameSet}
 use Rattle.nameset.specs.Set.{member}
 use Rattle.nameset.specs.Rows.{IsRows}
-use Rattle.model.specs.declared.Model.{Model}
-use Rattle.model.specs.Record.{emptyModel}
+use Rattle.model.specs.declared.Chain.{Chain}
+use Rattle.model.specs.Record.{emptyChain}
 use Rattle.model.specs.Build.{withFactor}
 use Rattle.model.proofs.Tests.{same-test}
 use Rattle.follow.specs.Follow.{Follow}
@@ -145,7 +145,7 @@ module _ (f : Follow) (n : f .names ≤ places) where
       ap (λ (k : ℕ). countBelow k (leadsAt f l)) e ∙ count-past (f .names) (places - f .names) (leadsAt f l) (leads-past l) in
       rw (some-singles l, c)
 
-  pub level-made : (l : ℕ) (m : Model) → withBoth places (fixed f l) (singleAt f l) (leadsAt f l) (sameGroup f) m ≡ withLevel f l m
+  pub level-made : (l : ℕ) (m : Chain) → withBoth places (fixed f l) (singleAt f l) (leadsAt f l) (sameGroup f) m ≡ withLevel f l m
   unfolding withBoth withAny withLevel
   level-made l m =
       ap (λ (b : Bool). withEach (leadsAt f l) (sameGroup f) (groupMode (fixed f l)) places (cond b (withFactor m (singleAt f l) (singlesMode (fixed f l))) m)) (some-singles l)
@@ -164,19 +164,19 @@ skips-view facts n lower higher r e =
 -- ---- level after level
 
 -- The chain up to a level, and the names of the levels up to it and above it.
-pub record Stage (f : Follow) (m : Model) (lower higher : NameSet) : Type 0 where
+pub record Stage (f : Follow) (m : Chain) (lower higher : NameSet) : Type 0 where
   pub level : ℕ
   pub few : level ≤ lastLevel f - 1
   pub same : m ≡ chainTo places f level
   pub lower-law : (x : ℕ) → member lower x ≡ isLower f (suc level) x
   pub higher-law : (x : ℕ) → member higher x ≡ isHigher f level x
 
-pub stage-none : (f : Follow) (m : Model) (lower higher : NameSet) → m ≡ emptyModel places → ((x : ℕ) → member lower x ≡ false) → ((x : ℕ) → member higher x ≡ occurs f x) → Stage f m lower higher
+pub stage-none : (f : Follow) (m : Chain) (lower higher : NameSet) → m ≡ emptyChain places → ((x : ℕ) → member lower x ≡ false) → ((x : ℕ) → member higher x ≡ occurs f x) → Stage f m lower higher
 unfolding chainTo
 stage-none f m lower higher e p q =
     record { level = 0; few = omega arith; same = e; lower-law = λ x. p x ∙ sym (lower-first f x); higher-law = λ x. q x ∙ sym (higher-first f x) }
 
-module _ {f : Follow} {m : Model} {lower higher : NameSet} (s : Shown f) (n : f .names ≤ places) (st : Stage f m lower higher) where
+module _ {f : Follow} {m : Chain} {lower higher : NameSet} (s : Shown f) (n : f .names ≤ places) (st : Stage f m lower higher) where
   pub stage-last : anyBelow places (member higher) ≡ false → m ≡ chainOf places f
   unfolding chainOf
   stage-last e = st .same ∙ ap (chainTo places f) (let h = level-none f s (st .level) none in let k = st .few in last h k)
@@ -240,13 +240,13 @@ module _ {f : Follow} {m : Model} {lower higher : NameSet} (s : Shown f) (n : f 
 
       -- there is a place for each factor
       pub stage-room : m .count + factors places (member singles) (member leaders) ≤ places
-      stage-room = omega (arith, ap (λ (o : Model). o .count) (st .same), factors-is, level-room f places (st .level))
+      stage-room = omega (arith, ap (λ (o : Chain). o .count) (st .same), factors-is, level-room f places (st .level))
 
       fixed-is : (not skips && eqb (factors places (member singles) (member leaders)) 1) ≡ fixed f (suc (st .level))
       unfolding fixed
       fixed-is = ap₂ (λ (u : Bool) (v : ℕ). not u && eqb v 1) skips-is factors-is
 
-      pub stage-more : (next : Model) (below : NameSet) →
+      pub stage-more : (next : Chain) (below : NameSet) →
           next ≡ withBoth places (not skips && eqb (factors places (member singles) (member leaders)) 1) (member singles) (member leaders) (holdsIn reach behind) m →
           ((x : ℕ) → member below x ≡ (member lower x || member on x)) → Stage f next below above
       unfolding chainTo

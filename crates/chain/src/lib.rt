@@ -16,7 +16,7 @@ use chain_reach::reach_rows;
 use chain_rows::pick;
 use chain_rows::rows_of;
 use chain_rows::with_rows;
-use model::Model;
+use model::Chain;
 use nameset::NameSet;
 use nameset::row_at;
 
@@ -61,14 +61,14 @@ fn next_level(behind: &[u64], higher: NameSet, likely: NameSet) -> NameSet
 }
 
 // The chain that follow facts give. The names that occur are those that start and those in a follow row.
-pub fn chain(starts: NameSet, ends: NameSet, follows: &[u64], empty: bool, n: usize) -> Model
+pub fn chain(starts: NameSet, ends: NameSet, follows: &[u64], empty: bool, n: usize) -> Chain
     requires { ⌜ (n ≤ places) × IsRows places (now follows)
         × Shown (viewOf n (factsWith starts ends (now follows) empty)) ⌝ }
     ensures { λ r. ⌜ r ≡ chainOf places (viewOf n (factsWith starts ends (now (follows .entry)) empty)) ⌝ }
 {
     let reach = reach_rows(follows, n);
     let loops = loop_groups(&reach, n);
-    let mut m = Model::empty();
+    let mut m = Chain::empty();
     let mut lower = NameSet::empty();
     let mut higher = with_rows(starts, follows, n);
     let mut stepped = starts;

@@ -12,7 +12,7 @@ use Rattle.nameset.specs.Places.{places}
 use Rattle.nameset.specs.declared.NameSet.{NameSet}
 use Rattle.nameset.specs.Set.{member, first}
 use Rattle.nameset.specs.Promise.{Emptiness}
-use Rattle.model.specs.declared.Model.{Model}
+use Rattle.model.specs.declared.Chain.{Chain}
 use Rattle.model.specs.Build.{withFactor}
 use Rattle.chain_levels.specs.Below.{anyBelow, countBelow}
 use Rattle.chain_levels.specs.Chain.{factors, singlesMode, groupMode, withAny, withEach, withBoth}
@@ -24,11 +24,11 @@ use Rattle.chain_factors.proofs.Sets.{some-empty, some-full}
 
 -- ---- a set as one factor
 
-pub any-none : (m : Model) (names : NameSet) (mode : ℕ) (r : Bool) → Emptiness names r → r ≡ true → m ≡ withAny places (member names) mode m
+pub any-none : (m : Chain) (names : NameSet) (mode : ℕ) (r : Bool) → Emptiness names r → r ≡ true → m ≡ withAny places (member names) mode m
 unfolding withAny
 any-none m names mode r e q = rw (some-empty names r e q)
 
-pub any-some : (m n : Model) (names : NameSet) (mode : ℕ) (r : Bool) → Emptiness names r → r ≡ false → n ≡ withFactor m (member names) mode → n ≡ withAny places (member names) mode m
+pub any-some : (m n : Chain) (names : NameSet) (mode : ℕ) (r : Bool) → Emptiness names r → r ≡ false → n ≡ withFactor m (member names) mode → n ≡ withAny places (member names) mode m
 unfolding withAny
 any-some m n names mode r e q h = rw (some-full names r e q) h
 
@@ -38,7 +38,7 @@ any-room names count r e q h = let k : count + 1 ≤ places = (rw (some-full nam
 -- ---- each group
 
 -- numbers that do not pass add nothing
-pub each-pass : (test : ℕ → Bool) (holds : ℕ → ℕ → Bool) (mode k j : ℕ) (m : Model) → ((x : ℕ) → k ≤ x → x < k + j → test x ≡ false) →
+pub each-pass : (test : ℕ → Bool) (holds : ℕ → ℕ → Bool) (mode k j : ℕ) (m : Chain) → ((x : ℕ) → k ≤ x → x < k + j → test x ≡ false) →
     withEach test holds mode (k + j) m ≡ withEach test holds mode k m
 unfolding withEach
 each-pass test holds mode k zero m h = let e : k + 0 ≡ k = omega arith in rw e
@@ -47,28 +47,28 @@ each-pass test holds mode k (suc j) m h =
     let q : test (k + j) ≡ false = h (k + j) (omega arith) (omega arith) in
     rw (e, q) (each-pass test holds mode k j m (λ x a b. h x a (omega arith)))
 
-pub each-upto : (test : ℕ → Bool) (holds : ℕ → ℕ → Bool) (mode k i : ℕ) (m : Model) → k ≤ i → ((x : ℕ) → k ≤ x → x < i → test x ≡ false) →
+pub each-upto : (test : ℕ → Bool) (holds : ℕ → ℕ → Bool) (mode k i : ℕ) (m : Chain) → k ≤ i → ((x : ℕ) → k ≤ x → x < i → test x ≡ false) →
     withEach test holds mode i m ≡ withEach test holds mode k m
 each-upto test holds mode k i m l h =
     let e : i ≡ k + (i - k) = omega arith in
     ap (λ (j : ℕ). withEach test holds mode j m) e ∙ each-pass test holds mode k (i - k) m (λ x a b. h x a (omega arith))
 
-next-each : (test : ℕ → Bool) (holds : ℕ → ℕ → Bool) (mode k : ℕ) (m : Model) → test k ≡ true → withEach test holds mode (suc k) m ≡ withFactor (withEach test holds mode k m) (holds k) mode
+next-each : (test : ℕ → Bool) (holds : ℕ → ℕ → Bool) (mode k : ℕ) (m : Chain) → test k ≡ true → withEach test holds mode (suc k) m ≡ withFactor (withEach test holds mode k m) (holds k) mode
 unfolding withEach
 next-each test holds mode k m e = rw e
 
 -- Those of the leaders below `upto` have their factor in `out`; the others are left.
-pub record Appended (leaders left : NameSet) (holds : ℕ → ℕ → Bool) (mode : ℕ) (m out : Model) : Type 0 where
+pub record Appended (leaders left : NameSet) (holds : ℕ → ℕ → Bool) (mode : ℕ) (m out : Chain) : Type 0 where
   pub upto : ℕ
   pub few : upto ≤ places
   pub same : out ≡ withEach (member leaders) holds mode upto m
   pub rest : (x : ℕ) → member left x ≡ (leb upto x && member leaders x)
 
-pub append-none : (leaders : NameSet) (holds : ℕ → ℕ → Bool) (mode : ℕ) (m : Model) → Appended leaders leaders holds mode m m
+pub append-none : (leaders : NameSet) (holds : ℕ → ℕ → Bool) (mode : ℕ) (m : Chain) → Appended leaders leaders holds mode m m
 unfolding withEach
 append-none leaders holds mode m = record { upto = 0; few = omega arith; same = refl; rest = λ x. sym (rw (le-leb 0 x (omega arith))) }
 
-module _ {leaders left : NameSet} {holds : ℕ → ℕ → Bool} {mode : ℕ} {m out : Model} (a : Appended leaders left holds mode m out) where
+module _ {leaders left : NameSet} {holds : ℕ → ℕ → Bool} {mode : ℕ} {m out : Chain} (a : Appended leaders left holds mode m out) where
   -- a leader that is not left stands below
   absent : (x : ℕ) → a .upto ≤ x → member left x ≡ false → member leaders x ≡ false
   absent x l e = sym (sym e ∙ a .rest x ∙ rw (le-leb (a .upto) x l))
@@ -84,7 +84,7 @@ module _ {leaders left : NameSet} {holds : ℕ → ℕ → Bool} {mode : ℕ} {m
     append-room r =
         omega (
           arith,
-          ap (λ (n : Model). n .count) at-k,
+          ap (λ (n : Chain). n .count) at-k,
           each-count (member leaders) holds mode k m,
           count-more k places (member leaders) h (there .1),
         )
@@ -104,7 +104,7 @@ module _ {leaders left : NameSet} {holds : ℕ → ℕ → Bool} {mode : ℕ} {m
         let w : member left x ≡ false = a .rest x ∙ rw y in
         rw (w, z)
 
-    pub append-more : (rest : NameSet) (next : Model) → k ≡ first left → ((x : ℕ) → member rest x ≡ (member left x && not (eqb (first left) x))) →
+    pub append-more : (rest : NameSet) (next : Chain) → k ≡ first left → ((x : ℕ) → member rest x ≡ (member left x && not (eqb (first left) x))) →
         next ≡ withFactor out (holds k) mode → Appended leaders rest holds mode m next
     append-more rest next f law n =
         record {
@@ -115,12 +115,12 @@ module _ {leaders left : NameSet} {holds : ℕ → ℕ → Bool} {mode : ℕ} {m
         }
       where
         step : withFactor out (holds k) mode ≡ withEach (member leaders) holds mode (suc k) m
-        step = ap (λ (o : Model). withFactor o (holds k) mode) at-k ∙ sym (next-each (member leaders) holds mode k m (there .1))
+        step = ap (λ (o : Chain). withFactor o (holds k) mode) at-k ∙ sym (next-each (member leaders) holds mode k m (there .1))
 
   pub append-all : ((x : ℕ) → member left x ≡ false) → out ≡ withEach (member leaders) holds mode places m
   append-all e = a .same ∙ sym (each-upto (member leaders) holds mode (a .upto) places m (a .few) (λ x l i. absent x l (e x)))
 
-pub holds-group : (reach behind : List ℕ) (k : ℕ) (g : NameSet) (m n : Model) (mode : ℕ) → g ≡ groupIn reach behind k → n ≡ withFactor m (member g) mode → n ≡ withFactor m (holdsIn reach behind k) mode
+pub holds-group : (reach behind : List ℕ) (k : ℕ) (g : NameSet) (m n : Chain) (mode : ℕ) → g ≡ groupIn reach behind k → n ≡ withFactor m (member g) mode → n ≡ withFactor m (holdsIn reach behind k) mode
 unfolding holdsIn
 holds-group reach behind k g m n mode e h =
     h ∙ ap (λ (p : ℕ → Bool). withFactor m p mode) (fun-ext (λ b. ap (λ (s : NameSet). member s b) e))
@@ -131,12 +131,12 @@ pub level-any : (count : ℕ) (singles leaders : NameSet) → count + factors pl
 unfolding factors
 level-any count singles leaders h = omega arith
 
-pub level-groups : (m first : Model) (singles leaders : NameSet) (mode : ℕ) → first ≡ withAny places (member singles) mode m → m .count + factors places (member singles) (member leaders) ≤ places →
+pub level-groups : (m first : Chain) (singles leaders : NameSet) (mode : ℕ) → first ≡ withAny places (member singles) mode m → m .count + factors places (member singles) (member leaders) ≤ places →
     first .count + countBelow places (member leaders) ≤ places
 unfolding factors
-level-groups m first singles leaders mode e h = omega (arith, ap (λ (o : Model). o .count) e, any-count places (member singles) mode m)
+level-groups m first singles leaders mode e h = omega (arith, ap (λ (o : Chain). o .count) e, any-count places (member singles) mode m)
 
-pub level-both : (m first out : Model) (singles leaders : NameSet) (holds : ℕ → ℕ → Bool) (skipped one fixed : Bool) (plain group : ℕ) →
+pub level-both : (m first out : Chain) (singles leaders : NameSet) (holds : ℕ → ℕ → Bool) (skipped one fixed : Bool) (plain group : ℕ) →
     one ≡ eqb (factors places (member singles) (member leaders)) 1 → fixed ≡ (not skipped && one) → plain ≡ cond fixed 0 1 → group ≡ cond fixed 2 3 →
     first ≡ withAny places (member singles) plain m → out ≡ withEach (member leaders) holds group places first →
     out ≡ withBoth places (not skipped && eqb (factors places (member singles) (member leaders)) 1) (member singles) (member leaders) holds m
@@ -144,5 +144,5 @@ unfolding withBoth singlesMode groupMode
 level-both m first out singles leaders holds skipped one fixed plain group a b c d e f =
     let z : fixed ≡ (not skipped && eqb (factors places (member singles) (member leaders)) 1) = b ∙ ap (λ (x : Bool). not skipped && x) a in
     f
-    ∙ ap₂ (λ (g : ℕ) (o : Model). withEach (member leaders) holds g places o) d (e ∙ ap (λ (p : ℕ). withAny places (member singles) p m) c)
+    ∙ ap₂ (λ (g : ℕ) (o : Chain). withEach (member leaders) holds g places o) d (e ∙ ap (λ (p : ℕ). withAny places (member singles) p m) c)
     ∙ ap (λ (x : Bool). withEach (member leaders) holds (cond {A = ℕ} x 2 3) places (withAny places (member singles) (cond {A = ℕ} x 0 1) m)) z

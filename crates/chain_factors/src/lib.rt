@@ -10,7 +10,7 @@ ghost use Rattle.chain_levels.specs.Below.{anyBelow, countBelow};
 ghost use Rattle.chain_levels.specs.Chain.{factors, withAny, withEach, withBoth};
 ghost use Rattle.chain_groups.specs.Groups.{holdsIn};
 use chain_groups::group;
-use model::Model;
+use model::Chain;
 use nameset::NameSet;
 
 // Whether the set has just one name.
@@ -49,7 +49,7 @@ fn mode(fixed: bool, plain: u8, optional: u8) -> u8
 }
 
 // The record with the names of the set as one factor, if there are any.
-fn with_any(m: Model, names: NameSet, mode: u8) -> Model
+fn with_any(m: Chain, names: NameSet, mode: u8) -> Chain
     requires { ⌜ m .count + cond (anyBelow places (member names)) 1 0 ≤ places ⌝ }
     ensures { λ r. ⌜ r ≡ withAny places (member names) mode m ⌝ }
 {
@@ -61,7 +61,7 @@ fn with_any(m: Model, names: NameSet, mode: u8) -> Model
 }
 
 // The record with a factor for each loop group, in order of its smallest number.
-fn with_groups(m: Model, reach: &[u64], behind: &[u64], leaders: NameSet, mode: u8) -> Model
+fn with_groups(m: Chain, reach: &[u64], behind: &[u64], leaders: NameSet, mode: u8) -> Chain
     requires { ⌜ (m .count + countBelow places (member leaders) ≤ places) × IsRows places (now reach) × IsRows places (now behind) ⌝ }
     ensures { λ r. ⌜ r ≡ withEach (member leaders) (holdsIn (now (reach .entry)) (now (behind .entry))) mode places m ⌝ }
 {
@@ -78,13 +78,13 @@ fn with_groups(m: Model, reach: &[u64], behind: &[u64], leaders: NameSet, mode: 
 
 // The record with the factors of one level: its singles first, then its loop groups.
 pub fn with_level(
-    m: Model,
+    m: Chain,
     reach: &[u64],
     behind: &[u64],
     singles: NameSet,
     leaders: NameSet,
     skipped: bool,
-) -> Model
+) -> Chain
     requires { ⌜ (m .count + factors places (member singles) (member leaders) ≤ places) × IsRows places (now reach) × IsRows places (now behind) ⌝ }
     ensures { λ r. ⌜ r ≡ withBoth places (not skipped && eqb (factors places (member singles) (member leaders)) 1) (member singles) (member leaders) (holdsIn (now (reach .entry)) (now (behind .entry))) m ⌝ }
 {

@@ -4,8 +4,8 @@
 use Prim.Native.Nat.{ℕ}
 use mathlib.Core.Path.{_≡_, refl}
 use mathlib.Core.List.{List, [], _∷_}
-use Rattle.model.specs.declared.Model.{Model}
-use Rattle.model.specs.Record.{emptyModel}
+use Rattle.model.specs.declared.Chain.{Chain}
+use Rattle.model.specs.Record.{emptyChain}
 use Rattle.model.specs.Build.{entriesWith, withFactor}
 use Rattle.follow.specs.Follow.{followOf, someWord, beginsWith, endsWith, hasPair, isEmpty}
 use Rattle.chain_levels.specs.Below.{anyBelow, countBelow, firstBelow, largestBelow}
@@ -14,10 +14,10 @@ use Rattle.chain_levels.specs.Rank.{isBefore, levelBy, levelOf, lastLeve
 use Rattle.chain_levels.specs.Chain.{singleAt, leadsAt, factors, factorsAt, fixed, singlesMode, groupMode, withAny, withEach, withBoth, withLevel, chainTo, chainOf}
 
 -- The chain of words over the names 0, 1 and 2, as a record of three places.
-abbrev chain : List (List ℕ) → Model
+abbrev chain : List (List ℕ) → Chain
 chain words = chainOf 3 (followOf 3 words)
 
-abbrev model : ℕ → List ℕ → List ℕ → Model
+abbrev model : ℕ → List ℕ → List ℕ → Chain
 model count factor mode = record { count = count; factor = factor; mode = mode }
 
 -- With a, b and k for 0, 1 and 2: the samples kkb, a; kkb, aa; abak; and ab, k. Their models are (a?,k*,b?); (a*,k*,b?);
@@ -31,6 +31,6 @@ unfolding
     someWord beginsWith endsWith hasPair isEmpty
     anyBelow countBelow firstBelow largestBelow edge reachBy reaches sameGroup loops leads occurs isSingle
     isBefore levelBy levelOf lastLevel skipped
-    emptyModel entriesWith withFactor singleAt leadsAt factors factorsAt fixed singlesMode groupMode
+    emptyChain entriesWith withFactor singleAt leadsAt factors factorsAt fixed singlesMode groupMode
     withAny withEach withBoth withLevel chainTo chainOf
 samples = (refl, refl, refl, refl)

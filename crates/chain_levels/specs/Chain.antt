@@ -4,8 +4,8 @@
 use Prim.Native.Nat.{ℕ, zero, suc, _+_, _-_}
 use mathlib.Core.Bool.{Bool, cond, _&&_, not}
 use lib.Dec.{eqb}
-use Rattle.model.specs.declared.Model.{Model}
-use Rattle.model.specs.Record.{emptyModel}
+use Rattle.model.specs.declared.Chain.{Chain}
+use Rattle.model.specs.Record.{emptyChain}
 use Rattle.model.specs.Build.{withFactor}
 use Rattle.follow.specs.Follow.{Follow}
 use Rattle.chain_levels.specs.Below.{anyBelow, countBelow}
@@ -40,28 +40,28 @@ unfoldable pub groupMode : Bool → ℕ
 groupMode fixed = cond fixed 2 3
 
 -- "At each level the singles, if any, form one factor": the record m with the names of the set below n.
-unfoldable pub withAny : ℕ → (ℕ → Bool) → ℕ → Model → Model
+unfoldable pub withAny : ℕ → (ℕ → Bool) → ℕ → Chain → Chain
 withAny n names mode m = cond (anyBelow n names) (withFactor m names mode) m
 
 -- "Then each loop group is a factor of its own, in order of its smallest number": those with a smallest number below k.
-unfoldable pub withEach : (ℕ → Bool) → (ℕ → ℕ → Bool) → ℕ → ℕ → Model → Model
+unfoldable pub withEach : (ℕ → Bool) → (ℕ → ℕ → Bool) → ℕ → ℕ → Chain → Chain
 withEach leaders group mode zero m = m
 withEach leaders group mode (suc k) m =
     cond (leaders k) (withFactor (withEach leaders group mode k m) (group k) mode) (withEach leaders group mode k m)
 
 -- One level: its singles "stand first".
-unfoldable pub withBoth : ℕ → Bool → (ℕ → Bool) → (ℕ → Bool) → (ℕ → ℕ → Bool) → Model → Model
+unfoldable pub withBoth : ℕ → Bool → (ℕ → Bool) → (ℕ → Bool) → (ℕ → ℕ → Bool) → Chain → Chain
 withBoth n fixed singles leaders group m =
     withEach leaders group (groupMode fixed) n (withAny n singles (singlesMode fixed) m)
 
-unfoldable pub withLevel : Follow → ℕ → Model → Model
+unfoldable pub withLevel : Follow → ℕ → Chain → Chain
 withLevel f l m = withBoth (f .names) (fixed f l) (singleAt f l) (leadsAt f l) (sameGroup f) m
 
 -- Levels 1 to k.
-unfoldable pub chainTo : ℕ → Follow → ℕ → Model
-chainTo size f zero = emptyModel size
+unfoldable pub chainTo : ℕ → Follow → ℕ → Chain
+chainTo size f zero = emptyChain size
 chainTo size f (suc k) = withLevel f (suc k) (chainTo size f k)
 
 -- "Go through levels 1 to L - 1."
-unfoldable pub chainOf : ℕ → Follow → Model
+unfoldable pub chainOf : ℕ → Follow → Chain
 chainOf size f = chainTo size f (lastLevel f - 1)

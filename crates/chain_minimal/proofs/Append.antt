@@ -7,13 +7,13 @@ use native.Mathlib.Omega.{arith}
 use native.Mathlib.Decide.{decLt}
 use lib.ListN.{length, getD, length-set, List·getD-eq-default, length-replicate}
 use lib.Seq.{getD-set-same, getD-set-other}
-use Rattle.model.specs.declared.Model.{Model}
-use Rattle.model.specs.Record.{noFactor, factorOf, modeOf, emptyModel}
+use Rattle.model.specs.declared.Chain.{Chain}
+use Rattle.model.specs.Record.{noFactor, factorOf, modeOf, emptyChain}
 use Rattle.model.specs.Build.{entriesWith, withFactor}
 use Rattle.model.proofs.Empty.{replicate-at}
 use Rattle.model.proofs.Building.{entries-length, entries-at}
 
-module _ (m : Model) (holds : ℕ → Bool) (mode : ℕ) where
+module _ (m : Chain) (holds : ℕ → Bool) (mode : ℕ) where
   pub with-sizes : (length (withFactor m holds mode .factor) ≡ length (m .factor)) × (length (withFactor m holds mode .mode) ≡ length (m .mode))
   unfolding withFactor
   with-sizes = (entries-length holds (m .count) 0 (m .factor), length-set (m .mode) (m .count) mode)
@@ -48,18 +48,18 @@ module _ (m : Model) (holds : ℕ → Bool) (mode : ℕ) where
 -- ---- the empty model
 
 module _ (size : ℕ) where
-  pub empty-sizes : (length (emptyModel size .factor) ≡ size) × (length (emptyModel size .mode) ≡ size)
-  unfolding emptyModel
+  pub empty-sizes : (length (emptyChain size .factor) ≡ size) × (length (emptyChain size .mode) ≡ size)
+  unfolding emptyChain
   empty-sizes = (length-replicate size noFactor, length-replicate size 0)
 
-  pub empty-count : emptyModel size .count ≡ 0
-  unfolding emptyModel
+  pub empty-count : emptyChain size .count ≡ 0
+  unfolding emptyChain
   empty-count = refl
 
-  pub empty-factor : (x : ℕ) → factorOf (emptyModel size) x ≡ noFactor
-  unfolding emptyModel factorOf
+  pub empty-factor : (x : ℕ) → factorOf (emptyChain size) x ≡ noFactor
+  unfolding emptyChain factorOf
   empty-factor x = replicate-at size x noFactor
 
-  pub empty-mode : (i : ℕ) → modeOf (emptyModel size) i ≡ 0
-  unfolding emptyModel modeOf
+  pub empty-mode : (i : ℕ) → modeOf (emptyChain size) i ≡ 0
+  unfolding emptyChain modeOf
   empty-mode i = replicate-at size i 0

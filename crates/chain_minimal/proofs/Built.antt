@@ -7,8 +7,8 @@ use mathlib.Core.Logic.{_⊎_, inl, inr, ⊎-elim, _↔_}
 use native.Mathlib.Omega.{arith}
 use native.Mathlib.Decide.{decLt, ℕ-discrete}
 use lib.ListN.{length}
-use Rattle.model.specs.declared.Model.{Model}
-use Rattle.model.specs.Record.{noFactor, factorOf, modeOf, IsChain, emptyModel}
+use Rattle.model.specs.declared.Chain.{Chain}
+use Rattle.model.specs.Record.{noFactor, factorOf, modeOf, IsChain, emptyChain}
 use Rattle.model.specs.Build.{withFactor}
 use Rattle.follow.specs.Follow.{Follow}
 use Rattle.chain_levels.specs.Below.{anyBelow}
@@ -28,7 +28,7 @@ abbrev Done : Follow → ℕ → ℕ → ℕ → Type 0
 Done f l g x = (occurs f x ≡ true) × ((levelOf f x < l) ⊎ ((levelOf f x ≡ l) × (groupNo f x < g)))
 
 -- The record has the factors of all levels below l, and of level l those with a number below g.
-record Built (f : Follow) (size l g : ℕ) (m : Model) : Type 0 where
+record Built (f : Follow) (size l g : ℕ) (m : Chain) : Type 0 where
   factors : length (m .factor) ≡ size
   modes : length (m .mode) ≡ size
   holds : (x : ℕ) → Done f l g x → factorOf m x < m .count
@@ -51,7 +51,7 @@ three-ways f x y = go (decLt (levelOf f x) (levelOf f y)) (decLt (levelOf f y) (
     go (no a) (no b) (no c) (no d) = inr (omega arith, omega arith)
 
 -- The same names are done.
-carry : (f : Follow) (size l g k h : ℕ) (m : Model) → ((x : ℕ) → Done f l g x ↔ Done f k h x) → Built f size l g m → Built f size k h m
+carry : (f : Follow) (size l g k h : ℕ) (m : Chain) → ((x : ℕ) → Done f l g x ↔ Done f k h x) → Built f size l g m → Built f size k h m
 carry f size l g k h m e b = record {
   factors = b .factors;
   modes = b .modes;
@@ -103,14 +103,14 @@ module _ (f : Follow) (l g x : ℕ) where
     not-among (o, a, b) (p, c, d) (inr e) = omega arith
 
 -- No name has the number g.
-skip : (f : Follow) (size l g : ℕ) (m : Model) → ((x : ℕ) → At f l g x → ⊥) → Built f size l g m → Built f size l (suc g) m
+skip : (f : Follow) (size l g : ℕ) (m : Chain) → ((x : ℕ) → At f l g x → ⊥) → Built f size l g m → Built f size l (suc g) m
 skip f size l g m none-there =
     carry f size l g l (suc g) m (λ x. (done-more f l g x, λ d. ⊎-elim (λ q. q) (λ a. absurd (none-there x a)) (done-split f l g x d)))
 
 -- The names with the number g form the next factor.
-module _ (f : Follow) (size l g : ℕ) (m : Model) (holds : ℕ → Bool) (mode : ℕ) (room : f .names ≤ size) (b : Built f size l g m)
+module _ (f : Follow) (size l g : ℕ) (m : Chain) (holds : ℕ → Bool) (mode : ℕ) (room : f .names ≤ size) (b : Built f size l g m)
     (same : (x : ℕ) → (holds x ≡ true) ↔ At f l g x) (first : ℕ) (there : At f l g first) (fits : (x : ℕ) → At f l g x → modeFor f x ≡ mode) where
-  next : Model
+  next : Chain
   next = withFactor m holds mode
 
   fresh : (x : ℕ) → At f l g x → factorOf next x ≡ m .count
@@ -197,7 +197,7 @@ module _ (f : Follow) (size l g : ℕ) (m : Model) (holds : ℕ → Bool) (mode 
 -- ---- level by level
 
 module _ (f : Follow) (size : ℕ) (room : f .names ≤ size) where
-  singles-built : (l : ℕ) (m : Model) → Built f size l 0 m → Built f size l 1 (withAny (f .names) (singleAt f l) (singlesMode (fixed f l)) m)
+  singles-built : (l : ℕ) (m : Chain) → Built f size l 0 m → Built f size l 1 (withAny (f .names) (singleAt f l) (singlesMode (fixed f l)) m)
   unfolding withAny
   singles-built l m b = go (anyBelow (f .names) (singleAt f l)) refl
     where
@@ -213,12 +213,12 @@ module _ (f : Follow) (size : ℕ) (room : f .names ≤ size) where
           e)
           b
 
-  groups-built : (l k : ℕ) (m : Model) → Built f size l 1 m → Built f size l (suc k) (withEach (leadsAt f l) (sameGroup f) (groupMode (fixed f l)) k m)
+  groups-built : (l k : ℕ) (m : Chain) → Built f size l 1 m → Built f size l (suc k) (withEach (leadsAt f l) (sameGroup f) (groupMode (fixed f l)) k m)
   unfolding withEach
   groups-built l zero m b = b
   groups-built l (suc k) m b = go (leadsAt f l k) refl (withEach (leadsAt f l) (sameGroup f) (groupMode (fixed f l)) k m) (groups-built l k m b)
     where
-      go : (q : Bool) → leadsAt f l k ≡ q → (p : Model) → Built f size l (suc k) p →
+      go : (q : Bool) → leadsAt f l k ≡ q → (p : Chain) → Built f size l (suc k) p →
           Built f size l (suc (suc k)) (cond q (withFactor p (sameGroup f k) (groupMode (fixed f l))) p)
       go true e p ih =
           let a = leader-at f l k .0 e in
@@ -241,7 +241,7 @@ module _ (f : Follow) (size : ℕ) (room : f .names ≤ size) where
           go (yes q) = inl q
           go (no q) = inr (omega arith, omega (arith, number-low f x))
 
-  level-built : (l : ℕ) (m : Model) → Built f size l 0 m → Built f size (suc l) 0 (withLevel f l m)
+  level-built : (l : ℕ) (m : Chain) → Built f size l 0 m → Built f size (suc l) 0 (withLevel f l m)
   unfolding withLevel withBoth
   level-built l m b =
       carry f size l (suc (f .names)) (suc l) 0 _ (level-done l) (groups-built l (f .names) _ (singles-built l m b))
@@ -251,7 +251,7 @@ module _ (f : Follow) (size : ℕ) (room : f .names ≤ size) where
     nothing-done x (o, inl a) = omega (arith, low f s x (occurs-is f x .0 o))
     nothing-done x (o, inr a) = omega arith
 
-    start-built : Built f size 1 0 (emptyModel size)
+    start-built : Built f size 1 0 (emptyChain size)
     start-built = record {
       factors = empty-sizes size .0;
       modes = empty-sizes size .1;

@@ -5,7 +5,7 @@ use mathlib.Core.Path.{_≡_}
 use mathlib.Core.List.{List, [], List·Memᴰ}
 use mathlib.Core.Logic.{_⊎_, ⊎-elim}
 use lib.ListN.{length}
-use Rattle.model.specs.declared.Model.{Model}
+use Rattle.model.specs.declared.Chain.{Chain}
 use Rattle.model.specs.Record.{noFactor, IsChain}
 use Rattle.model.specs.Accept.{Accepts, Names}
 use Rattle.model_language.specs.Word.{Fact, AcceptsAll}
@@ -19,7 +19,7 @@ use Rattle.chain_minimal.proofs.Main as Main
 module _ (size n : ℕ) (room : n ≤ size) (small : size ≤ noFactor)
     (words : List (List ℕ)) (names : (w : List ℕ) → List·Memᴰ w words → Names n w) (some : ¬ (words ≡ [])) where
   -- Our model: the chain that is built level by level from the words' follow facts.
-  abbrev ours : Model
+  abbrev ours : Chain
   ours = chainOf size (followOf n words)
 
   -- It is a chain over the n names.
@@ -30,7 +30,7 @@ module _ (size n : ℕ) (room : n ≤ size) (small : size ≤ noFactor)
   pub is-placed : Placed (Fact words) ours
   is-placed = Main.is-placed size n room small words names some
 
-  pub only-placed : (m : Model) → IsChain size n m → Placed (Fact words) m → m ≡ ours
+  pub only-placed : (m : Chain) → IsChain size n m → Placed (Fact words) m → m ≡ ours
   only-placed = Main.only-placed size n room small words names some
 
   -- It accepts every one of the words.
@@ -39,11 +39,11 @@ module _ (size n : ℕ) (room : n ≤ size) (small : size ≤ noFactor)
 
   -- Every chain over the n names that accepts every one of the words is ours, or accepts a word, handed over here, that
   -- ours does not accept: a word over n names, of at most one name more than that chain has factors.
-  pub same-or-more : (m : Model) → IsChain size n m → AcceptsAll m words →
+  pub same-or-more : (m : Chain) → IsChain size n m → AcceptsAll m words →
       (m ≡ ours) ⊎ ((w : List ℕ) × Accepts m w × (¬ Accepts ours w) × (length w ≤ m .count + 1) × Names n w)
   same-or-more = Main.same-or-more size n room small words names some
 
   -- So every other one accepts such a word.
-  pub other-accepts-more : (m : Model) → IsChain size n m → AcceptsAll m words → ¬ (m ≡ ours) →
+  pub other-accepts-more : (m : Chain) → IsChain size n m → AcceptsAll m words → ¬ (m ≡ ours) →
       (w : List ℕ) × Accepts m w × (¬ Accepts ours w) × (length w ≤ m .count + 1) × Names n w
   other-accepts-more m c a d = ⊎-elim (λ e. absurd (d e)) (λ w. w) (same-or-more m c a)

@@ -6,7 +6,7 @@ use mathlib.Core.Bool.{Bool, true, false}
 use mathlib.Core.Logic.{_⊎_, inl, inr, ⊎-elim, _↔_}
 use native.Mathlib.Omega.{arith}
 use native.Mathlib.Decide.{decLt, ℕ-discrete}
-use Rattle.model.specs.declared.Model.{Model}
+use Rattle.model.specs.declared.Chain.{Chain}
 use Rattle.model.specs.Record.{factorOf, modeOf, IsChain}
 use Rattle.model_language.specs.Word.{Point, start, name, end}
 use Rattle.model_language.specs.Reach.{Reach}
@@ -57,7 +57,7 @@ module _ (f : Follow) (s : Sampled f) where
       go (y, u, inl q, g, m) = (u, subst (λ (z : ℕ). steps f u (name z)) (sym q) g, m)
       go (y, u, inr q, g, m) = absurd (both-ways (loops f x) (group-loops f x y q) e)
 
-  module _ (size n : ℕ) (d : Model) (c : IsChain size n d) (p : Arranged f d) where
+  module _ (size n : ℕ) (d : Chain) (c : IsChain size n d) (p : Arranged f d) where
     on-d : (u : Point) → Present f u → Held d u
     on-d start a = tt
     on-d (name x) a = p .held x .1 a

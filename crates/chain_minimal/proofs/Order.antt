@@ -6,10 +6,10 @@ use mathlib.Core.Logic.{⊎-elim}
 use native.Mathlib.Omega.{arith}
 use native.Mathlib.Decide.{decLt}
 use lib.Seq.{ext-getD}
-use Rattle.model.specs.declared.Model.{Model}
+use Rattle.model.specs.declared.Chain.{Chain}
 use Rattle.model.specs.Record.{noFactor, factorOf, modeOf, IsChain}
 
-module _ (size n : ℕ) (m : Model) (c : IsChain size n m) where
+module _ (size n : ℕ) (m : Chain) (c : IsChain size n m) where
   pub named : (i : ℕ) → i < m .count → (x : ℕ) × (factorOf m x ≡ i)
   named i l = let q = c .named i l in (q .0, q .2)
 
@@ -21,15 +21,15 @@ module _ (size n : ℕ) (m : Model) (c : IsChain size n m) where
       go (no l) = c .others x (omega arith)
 
 -- Every name that a holds is one that b holds.
-abbrev pub Holds : Model → Model → Type 0
+abbrev pub Holds : Chain → Chain → Type 0
 Holds a b = (x : ℕ) → factorOf a x < a .count → factorOf b x < b .count
 
 -- Names that a holds in one order b has in that order.
-abbrev pub Keeps : Model → Model → Type 0
+abbrev pub Keeps : Chain → Chain → Type 0
 Keeps a b = (x y : ℕ) → factorOf a x < a .count → factorOf a y < a .count → factorOf a x < factorOf a y → factorOf b x < factorOf b y
 
 -- An order that is kept does not lower a place.
-no-lower : (size n : ℕ) (a b : Model) → IsChain size n a → Keeps a b → (k x : ℕ) → factorOf a x < a .count → factorOf a x ≡ k → k ≤ factorOf b x
+no-lower : (size n : ℕ) (a b : Chain) → IsChain size n a → Keeps a b → (k x : ℕ) → factorOf a x < a .count → factorOf a x ≡ k → k ≤ factorOf b x
 no-lower size n a b c keeps zero x h e = omega arith
 no-lower size n a b c keeps (suc k) x h e =
     let z = named size n a c k (omega arith) in
@@ -37,7 +37,7 @@ no-lower size n a b c keeps (suc k) x h e =
     omega (arith, no-lower size n a b c keeps k (z .0) (omega arith) p, keeps (z .0) x (omega arith) h (omega arith))
 
 -- A chain whose names another holds at the same places has no more factors.
-fewer : (size n : ℕ) (a b : Model) → IsChain size n a → Holds a b → ((x : ℕ) → factorOf a x < a .count → factorOf a x ≡ factorOf b x) → a .count ≤ b .count
+fewer : (size n : ℕ) (a b : Chain) → IsChain size n a → Holds a b → ((x : ℕ) → factorOf a x < a .count → factorOf a x ≡ factorOf b x) → a .count ≤ b .count
 fewer size n a b c holds same = go (decLt (b .count) (a .count))
   where
     go : Dec (b .count < a .count) → a .count ≤ b .count
@@ -47,7 +47,7 @@ fewer size n a b c holds same = go (decLt (b .count) (a .count))
         omega (arith, holds (z .0) (omega arith), same (z .0) (omega arith))
     go (no l) = omega arith
 
-module _ (size n : ℕ) (a b : Model) (ca : IsChain size n a) (cb : IsChain size n b) where
+module _ (size n : ℕ) (a b : Chain) (ca : IsChain size n a) (cb : IsChain size n b) where
   module _ (ab : Holds a b) (ba : Holds b a) (to : Keeps a b) (from : Keeps b a) where
     held-same : (x : ℕ) → factorOf a x < a .count → factorOf a x ≡ factorOf b x
     held-same x h = omega (arith, no-lower size n a b ca to (factorOf a x) x h refl, no-lower size n b a cb from (factorOf b x) x (ab x h) refl)

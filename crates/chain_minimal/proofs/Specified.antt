@@ -7,7 +7,7 @@ use mathlib.Core.List.{List, [], List·Memᴰ}
 use mathlib.Core.Logic.{_⊎_, inl, inr, _↔_}
 use native.Mathlib.Omega.{arith}
 use native.Mathlib.Decide.{ℕ-discrete}
-use Rattle.model.specs.declared.Model.{Model}
+use Rattle.model.specs.declared.Chain.{Chain}
 use Rattle.model.specs.Record.{factorOf, modeOf}
 use Rattle.model.specs.Accept.{Names}
 use Rattle.model_language.specs.Word.{Point, name, Fact}
@@ -175,7 +175,7 @@ module _ (n : ℕ) (words : List (List ℕ)) (names : (w : List ℕ) → List·M
 
   -- ---- the law
 
-  module _ (m : Model) where
+  module _ (m : Chain) where
     to : Placed S m → Arranged f m
     to p =
         record {

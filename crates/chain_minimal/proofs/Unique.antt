@@ -6,7 +6,7 @@ use mathlib.Core.Bool.{Bool, true, false, cond}
 use mathlib.Core.Logic.{_⊎_, inl, inr, ⊎-elim}
 use native.Mathlib.Omega.{arith}
 use native.Mathlib.Decide.{decLt}
-use Rattle.model.specs.declared.Model.{Model}
+use Rattle.model.specs.declared.Chain.{Chain}
 use Rattle.model.specs.Record.{factorOf, modeOf, IsChain}
 use Rattle.model.proofs.Tests.{same-test}
 use Rattle.model_language.specs.Word.{Point, start, name, end}
@@ -23,20 +23,20 @@ use Rattle.chain_minimal.proofs.Order.{named, equal-counts, equal-facto
 -- ---- chains alone
 
 -- Two names, each ahead of the other, share a factor that repeats.
-ahead-both : (m : Model) (x y : ℕ) → Ahead m x y → Ahead m y x → (factorOf m x ≡ factorOf m y) × (repeats (modeOf m (factorOf m x)) ≡ true)
+ahead-both : (m : Chain) (x y : ℕ) → Ahead m x y → Ahead m y x → (factorOf m x ≡ factorOf m y) × (repeats (modeOf m (factorOf m x)) ≡ true)
 ahead-both m x y (inl a) (inl b) = absurd (omega arith)
 ahead-both m x y (inl a) (inr b) = absurd (omega arith)
 ahead-both m x y (inr a) b = a
 
 -- A step over factor i makes it optional.
-crosses : (m : Model) (u v : Point) (i : ℕ) → Step m u v → place m u < suc i → suc i < place m v → optional (modeOf m i) ≡ true
+crosses : (m : Chain) (u v : Point) (i : ℕ) → Step m u v → place m u < suc i → suc i < place m v → optional (modeOf m i) ≡ true
 crosses m u v i s h k = go (s .way)
   where
     go : Over m u v ⊎ Repeat m u v → optional (modeOf m i) ≡ true
     go (inl o) = o .free i (omega arith) k
     go (inr t) = absurd (omega arith)
 
-module _ (size n : ℕ) (m : Model) (c : IsChain size n m) where
+module _ (size n : ℕ) (m : Chain) (c : IsChain size n m) where
   -- An optional factor is stepped over.
   stepped : (i : ℕ) → i < m .count → optional (modeOf m i) ≡ true → (u : Point) × (v : Point) × Step m u v × (place m u ≡ i) × (place m v ≡ suc (suc i))
   stepped i h e = go (point m (named size n m c) i (omega arith)) (behind (decLt (suc i) (m .count)))
@@ -72,7 +72,7 @@ mode-same j k p q o r = sym (mode-of j p) ∙ ap₂ (λ (a b : Bool). cond a (co
 
 -- ---- the theorem
 
-module _ (size n : ℕ) (S : Point → Point → Type 0) (d r : Model) (cd : IsChain size n d) (cr : IsChain size n r) (t : Tight S d)
+module _ (size n : ℕ) (S : Point → Point → Type 0) (d r : Chain) (cd : IsChain size n d) (cr : IsChain size n r) (t : Tight S d)
     (lower : (u v : Point) → S u v → Step r u v) (upper : Includes r d) where
   -- 1. The same names are held.
   r-in-d : (x : ℕ) → factorOf r x < r .count → factorOf d x < d .count

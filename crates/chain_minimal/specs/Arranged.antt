@@ -5,7 +5,7 @@ use Prim.Native.Nat.{ℕ, suc, _<_}
 use mathlib.Core.Path.{_≡_}
 use mathlib.Core.Bool.{true, cond}
 use mathlib.Core.Logic.{_⊎_, _↔_}
-use Rattle.model.specs.declared.Model.{Model}
+use Rattle.model.specs.declared.Chain.{Chain}
 use Rattle.model.specs.Record.{factorOf, modeOf}
 use Rattle.follow.specs.Follow.{Follow}
 use Rattle.chain_levels.specs.Below.{firstBelow}
@@ -30,7 +30,7 @@ unfoldable pub modeFor : Follow → ℕ → ℕ
 modeFor f x = cond (loops f x) (groupMode (fixed f (levelOf f x))) (singlesMode (fixed f (levelOf f x)))
 
 -- The record is the chain that the levels give.
-pub record Arranged (f : Follow) (m : Model) : Type 0 where
+pub record Arranged (f : Follow) (m : Chain) : Type 0 where
   -- the names that occur have a factor, and no others
   pub held : (x : ℕ) → (factorOf m x < m .count) ↔ (occurs f x ≡ true)
   -- the factors stand in the levels' order

@@ -4,7 +4,7 @@
 use Prim.Native.Nat.{ℕ, _≤_, _<_}
 use mathlib.Core.Path.{_≡_}
 use mathlib.Core.Logic.{_⊎_, _↔_}
-use Rattle.model.specs.declared.Model.{Model}
+use Rattle.model.specs.declared.Chain.{Chain}
 use Rattle.model.specs.Record.{factorOf, modeOf}
 use Rattle.model_language.specs.Word.{Point, name}
 use Rattle.model_language.specs.Reach.{Reach}
@@ -51,7 +51,7 @@ pub record Fixed (S : Point → Point → Type 0) (l : ℕ) : Type 0 where
   pub alone : (x y : ℕ) → IsLevel S (name x) l → IsLevel S (name y) l → Together S x y
 
 -- The record m is the chain that the levels give.
-pub record Placed (S : Point → Point → Type 0) (m : Model) : Type 0 where
+pub record Placed (S : Point → Point → Type 0) (m : Chain) : Type 0 where
   -- the names that occur have a factor, and no others
   pub held : (x : ℕ) → (factorOf m x < m .count) ↔ Occurs S x
   -- two of them share a factor, or one comes before the other, as the levels say

@@ -4,14 +4,14 @@
 use Prim.Native.Nat.{ℕ, suc, _<_}
 use mathlib.Core.Path.{_≡_}
 use mathlib.Core.Bool.{true, false}
-use Rattle.model.specs.declared.Model.{Model}
+use Rattle.model.specs.declared.Chain.{Chain}
 use Rattle.model.specs.Record.{factorOf, modeOf}
 use Rattle.model_language.specs.Word.{Point, name}
 use Rattle.model_language.specs.Reach.{Reach}
 use Rattle.model_language.specs.Step.{optional, repeats, place, Step}
 
 -- S is the steps of the sample.
-pub record Tight (S : Point → Point → Type 0) (m : Model) : Type 0 where
+pub record Tight (S : Point → Point → Type 0) (m : Chain) : Type 0 where
   -- every step of the sample is a step of the chain
   pub sound : (u v : Point) → S u v → Step m u v
   -- every name that a factor holds occurs in the sample

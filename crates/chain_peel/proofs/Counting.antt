@@ -6,8 +6,8 @@ use mathlib.Core.Bool.{Bool, true, false, cond, _&&_, not}
 use native.Mathlib.Omega.{arith}
 use borrow.Author.Tests.{leb-true, le-leb}
 use lib.Dec.{eqb, leb}
-use Rattle.model.specs.declared.Model.{Model}
-use Rattle.model.specs.Record.{emptyModel}
+use Rattle.model.specs.declared.Chain.{Chain}
+use Rattle.model.specs.Record.{emptyChain}
 use Rattle.model.specs.Build.{withFactor}
 use Rattle.follow.specs.Follow.{Follow}
 use Rattle.chain_levels.specs.Below.{anyBelow, countBelow}
@@ -19,16 +19,16 @@ use Rattle.chain_levels.proofs.Below.{count-all, count-join, some-count}
 use Rattle.chain_peel.proofs.Peel.{leads-loops}
 
 -- the number of factors after one more, or none
-appended : (b : Bool) (m : Model) (holds : ℕ → Bool) (mode : ℕ) → cond b (withFactor m holds mode) m .count ≡ m .count + cond b 1 0
+appended : (b : Bool) (m : Chain) (holds : ℕ → Bool) (mode : ℕ) → cond b (withFactor m holds mode) m .count ≡ m .count + cond b 1 0
 unfolding withFactor
 appended true m holds mode = refl
 appended false m holds mode = omega arith
 
-pub any-count : (n : ℕ) (names : ℕ → Bool) (mode : ℕ) (m : Model) → withAny n names mode m .count ≡ m .count + cond (anyBelow n names) 1 0
+pub any-count : (n : ℕ) (names : ℕ → Bool) (mode : ℕ) (m : Chain) → withAny n names mode m .count ≡ m .count + cond (anyBelow n names) 1 0
 unfolding withAny
 any-count n names mode m = appended (anyBelow n names) m names mode
 
-pub each-count : (leaders : ℕ → Bool) (group : ℕ → ℕ → Bool) (mode k : ℕ) (m : Model) → withEach leaders group mode k m .count ≡ m .count + countBelow k leaders
+pub each-count : (leaders : ℕ → Bool) (group : ℕ → ℕ → Bool) (mode k : ℕ) (m : Chain) → withEach leaders group mode k m .count ≡ m .count + countBelow k leaders
 unfolding withEach countBelow
 each-count leaders group mode zero m = omega arith
 each-count leaders group mode (suc k) m = omega (arith, appended (leaders k) (withEach leaders group mode k m) (group k) mode, each-count leaders group mode k m)
@@ -69,7 +69,7 @@ module _ (f : Follow) where
 
   module _ (size : ℕ) where
     bound : (l : ℕ) → chainTo size f l .count ≤ countBelow (f .names) (upto l)
-    unfolding chainTo emptyModel withLevel withBoth
+    unfolding chainTo emptyChain withLevel withBoth
     bound zero = omega arith
     bound (suc l) =
         omega (

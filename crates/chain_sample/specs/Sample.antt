@@ -5,13 +5,13 @@
 use Prim.Native.Nat.{ℕ}
 use mathlib.Core.Bool.{Bool, _||_}
 use mathlib.Core.List.{List}
-use Rattle.model.specs.declared.Model.{Model}
+use Rattle.model.specs.declared.Chain.{Chain}
 use Rattle.follow.specs.Follow.{Follow, followOf}
 use Rattle.chain_levels.specs.Below.{anyBelow}
 use Rattle.chain_levels.specs.Chain.{chainOf}
 
 -- The chain that paper 01 gives to words over n names, as a record of `size` places (64 in paper 01: `places`).
-unfoldable pub chainOfWords : ℕ → ℕ → List (List ℕ) → Model
+unfoldable pub chainOfWords : ℕ → ℕ → List (List ℕ) → Chain
 chainOfWords size n words = chainOf size (followOf n words)
 
 -- The facts show a word: there is an empty one, or a name below `size` starts one. For the facts of words this is so

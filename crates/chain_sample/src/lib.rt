@@ -3,7 +3,7 @@ use follow_row::EMPTY;
 use follow_row::ENDS;
 use follow_row::FOLLOWS;
 use follow_row::STARTS;
-use model::Model;
+use model::Chain;
 use nameset::row_at;
 ghost use mathlib.Core.Path.{_≡_};
 ghost use Prim.Native.Nat.{ℕ, _≤_};
@@ -26,7 +26,7 @@ pub fn shows_word(row: &[u64]) -> bool
 }
 
 // The chain that the facts of a row give.
-pub fn row_chain(row: &[u64], n: usize) -> Model
+pub fn row_chain(row: &[u64], n: usize) -> Chain
     requires { ⌜ (n ≤ places) × OfWords n (now row) ⌝ }
     ensures { λ r. ⌜ r ≡ chainOf places (viewOf n (factsIn (now (row .entry)))) ⌝ }
 {

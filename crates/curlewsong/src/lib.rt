@@ -3,7 +3,7 @@
 use declaration_writing::Written;
 use intake::Acceptance;
 use intake::Inclusion;
-use model::Model;
+use model::Chain;
 ghost use mathlib.Core.Path.{_≡_};
 ghost use Rattle.curlewsong.specs.Reply.{verdict, inclusionOf, inclusionReply, lengthReply, RepliesModel, RepliesWord, RepliesWithin, RepliesWritten, RepliesSample, RepliesDtd, RepliesText};
 
@@ -11,7 +11,7 @@ ghost use Rattle.curlewsong.specs.Reply.{verdict, inclusionOf, inclusion
 #[repr(C)]
 pub struct ModelReply {
     pub refusal: u8,
-    pub model: Model,
+    pub model: Chain,
 }
 
 // A yes or no, or no and why.
@@ -41,7 +41,7 @@ pub struct LengthReply {
 pub struct TextReply {
     pub refusal: u8,
     pub parent: usize,
-    pub model: Model,
+    pub model: Chain,
 }
 
 fn verdict_of(answer: Acceptance) -> Verdict
@@ -109,7 +109,7 @@ pub extern "C" fn curlewsong_model_of_parent(book: &[u8], parent: usize) -> Mode
 
 // Whether a model over so many names accepts a word: 3, 10, 11.
 #[no_mangle]
-pub extern "C" fn curlewsong_accepts_word(names: usize, model: Model, word: &[u8]) -> Verdict
+pub extern "C" fn curlewsong_accepts_word(names: usize, model: Chain, word: &[u8]) -> Verdict
     ensures { λ r. ⌜ RepliesWord names model (now (word .entry)) r ⌝ }
 {
     verdict_of(intake::accepts_word(names, model, word))
@@ -119,8 +119,8 @@ pub extern "C" fn curlewsong_accepts_word(names: usize, model: Model, word: &[u8
 #[no_mangle]
 pub extern "C" fn curlewsong_within(
     names: usize,
-    first: Model,
-    second: Model,
+    first: Chain,
+    second: Chain,
     word: &mut [u8],
 ) -> InclusionReply
     ensures { λ r. ⌜ RepliesWithin names first second r (now (word .entry)) (now (word .exit)) ⌝ }
@@ -133,7 +133,7 @@ pub extern "C" fn curlewsong_within(
 pub extern "C" fn curlewsong_write_declaration(
     book: &[u8],
     parent: usize,
-    model: Model,
+    model: Chain,
     buffer: &mut [u8],
 ) -> LengthReply
     ensures { λ r. ⌜ RepliesWritten (now (book .entry)) parent model r (now (buffer .entry)) (now (buffer .exit)) ⌝ }

@@ -14,7 +14,7 @@ use Rattle.nameset.specs.declared.NameSet.{NameSet}
 use Rattle.nameset.specs.Set.{member, Sized, isEmpty, first, rest}
 use Rattle.nameset.specs.Promise.{Smallest}
 use Rattle.nameset.proofs.Laws.{member-rest, sized-rest, isEmpty-none, none-isEmpty, first-bound, first-least, first-in}
-use Rattle.model.specs.declared.Model.{Model}
+use Rattle.model.specs.declared.Chain.{Chain}
 use Rattle.model.specs.Record.{factorOf}
 use Rattle.declaration_spelling.specs.House.{members, nameAt, namesAt}
 use Rattle.byte_buffer.specs.Put.{shown}
@@ -82,7 +82,7 @@ more-than-one n s h w = go (isEmpty s) (isEmpty (rest s)) refl refl
 -- ---- the set of a factor's names
 
 -- the names of a factor as a list, each behind its lead
-pub names-leads : (names : List (List ℕ)) (m : Model) (i : ℕ) (many some : Bool) (k r : ℕ) → namesText names m i many some k r ≡ leads many some (namesAt names (members m i k r))
+pub names-leads : (names : List (List ℕ)) (m : Chain) (i : ℕ) (many some : Bool) (k r : ℕ) → namesText names m i many some k r ≡ leads many some (namesAt names (members m i k r))
 unfolding namesText leads namesAt members memberText
 names-leads names m i many some k zero = refl
 names-leads names m i many some k (suc r) = go (eqb (factorOf m k) i) (names-leads names m i many true (suc k) r) (names-leads names m i many some (suc k) r)
@@ -96,7 +96,7 @@ names-leads names m i many some k (suc r) = go (eqb (factorOf m k) i) (names-lea
         ∙ append-assoc (shown (leadByte many some)) (nameAt names k) (leads many true (namesAt names (members m i (suc k) r)))
     go false p q = q
 
-module _ (m : Model) (n i : ℕ) (s : NameSet) (holds : NamesOf m n i s) where
+module _ (m : Chain) (n i : ℕ) (s : NameSet) (holds : NamesOf m n i s) where
   pub names-within : MembersBelow n s
   names-within x e = go (decLt x n)
     where

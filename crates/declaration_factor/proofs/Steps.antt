@@ -7,7 +7,7 @@ use mathlib.Core.List.{List, [], _∷_, _++_}
 use lib.ListN.{length, getD}
 use Rattle.nameset.specs.declared.NameSet.{NameSet}
 use Rattle.nameset.specs.Set.{member, rest}
-use Rattle.model.specs.declared.Model.{Model}
+use Rattle.model.specs.declared.Chain.{Chain}
 use Rattle.model.specs.Record.{modeOf}
 use Rattle.declaration_spelling.specs.House.{nameAt, namesAt}
 use Rattle.byte_buffer.specs.Put.{Put, shown}
@@ -62,7 +62,7 @@ module _ (names : List (List ℕ)) (n : ℕ) (many : Bool) where
 
 -- ---- a factor, whose names are those of the set s
 
-module _ (names : List (List ℕ)) (n : ℕ) (m : Model) (i : ℕ) (s : NameSet) (holds : NamesOf m n i s) (many : Bool) (is : many ≡ manyIn n m i)
+module _ (names : List (List ℕ)) (n : ℕ) (m : Chain) (i : ℕ) (s : NameSet) (holds : NamesOf m n i s) (many : Bool) (is : many ≡ manyIn n m i)
     (d : List ℕ) (at : ℕ) (fits : at + length (partText names n m i) ≤ length d) where
   begun : Left d at (partText names n m i) d at (setText names n s many false ++ (shown (closeByte many) ++ shown (modeByte (modeOf m i))))
   unfolding partText

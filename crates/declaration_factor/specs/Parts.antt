@@ -9,7 +9,7 @@ use lib.Dec.{eqb, ltb}
 use lib.ListN.{length}
 use Rattle.nameset.specs.declared.NameSet.{NameSet}
 use Rattle.nameset.specs.Set.{member}
-use Rattle.model.specs.declared.Model.{Model}
+use Rattle.model.specs.declared.Chain.{Chain}
 use Rattle.model.specs.Record.{factorOf, modeOf}
 use Rattle.declaration_spelling.specs.Token.{markByte}
 use Rattle.declaration_spelling.specs.House.{members, nameAt, namesAt, opening, emptyWord}
@@ -41,7 +41,7 @@ unfoldable pub memberText : Bool → ℕ → List ℕ → List ℕ
 memberText here lead name = cond here (shown lead ++ name) []
 
 -- The names of factor i among the r numbers from k on; `some` says whether one stands before them.
-unfoldable pub namesText : List (List ℕ) → Model → ℕ → Bool → Bool → ℕ → ℕ → List ℕ
+unfoldable pub namesText : List (List ℕ) → Chain → ℕ → Bool → Bool → ℕ → ℕ → List ℕ
 namesText names m i many some k zero = []
 namesText names m i many some k (suc r) =
     memberText (eqb (factorOf m k) i) (leadByte many some) (nameAt names k) ++ namesText names m i many (eqb (factorOf m k) i || some) (suc k) r
@@ -66,23 +66,23 @@ unfoldable pub setText : List (List ℕ) → ℕ → NameSet → Bool → Bool �
 setText names n s many some = leads many some (namesAt names (rising s 0 n))
 
 -- Whether factor i holds more than one of the n names.
-unfoldable pub manyIn : ℕ → Model → ℕ → Bool
+unfoldable pub manyIn : ℕ → Chain → ℕ → Bool
 manyIn n m i = ltb 1 (length (members m i 0 n))
 
 -- Factor i of a record over n names, with its mark.
-unfoldable pub partText : List (List ℕ) → ℕ → Model → ℕ → List ℕ
+unfoldable pub partText : List (List ℕ) → ℕ → Chain → ℕ → List ℕ
 partText names n m i =
     namesText names m i (manyIn n m i) false 0 n ++ (shown (closeByte (manyIn n m i)) ++ shown (modeByte (modeOf m i)))
 
 -- The r factors from factor i on, each behind its bracket or comma.
-unfoldable pub factorsText : List (List ℕ) → ℕ → Model → ℕ → ℕ → List ℕ
+unfoldable pub factorsText : List (List ℕ) → ℕ → Chain → ℕ → ℕ → List ℕ
 factorsText names n m i zero = []
 factorsText names n m i (suc r) = shown (beforeByte i) ++ (partText names n m i ++ factorsText names n m (suc i) r)
 
 -- The model.
-unfoldable pub modelText : List (List ℕ) → ℕ → Model → List ℕ
+unfoldable pub modelText : List (List ℕ) → ℕ → Chain → List ℕ
 modelText names n m = cond (eqb (m .count) 0) emptyWord (factorsText names n m 0 (m .count) ++ shown 41)
 
 -- The declaration, over n names.
-unfoldable pub textOf : List (List ℕ) → ℕ → ℕ → Model → List ℕ
+unfoldable pub textOf : List (List ℕ) → ℕ → ℕ → Chain → List ℕ
 textOf names n p m = (opening ++ (32 ∷ [])) ++ (nameAt names p ++ (shown 32 ++ (modelText names n m ++ shown 62)))

@@ -2,7 +2,7 @@
 use book::Layout;
 use byte_buffer::put_all;
 use byte_buffer::put_some;
-use model::Model;
+use model::Chain;
 use nameset::NameSet;
 use nameset::PLACES;
 ghost use mathlib.Core.Path.{_≡_};
@@ -18,7 +18,7 @@ ghost use Rattle.model_factors.specs.Names.{NamesOf};
 ghost use Rattle.declaration_factor.specs.Parts.{leadByte, closeByte, modeByte, MembersBelow, setText, partText};
 
 // The mode of factor i.
-fn mode_of(m: Model, i: usize) -> u8
+fn mode_of(m: Chain, i: usize) -> u8
     ensures { λ r. ⌜ r ≡ modeOf m i ⌝ }
 {
     let mode = m.mode;
@@ -94,7 +94,7 @@ pub fn put_factor(
     at: usize,
     bytes: &[u8],
     layout: Layout,
-    m: Model,
+    m: Chain,
     i: usize,
     names: NameSet,
 ) -> usize

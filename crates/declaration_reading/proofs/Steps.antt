@@ -21,8 +21,8 @@ use Rattle.book.specs.declared.Found.{Found}
 use Rattle.book.specs.declared.Found.the-variants.{At, Nothing}
 use Rattle.book.specs.Book.{namesIn}
 use Rattle.book.specs.Access.{LaidOut, numberIn}
-use Rattle.model.specs.declared.Model.{Model}
-use Rattle.model.specs.Record.{noFactor, emptyModel}
+use Rattle.model.specs.declared.Chain.{Chain}
+use Rattle.model.specs.Record.{noFactor, emptyChain}
 use Rattle.declaration_scan.specs.declared.Piece.{Piece}
 use Rattle.declaration_scan.specs.Piece.{pieceAt}
 use Rattle.declaration_spelling.specs.Kind.{wordKind, commaKind}
@@ -232,7 +232,7 @@ module _ (names : List (List ℕ)) (s : List ℕ) (at parent i index : ℕ) (fac
 
 -- ---- the model
 
-pub refused-is : (f : Refusal) (m : Model) → m ≡ emptyModel places → record { outcome = Refused f; parent = 0; model = m } ≡ declarationOf (refused f)
+pub refused-is : (f : Refusal) (m : Chain) → m ≡ emptyChain places → record { outcome = Refused f; parent = 0; model = m } ≡ declarationOf (refused f)
 unfolding declarationOf parentDue modelDue
 refused-is f m e = rw e
 
@@ -240,7 +240,7 @@ module _ (names : List (List ℕ)) (s : List ℕ) (at parent : ℕ) (p : Piece) 
   word-at : beginsWithWord (tokensAt s at) ≡ eqb (p .kind) wordKind
   word-at = rw is (word-next s at)
 
-  pub model-empty : (m : Model) → p .kind ≡ wordKind → m ≡ emptyModel places → record { outcome = Done; parent = parent; model = m } ≡ declarationOf (contentAnswer places names parent (tokensAt s at))
+  pub model-empty : (m : Chain) → p .kind ≡ wordKind → m ≡ emptyChain places → record { outcome = Done; parent = parent; model = m } ≡ declarationOf (contentAnswer places names parent (tokensAt s at))
   unfolding contentAnswer declarationOf parentDue modelDue
   model-empty m e q = rw (word-at, e, q) refl
 

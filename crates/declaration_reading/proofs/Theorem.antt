@@ -19,9 +19,9 @@ use Rattle.book.specs.Book.{Book}
 use Rattle.book.specs.Taken.{takenBook, TakenAs}
 use Rattle.book.proofs.Taken.{taken-law, good-parent}
 use Rattle.book.proofs.Onward.{book-given, book-later, book-first, book-or-later}
-use Rattle.model.specs.declared.Model.{Model}
-use Rattle.model.specs.Record.{IsChain, emptyModel}
-use Rattle.model.proofs.Chain.{chain-law}
+use Rattle.model.specs.declared.Chain.{Chain}
+use Rattle.model.specs.Record.{IsChain, emptyChain}
+use Rattle.model.proofs.ChainLaw.{chain-law}
 use Rattle.declaration_spelling.specs.House.{declaration}
 use Rattle.declaration_spelling.specs.Length.{longestDeclaration}
 use Rattle.declaration_spelling.specs.Spelled.{Spelled}
@@ -99,7 +99,7 @@ module _ (s text : List ℕ) where
 -- ---- demand 2, declarations
 
 -- a chain of a parent that the book has is written
-written-for : (s : List ℕ) (b : Book) → TakenAs s b → (p : ℕ) (m : Model) (room : ℕ) → p < length (b .names) → IsChain places (length (b .names)) m → longestDeclaration ≤ room →
+written-for : (s : List ℕ) (b : Book) → TakenAs s b → (p : ℕ) (m : Chain) (room : ℕ) → p < length (b .names) → IsChain places (length (b .names)) m → longestDeclaration ≤ room →
     writeAnswer s p m room ≡ given (declaration (b .names) p m)
 unfolding writeAnswer writeIn fitted
 written-for s b q p m room l c h =
@@ -107,7 +107,7 @@ written-for s b q p m room l c h =
     rw (q, good-parent b p .1 l, chain-law places (length (b .names)) m .1 c, le-ltb room (length (declaration (b .names) p m)) (omega arith))
 
 module _ (s text : List ℕ) (r : Declaration) (call : ReadsDeclaration s text r) where
-  answered : (p : ℕ) (m : Model) → Reads r p m → readAnswer s text ≡ given (declared p m)
+  answered : (p : ℕ) (m : Chain) → Reads r p m → readAnswer s text ≡ given (declared p m)
   unfolding parentDue modelDue
   answered p m (o, a, b) =
       let (d, e) = outcome-given (readAnswer s text) .0 (sym (call .outcome) ∙ o) in
@@ -115,12 +115,12 @@ module _ (s text : List ℕ) (r : Declaration) (call : ReadsDeclaration s text r
       let y : d .model ≡ m = sym (call .model ∙ ap modelDue e) ∙ b in
       e ∙ (λ i. given (declared (x i) (y i)))
 
-  answers : (p : ℕ) (m : Model) → readAnswer s text ≡ given (declared p m) → Reads r p m
+  answers : (p : ℕ) (m : Chain) → readAnswer s text ≡ given (declared p m) → Reads r p m
   unfolding parentDue modelDue
   answers p m e = (call .outcome ∙ ap outcomeOf e, call .parent ∙ ap parentDue e, call .model ∙ ap modelDue e)
 
   -- A text is read exactly when it is a spelling of the declaration that is then written for what was read.
-  pub read-exactly : (p : ℕ) (m : Model) → Reads r p m ↔ ((b : Book) × TakenAs s b × Spelled places (b .names) text p m)
+  pub read-exactly : (p : ℕ) (m : Chain) → Reads r p m ↔ ((b : Book) × TakenAs s b × Spelled places (b .names) text p m)
   unfolding readAnswer next
   read-exactly p m =
       let h = book-given s (next s text) (declared p m) in (
@@ -136,14 +136,14 @@ module _ (s text : List ℕ) (r : Declaration) (call : ReadsDeclaration s text r
       (b, q, written-for s b q (r .parent) (r .model) room (S .parent) (S .chain) l)
 
   -- A refused call answers parent 0 and the empty model.
-  pub refused-due : (f : Refusal) → r .outcome ≡ Refused f → (r .parent ≡ 0) × (r .model ≡ emptyModel places)
+  pub refused-due : (f : Refusal) → r .outcome ≡ Refused f → (r .parent ≡ 0) × (r .model ≡ emptyChain places)
   unfolding parentDue modelDue
   refused-due f o =
       let e = outcome-refused (readAnswer s text) f .0 (sym (call .outcome) ∙ o) in
       (call .parent ∙ ap parentDue e, call .model ∙ ap modelDue e)
 
 -- What was written reads back as the same parent and record.
-pub read-written : (s : List ℕ) (p : ℕ) (m : Model) (room : ℕ) (text : List ℕ) → writeAnswer s p m room ≡ given text → (r : Declaration) → ReadsDeclaration s text r → Reads r p m
+pub read-written : (s : List ℕ) (p : ℕ) (m : Chain) (room : ℕ) (text : List ℕ) → writeAnswer s p m room ≡ given text → (r : Declaration) → ReadsDeclaration s text r → Reads r p m
 unfolding readAnswer next
 read-written s p m room text e r call =
     let g = text-given s p m room text e in

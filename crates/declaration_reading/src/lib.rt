@@ -2,7 +2,7 @@
 use book::Found;
 use book::Layout;
 use declaration_scan::WORD;
-use model::Model;
+use model::Chain;
 use model::NO_FACTOR;
 use nameset::PLACES;
 use refusal::Outcome;
@@ -28,7 +28,7 @@ const OPENING: usize = 9;
 pub struct Declaration {
     pub outcome: Outcome,
     pub parent: usize,
-    pub model: Model,
+    pub model: Chain,
 }
 
 // The answer of a refused call.
@@ -38,7 +38,7 @@ fn refused(refusal: Refusal) -> Declaration
     Declaration {
         outcome: Outcome::Refused(refusal),
         parent: 0,
-        model: Model::empty(),
+        model: Chain::empty(),
     }
 }
 
@@ -80,7 +80,7 @@ fn read_factors(bytes: &[u8], layout: Layout, text: &[u8], at: usize, parent: us
     Declaration {
         outcome: Outcome::Done,
         parent,
-        model: Model {
+        model: Chain {
             count: index + 1,
             factor,
             mode,
@@ -98,7 +98,7 @@ fn read_model(bytes: &[u8], layout: Layout, text: &[u8], at: usize, parent: usiz
         return Declaration {
             outcome: Outcome::Done,
             parent,
-            model: Model::empty(),
+            model: Chain::empty(),
         };
     }
     read_factors(bytes, layout, text, at, parent)

@@ -10,7 +10,7 @@ use native.Mathlib.Decide.{ℕ-discrete, decLt}
 use lib.Dec.{eqb}
 use lib.ListN.{length}
 use borrow.Author.Tests.{eq-eqb, ne-eqb}
-use Rattle.model.specs.declared.Model.{Model}
+use Rattle.model.specs.declared.Chain.{Chain}
 use Rattle.model.specs.Record.{factorOf, IsChain}
 use Rattle.declaration_spelling.specs.Token.{Token, word, lpar, rpar, comma, end, mark, markByte, spell, behind, room, Fits, Spells}
 use Rattle.declaration_spelling.specs.House.{Factor, members, factorsFrom, factorsOf, nameAt, named, emptyWord, markText, barsText, groupText, factorText, othersText, bodyText, houseText, declaration}
@@ -82,7 +82,7 @@ head-spelled w fs u s =
     }
 
 -- the members of a factor are its names, each once
-members-out : (m : Model) (i x r k : ℕ) → (x < k) ⊎ (k + r ≤ x) → times x (members m i k r) ≡ 0
+members-out : (m : Chain) (i x r k : ℕ) → (x < k) ⊎ (k + r ≤ x) → times x (members m i k r) ≡ 0
 unfolding members times
 members-out m i x zero k h = refl
 members-out m i x (suc r) k h = go (eqb (factorOf m k) i) (members-out m i x r (suc k) (shift h))
@@ -99,7 +99,7 @@ members-out m i x (suc r) k h = go (eqb (factorOf m k) i) (members-out m i x r (
     go true ih = rw (ne-eqb x k (apart-from h)) ih
     go false ih = ih
 
-members-in : (m : Model) (i x r k : ℕ) → k ≤ x → x < k + r → times x (members m i k r) ≡ cond (eqb (factorOf m x) i) 1 0
+members-in : (m : Chain) (i x r k : ℕ) → k ≤ x → x < k + r → times x (members m i k r) ≡ cond (eqb (factorOf m x) i) 1 0
 unfolding members times
 members-in m i x zero k h l = absurd (omega arith)
 members-in m i x (suc r) k h l = go (ℕ-discrete x k) (λ d. members-in m i x r (suc k) d (omega arith))
@@ -117,7 +117,7 @@ members-in m i x (suc r) k h l = go (ℕ-discrete x k) (λ d. members-in m i x r
     go (yes e) ih = rw e (here (eqb (factorOf m k) i) (members-out m i k r (suc k) (inl (omega arith))))
     go (no d) ih = further (eqb (factorOf m k) i) d ∙ ih (omega arith)
 
-module _ (size n : ℕ) (fits : size ≤ 255) (m : Model) (c : IsChain size n m) where
+module _ (size n : ℕ) (fits : size ≤ 255) (m : Chain) (c : IsChain size n m) where
   members-all : (i x : ℕ) → i < m .count → times x (members m i 0 n) ≡ cond (eqb (factorOf m x) i) 1 0
   members-all i x l = go (decLt x n)
     where
@@ -133,7 +133,7 @@ module _ (size n : ℕ) (fits : size ≤ 255) (m : Model) (c : IsChain size n m)
   house-order (suc r) i e = (omega arith, refl, λ x. members-all i x (omega arith), house-order r (suc i) (omega arith))
 
 -- the house spelling of a chain is a spelling of it
-pub house-spelled : (size : ℕ) (names : List (List ℕ)) (p : ℕ) (m : Model) → size ≤ 255 → p < length names → IsChain size (length names) m → Spelled size names (declaration names p m) p m
+pub house-spelled : (size : ℕ) (names : List (List ℕ)) (p : ℕ) (m : Chain) → size ≤ 255 → p < length names → IsChain size (length names) m → Spelled size names (declaration names p m) p m
 unfolding declaration factorsOf
 house-spelled size names p m fits l c =
     let n = length names in

@@ -10,7 +10,7 @@ use lib.ListN.{length, length-append}
 use borrow.Author.Tests.{eq-eqb, ne-eqb}
 use Rattle.nameset.specs.Places.{places}
 use Rattle.name.specs.Rule.{isName}
-use Rattle.model.specs.declared.Model.{Model}
+use Rattle.model.specs.declared.Chain.{Chain}
 use Rattle.model.specs.Record.{factorOf, IsChain}
 use Rattle.declaration_spelling.specs.House.{Factor, members, factorsFrom, factorsOf, nameAt, namesAt, named, opening, emptyWord, markText, barsText, groupText, factorText, othersText, bodyText, houseText, declaration}
 use Rattle.declaration_spelling.specs.Length.{longestDeclaration, markLength, namesLength, groupLength, factorsLength, bodyLength, declarationLength}
@@ -56,7 +56,7 @@ house-length : (parent : List ℕ) (fs : List (Factor (List ℕ))) → length (h
 unfolding houseText opening
 house-length parent fs = omega (arith, length-append parent (32 ∷ bodyText fs), body-length fs)
 
-pub declaration-length : (names : List (List ℕ)) (p : ℕ) (m : Model) → length (declaration names p m) ≡ declarationLength names p m
+pub declaration-length : (names : List (List ℕ)) (p : ℕ) (m : Chain) → length (declaration names p m) ≡ declarationLength names p m
 unfolding declaration declarationLength
 declaration-length names p m = house-length (nameAt names p) (named names (factorsOf m (length names)))
 
@@ -97,24 +97,24 @@ module _ (names : List (List ℕ)) (good : (x : ℕ) → x < length names → is
       omega (arith, g, a, c, mark-bound (f .mode), factors-bound fs bs u)
 
 -- a name stands in one factor only
-countFrom : Model → ℕ → ℕ → ℕ → ℕ → ℕ
+countFrom : Chain → ℕ → ℕ → ℕ → ℕ → ℕ
 countFrom m k s i zero = 0
 countFrom m k s i (suc r) = length (members m i k s) + countFrom m k s (suc i) r
 
-member-here : (m : Model) (i k s : ℕ) → factorOf m k ≡ i → length (members m i k (suc s)) ≡ suc (length (members m i (suc k) s))
+member-here : (m : Chain) (i k s : ℕ) → factorOf m k ≡ i → length (members m i k (suc s)) ≡ suc (length (members m i (suc k) s))
 unfolding members
 member-here m i k s e = rw (eq-eqb (factorOf m k) i e)
 
-member-not : (m : Model) (i k s : ℕ) → (factorOf m k ≡ i → ⊥) → length (members m i k (suc s)) ≡ length (members m i (suc k) s)
+member-not : (m : Chain) (i k s : ℕ) → (factorOf m k ≡ i → ⊥) → length (members m i k (suc s)) ≡ length (members m i (suc k) s)
 unfolding members
 member-not m i k s d = rw (ne-eqb (factorOf m k) i d)
 
-count-out : (m : Model) (k s i r : ℕ) → factorOf m k < i → countFrom m k (suc s) i r ≡ countFrom m (suc k) s i r
+count-out : (m : Chain) (k s i r : ℕ) → factorOf m k < i → countFrom m k (suc s) i r ≡ countFrom m (suc k) s i r
 unfolding countFrom
 count-out m k s i zero h = refl
 count-out m k s i (suc r) h = omega (arith, member-not m i k s (λ e. omega arith), count-out m k s (suc i) r (omega arith))
 
-count-more : (m : Model) (k s i r : ℕ) → countFrom m k (suc s) i r ≤ suc (countFrom m (suc k) s i r)
+count-more : (m : Chain) (k s i r : ℕ) → countFrom m k (suc s) i r ≤ suc (countFrom m (suc k) s i r)
 unfolding countFrom
 count-more m k s i zero = omega arith
 count-more m k s i (suc r) = go (ℕ-discrete (factorOf m k) i) (count-more m k s (suc i) r)
@@ -124,16 +124,16 @@ count-more m k s i (suc r) = go (ℕ-discrete (factorOf m k) i) (count-more m k 
     go (yes e) ih = omega (arith, member-here m i k s e, count-out m k s (suc i) r (omega arith))
     go (no d) ih = omega (arith, member-not m i k s d)
 
-count-none : (m : Model) (k i r : ℕ) → countFrom m k 0 i r ≡ 0
+count-none : (m : Chain) (k i r : ℕ) → countFrom m k 0 i r ≡ 0
 unfolding countFrom members
 count-none m k i zero = refl
 count-none m k i (suc r) = omega (arith, count-none m k (suc i) r)
 
-count-bound : (m : Model) (s k i r : ℕ) → countFrom m k s i r ≤ s
+count-bound : (m : Chain) (s k i r : ℕ) → countFrom m k s i r ≤ s
 count-bound m zero k i r = omega (arith, count-none m k i r)
 count-bound m (suc s) k i r = omega (arith, count-more m k s i r, count-bound m s (suc k) i r)
 
-count-is : (m : Model) (n i r : ℕ) → countNames (factorsFrom m n i r) ≡ countFrom m 0 n i r
+count-is : (m : Chain) (n i r : ℕ) → countNames (factorsFrom m n i r) ≡ countFrom m 0 n i r
 unfolding countNames factorsFrom countFrom
 count-is m n i zero = refl
 count-is m n i (suc r) = ap (λ (k : ℕ). length (members m i 0 n) + k) (count-is m n (suc i) r)
@@ -144,7 +144,7 @@ body-bound [] h = omega arith
 body-bound (f ∷ fs) h = omega arith
 
 -- "The longest has 2,253 bytes."
-pub longest-declaration : (names : List (List ℕ)) (p : ℕ) (m : Model) → length names ≤ places → ((x : ℕ) → x < length names → isName (nameAt names x) ≡ true)
+pub longest-declaration : (names : List (List ℕ)) (p : ℕ) (m : Chain) → length names ≤ places → ((x : ℕ) → x < length names → isName (nameAt names x) ≡ true)
     → p < length names → IsChain places (length names) m → length (declaration names p m) ≤ longestDeclaration
 unfolding declarationLength factorsOf
 longest-declaration names p m few good l c =

@@ -11,7 +11,7 @@ use native.Mathlib.Decide.{ℕ-discrete, decLt}
 use lib.Dec.{eqb, leb}
 use lib.ListN.{length, getD, List·getD-eq-default}
 use borrow.Author.Tests.{eq-eqb, eqb-true, le-leb, leb-true, ne-eqb}
-use Rattle.model.specs.declared.Model.{Model}
+use Rattle.model.specs.declared.Chain.{Chain}
 use Rattle.model.specs.Record.{factorOf, modeOf, IsChain}
 use Rattle.declaration_spelling.specs.House.{Factor}
 use Rattle.declaration_spelling.specs.Spelled.{times, Reordered}
@@ -107,7 +107,7 @@ mode-beyond (f ∷ fs) zero h = absurd (omega arith)
 mode-beyond (f ∷ fs) (suc k) h = mode-beyond fs k (le-of-suc-le-suc h)
 
 -- from a chain to its factors in any order, and back
-module _ (size n : ℕ) (fits : size ≤ 255) (m : Model) (c : IsChain size n m) where
+module _ (size n : ℕ) (fits : size ≤ 255) (m : Chain) (c : IsChain size n m) where
   held-below : (i x : ℕ) → i < m .count → factorOf m x ≡ i → x < n
   held-below i x l e = go (decLt x n)
     where
@@ -256,10 +256,10 @@ many n (f ∷ fs) ((y, ys, e), k) (b, bs) =
     omega (arith, many n fs k bs, sum-lt n (λ x. total x fs) (λ x. times x (f .names) + total x fs) (λ x. omega arith) y (p .0) (omega arith))
 
 -- what is known of x before the factors gs, the first of which is factor i
-abbrev Seen : Model → ℕ → List (Factor ℕ) → ℕ → Type 0
+abbrev Seen : Chain → ℕ → List (Factor ℕ) → ℕ → Type 0
 Seen m i gs x = (total x gs ≤ 1) × ((factorOf m x ≡ placeFrom i gs x) ⊎ ((total x gs ≡ 0) × (factorOf m x < i)))
 
-seen-on : (m : Model) (i x : ℕ) (g : Factor ℕ) (gs : List (Factor ℕ)) → Seen m i (g ∷ gs) x → Seen m (suc i) gs x
+seen-on : (m : Chain) (i x : ℕ) (g : Factor ℕ) (gs : List (Factor ℕ)) → Seen m i (g ∷ gs) x → Seen m (suc i) gs x
 unfolding total placeFrom
 seen-on m i x g gs (l, h) = (omega arith, go (times x (g .names)) refl l h)
   where
@@ -271,7 +271,7 @@ seen-on m i x g gs (l, h) = (omega arith, go (times x (g .names)) refl l h)
         inr (omega arith, omega arith)
     go t e b (inr p) = inr (omega arith, omega arith)
 
-seen-here : (m : Model) (i x : ℕ) (g : Factor ℕ) (gs : List (Factor ℕ)) → suc i + length gs ≤ 255 → Seen m i (g ∷ gs) x → times x (g .names) ≡ cond (eqb (factorOf m x) i) 1 0
+seen-here : (m : Chain) (i x : ℕ) (g : Factor ℕ) (gs : List (Factor ℕ)) → suc i + length gs ≤ 255 → Seen m i (g ∷ gs) x → times x (g .names) ≡ cond (eqb (factorOf m x) i) 1 0
 unfolding total placeFrom
 seen-here m i x g gs f (l, h) = go (times x (g .names)) refl l h
   where
@@ -288,7 +288,7 @@ seen-here m i x g gs f (l, h) = go (times x (g .names)) refl l h
         let w : times x (g .names) ≡ 0 = omega arith in
         w ∙ sym (elsewhere (factorOf m x) i (λ z. omega arith))
 
-reorder : (m : Model) (i : ℕ) (gs : List (Factor ℕ)) → i + length gs ≡ m .count → m .count ≤ 255 → ((x : ℕ) → Seen m i gs x) → ((k : ℕ) → modeOf m (i + k) ≡ modeAt gs k) → Reordered m i gs
+reorder : (m : Chain) (i : ℕ) (gs : List (Factor ℕ)) → i + length gs ≡ m .count → m .count ≤ 255 → ((x : ℕ) → Seen m i gs x) → ((k : ℕ) → modeOf m (i + k) ≡ modeAt gs k) → Reordered m i gs
 unfolding modeAt
 reorder m i [] e f h k = omega arith
 reorder m i (g ∷ gs) e f h k = (
@@ -299,7 +299,7 @@ reorder m i (g ∷ gs) e f h k = (
 )
 
 -- a factor has a name and a mode
-order-used : (n : ℕ) (m : Model) (i : ℕ) (gs : List (Factor ℕ)) → Reordered m i gs → Full gs → AllBelow n gs → Small gs → (j : ℕ) → i ≤ j → j < m .count
+order-used : (n : ℕ) (m : Chain) (i : ℕ) (gs : List (Factor ℕ)) → Reordered m i gs → Full gs → AllBelow n gs → Small gs → (j : ℕ) → i ≤ j → j < m .count
     → ((x : ℕ) × (x < n) × (factorOf m x ≡ j)) × (modeOf m j ≤ 3)
 order-used n m i [] r f b s j h l = absurd (omega arith)
 order-used n m i (g ∷ gs) (c, e, t, r) ((y, ys, q), f) (b, bs) (s, ss) j h l = go (ℕ-discrete j i) (λ p. order-used n m (suc i) gs r f bs ss j p l)

@@ -5,7 +5,7 @@ use mathlib.Core.Bool.{Bool, true, cond, _&&_}
 use mathlib.Core.List.{List, [], _∷_}
 use lib.Dec.{eqb, leb}
 use lib.ListN.{length}
-use Rattle.model.specs.declared.Model.{Model}
+use Rattle.model.specs.declared.Chain.{Chain}
 use Rattle.model.specs.Record.{noFactor}
 use Rattle.declaration_spelling.specs.House.{Factor}
 use Rattle.declaration_spelling.specs.Spelled.{times}
@@ -67,5 +67,5 @@ modeAt (f ∷ fs) zero = f .mode
 modeAt (f ∷ fs) (suc i) = modeAt fs i
 
 -- the record with these factors, in `size` places
-abbrev pub recordOf : ℕ → List (Factor ℕ) → Model
+abbrev pub recordOf : ℕ → List (Factor ℕ) → Chain
 recordOf size fs = record { count = length fs; factor = valuesFrom 0 size (placeFrom 0 fs); mode = valuesFrom 0 size (modeAt fs) }

@@ -7,7 +7,7 @@ use mathlib.Core.Bool.{cond}
 use mathlib.Core.List.{List, [], _∷_, _++_}
 use lib.Dec.{eqb}
 use lib.ListN.{length, getD}
-use Rattle.model.specs.declared.Model.{Model}
+use Rattle.model.specs.declared.Chain.{Chain}
 use Rattle.model.specs.Record.{factorOf, modeOf}
 use Rattle.declaration_spelling.specs.Token.{markByte}
 
@@ -17,17 +17,17 @@ pub record Factor (A : Type 0) : Type 0 where
   pub mode : ℕ
 
 -- Of the r numbers from k on, those that factor i holds, rising.
-unfoldable pub members : Model → ℕ → ℕ → ℕ → List ℕ
+unfoldable pub members : Chain → ℕ → ℕ → ℕ → List ℕ
 members m i k zero = []
 members m i k (suc r) = cond (eqb (factorOf m k) i) (k ∷ members m i (suc k) r) (members m i (suc k) r)
 
 -- The r factors from factor i on, over n names.
-unfoldable pub factorsFrom : Model → ℕ → ℕ → ℕ → List (Factor ℕ)
+unfoldable pub factorsFrom : Chain → ℕ → ℕ → ℕ → List (Factor ℕ)
 factorsFrom m n i zero = []
 factorsFrom m n i (suc r) = record { names = members m i 0 n; mode = modeOf m i } ∷ factorsFrom m n (suc i) r
 
 -- All factors of the record.
-unfoldable pub factorsOf : Model → ℕ → List (Factor ℕ)
+unfoldable pub factorsOf : Chain → ℕ → List (Factor ℕ)
 factorsOf m n = factorsFrom m n 0 (m .count)
 
 -- The bytes of name x.
@@ -89,5 +89,5 @@ unfoldable pub houseText : List ℕ → List (Factor (List ℕ)) → List ℕ
 houseText parent factors = opening ++ (32 ∷ (parent ++ (32 ∷ bodyText factors)))
 
 -- The canonical form of the declaration of the record m for the parent p.
-unfoldable pub declaration : List (List ℕ) → ℕ → Model → List ℕ
+unfoldable pub declaration : List (List ℕ) → ℕ → Chain → List ℕ
 declaration names p m = houseText (nameAt names p) (named names (factorsOf m (length names)))

@@ -4,7 +4,7 @@
 use Prim.Native.Nat.{ℕ, zero, suc, _+_}
 use mathlib.Core.List.{List, [], _∷_}
 use lib.ListN.{length}
-use Rattle.model.specs.declared.Model.{Model}
+use Rattle.model.specs.declared.Chain.{Chain}
 use Rattle.declaration_spelling.specs.House.{Factor, factorsOf, nameAt, named}
 
 -- Paper 01: "The longest has 2,253 bytes."
@@ -37,5 +37,5 @@ bodyLength [] = 6
 bodyLength (f ∷ fs) = 2 + factorsLength (f ∷ fs)
 
 -- `<!ELEMENT` and two spaces have 11 bytes
-unfoldable pub declarationLength : List (List ℕ) → ℕ → Model → ℕ
+unfoldable pub declarationLength : List (List ℕ) → ℕ → Chain → ℕ
 declarationLength names p m = 11 + length (nameAt names p) + bodyLength (named names (factorsOf m (length names)))

@@ -9,7 +9,7 @@ use mathlib.Core.List.{List, [], _∷_, _++_}
 use mathlib.Core.Logic.{_⊎_}
 use lib.Dec.{eqb}
 use lib.ListN.{length}
-use Rattle.model.specs.declared.Model.{Model}
+use Rattle.model.specs.declared.Chain.{Chain}
 use Rattle.model.specs.Record.{factorOf, modeOf, IsChain}
 use Rattle.declaration_spelling.specs.Token.{Token, word, lpar, rpar, comma, bar, end, mark, Spells}
 use Rattle.declaration_spelling.specs.House.{Factor, nameAt, named, opening, emptyWord}
@@ -68,14 +68,14 @@ times x (y ∷ ys) = cond (eqb x y) (suc (times x ys)) (times x ys)
 
 -- These are the factors of m from factor i on, each with its names in any order: a name of the factor stands there
 -- once, any other never.
-abbrev pub Reordered : Model → ℕ → List (Factor ℕ) → Type 0
+abbrev pub Reordered : Chain → ℕ → List (Factor ℕ) → Type 0
 Reordered m i [] = i ≡ m .count
 Reordered m i (f ∷ fs) =
     (i < m .count) × (f .mode ≡ modeOf m i) × ((x : ℕ) → times x (f .names) ≡ cond (eqb (factorOf m x) i) 1 0) × Reordered m (suc i) fs
 
 -- The text is a spelling of the declaration of the record m, a chain over the names, for the parent p.
 -- `size` is the number of places of a record, 64 in paper 01.
-pub record Spelled (size : ℕ) (names : List (List ℕ)) (text : List ℕ) (p : ℕ) (m : Model) : Type 0 where
+pub record Spelled (size : ℕ) (names : List (List ℕ)) (text : List ℕ) (p : ℕ) (m : Chain) : Type 0 where
   pub parent : p < length names
   pub chain : IsChain size (length names) m
   pub factors : List (Factor ℕ)

@@ -6,7 +6,7 @@ use mathlib.Core.List.{List, [], _∷_, _++_}
 use native.Mathlib.Omega.{arith}
 use lib.ListN.{length}
 use borrow.Author.Tests.{ne-eqb}
-use Rattle.model.specs.declared.Model.{Model}
+use Rattle.model.specs.declared.Chain.{Chain}
 use Rattle.declaration_spelling.specs.House.{nameAt, opening, emptyWord}
 use Rattle.byte_buffer.specs.Put.{Put, shown}
 use Rattle.byte_buffer.proofs.Puts.{Left, left-start, left-is, left-put, left-room, left-fits, left-done, left-last, put-is}
@@ -14,7 +14,7 @@ use Rattle.declaration_factor.specs.Parts.{beforeByte, partText, factorsText, m
 
 -- ---- the factors
 
-module _ (names : List (List ℕ)) (n : ℕ) (m : Model) where
+module _ (names : List (List ℕ)) (n : ℕ) (m : Chain) where
   pub factors-start : (d : List ℕ) (at : ℕ) → Left d at (factorsText names n m 0 (m .count)) d at (factorsText names n m 0 (m .count - 0))
   factors-start d at = let e : m .count - 0 ≡ m .count = omega arith in rw e (left-start d at (factorsText names n m 0 (m .count)))
 

@@ -9,7 +9,7 @@ use lib.Dec.{eqb, ltb}
 use lib.ListN.{length}
 use borrow.Author.Tests.{lt-ltb, ne-eqb}
 use Rattle.nameset.specs.Places.{places}
-use Rattle.model.specs.declared.Model.{Model}
+use Rattle.model.specs.declared.Chain.{Chain}
 use Rattle.model.specs.Record.{modeOf, IsChain}
 use Rattle.declaration_spelling.specs.Token.{markByte}
 use Rattle.declaration_spelling.specs.House.{members, factorsFrom, factorsOf, nameAt, namesAt, named, opening, emptyWord, markText, barsText, groupText, factorText, othersText, bodyText, houseText, declaration}
@@ -54,7 +54,7 @@ group-members names xs y ys e after =
     rw e (group-leads (nameAt names y) (namesAt names ys) after
     ∙ ap (λ (n : ℕ). leads (ltb 1 (suc n)) false (nameAt names y ∷ namesAt names ys) ++ (shown (closeByte (ltb 1 (suc n))) ++ after)) (names-count names ys))
 
-part-is : (names : List (List ℕ)) (n : ℕ) (m : Model) (i y : ℕ) (ys : List ℕ) → members m i 0 n ≡ y ∷ ys → (after : List ℕ) →
+part-is : (names : List (List ℕ)) (n : ℕ) (m : Chain) (i y : ℕ) (ys : List ℕ) → members m i 0 n ≡ y ∷ ys → (after : List ℕ) →
     groupText (namesAt names (members m i 0 n)) (markText (modeOf m i) after) ≡ partText names n m i ++ after
 unfolding partText manyIn
 part-is names n m i y ys e after =
@@ -68,7 +68,7 @@ part-is names n m i y ys e after =
     ∙ ap (λ (t : List ℕ). (t ++ (S ++ M)) ++ after) (sym (names-leads names m i (ltb 1 (length (members m i 0 n))) false 0 n))
 
 -- the factors behind the first
-others-are : (names : List (List ℕ)) (n : ℕ) (m : Model) (i r : ℕ) → Full (factorsFrom m n (suc i) r) →
+others-are : (names : List (List ℕ)) (n : ℕ) (m : Chain) (i r : ℕ) → Full (factorsFrom m n (suc i) r) →
     othersText (named names (factorsFrom m n (suc i) r)) ≡ factorsText names n m (suc i) r ++ (41 ∷ 62 ∷ [])
 unfolding othersText named factorsFrom factorsText factorText shown beforeByte
 others-are names n m i zero f = refl
@@ -78,7 +78,7 @@ others-are names n m i (suc r) ((y, ys, e), f) =
     ∙ ap (λ (t : List ℕ). partText names n m (suc i) ++ t) (others-are names n m (suc i) r f)
     ∙ sym (append-assoc (partText names n m (suc i)) (factorsText names n m (suc (suc i)) r) (41 ∷ 62 ∷ [])))
 
-body-is : (names : List (List ℕ)) (n : ℕ) (m : Model) (r : ℕ) → Full (factorsFrom m n 0 r) →
+body-is : (names : List (List ℕ)) (n : ℕ) (m : Chain) (r : ℕ) → Full (factorsFrom m n 0 r) →
     bodyText (named names (factorsFrom m n 0 r)) ≡ cond (eqb r 0) emptyWord (factorsText names n m 0 r ++ shown 41) ++ shown 62
 unfolding bodyText named factorsFrom factorsText factorText shown beforeByte
 body-is names n m zero f = refl
@@ -93,7 +93,7 @@ body-is names n m (suc r) ((y, ys, e), f) =
     ∙ sym (append-assoc (P ++ R) (41 ∷ []) (62 ∷ []))))
 
 -- what is written for a chain is its declaration
-pub text-is : (names : List (List ℕ)) (p : ℕ) (m : Model) → IsChain places (length names) m → textOf names (length names) p m ≡ declaration names p m
+pub text-is : (names : List (List ℕ)) (p : ℕ) (m : Chain) → IsChain places (length names) m → textOf names (length names) p m ≡ declaration names p m
 unfolding textOf declaration houseText factorsOf modelText opening shown
 text-is names p m c =
     let n = length names in

@@ -10,7 +10,7 @@ use Rattle.book.specs.declared.Layout.{Layout}
 use Rattle.book.specs.Book.{namesIn}
 use Rattle.book.specs.Access.{LaidOut}
 use Rattle.book.proofs.Laws.{name-count}
-use Rattle.model.specs.declared.Model.{Model}
+use Rattle.model.specs.declared.Chain.{Chain}
 use Rattle.model.specs.Record.{IsChain}
 use Rattle.declaration_spelling.specs.House.{declaration}
 use Rattle.declaration_spelling.specs.Length.{longestDeclaration}
@@ -20,7 +20,7 @@ use Rattle.byte_buffer.proofs.Puts.{put-is}
 use Rattle.declaration_factor.specs.Parts.{textOf}
 use Rattle.declaration_text.proofs.Text.{text-is}
 
-module _ (s : List ℕ) (l : Layout) (laid : LaidOut s l) (p : ℕ) (below : p < l .names) (m : Model) (c : IsChain places (l .names) m) where
+module _ (s : List ℕ) (l : Layout) (laid : LaidOut s l) (p : ℕ) (below : p < l .names) (m : Chain) (c : IsChain places (l .names) m) where
   chain : IsChain places (length (namesIn s)) m
   chain = subst (λ (n : ℕ). IsChain places n m) (name-count s l laid) c
 

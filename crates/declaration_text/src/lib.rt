@@ -4,7 +4,7 @@ use byte_buffer::put_all;
 use byte_buffer::put_some;
 use declaration_factor::put_factor;
 use declaration_factor::put_name;
-use model::Model;
+use model::Chain;
 use model_factors::factor_rows;
 use nameset::row_at;
 ghost use mathlib.Core.Path.{_≡_};
@@ -26,7 +26,7 @@ fn before(i: usize) -> u8
 }
 
 // The factors, each behind its bracket or comma.
-fn put_factors(buffer: &mut [u8], at: usize, bytes: &[u8], layout: Layout, m: Model) -> usize
+fn put_factors(buffer: &mut [u8], at: usize, bytes: &[u8], layout: Layout, m: Chain) -> usize
     requires { ⌜ LaidOut (now bytes) layout × (at + length (factorsText (namesIn (now bytes)) (layout .names) m 0 (m .count)) ≤ length (now buffer)) × (m .count ≤ places) ⌝ }
     ensures { λ r. ⌜ Put (now (buffer .entry)) at (factorsText (namesIn (now (bytes .entry))) (layout .names) m 0 (m .count)) r (now (buffer .exit)) ⌝ }
 {
@@ -42,7 +42,7 @@ fn put_factors(buffer: &mut [u8], at: usize, bytes: &[u8], layout: Layout, m: Mo
 }
 
 // `EMPTY`, or the factors in brackets.
-fn put_model(buffer: &mut [u8], at: usize, bytes: &[u8], layout: Layout, m: Model) -> usize
+fn put_model(buffer: &mut [u8], at: usize, bytes: &[u8], layout: Layout, m: Chain) -> usize
     requires { ⌜ LaidOut (now bytes) layout × (at + length (modelText (namesIn (now bytes)) (layout .names) m) ≤ length (now buffer)) × (m .count ≤ places) ⌝ }
     ensures { λ r. ⌜ Put (now (buffer .entry)) at (modelText (namesIn (now (bytes .entry))) (layout .names) m) r (now (buffer .exit)) ⌝ }
 {
@@ -60,7 +60,7 @@ pub fn put_declaration(
     bytes: &[u8],
     layout: Layout,
     parent: usize,
-    m: Model,
+    m: Chain,
 ) -> usize
     requires { ⌜ LaidOut (now bytes) layout × (parent < layout .names) × IsChain places (layout .names) m × (at + length (declaration (namesIn (now bytes)) parent m) ≤ length (now buffer)) ⌝ }
     ensures { λ r. ⌜ Put (now (buffer .entry)) at (declaration (namesIn (now (bytes .entry))) parent m) r (now (buffer .exit)) ⌝ }

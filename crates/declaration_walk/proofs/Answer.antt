@@ -11,8 +11,8 @@ use native.Mathlib.Nat.{zero-add}
 use lib.ListN.{length, replicate, length-replicate, drop}
 use Rattle.refusal.specs.declared.Refusal.the-variants.{NotADeclaration, UnknownName, NameTwice}
 use Rattle.refusal.specs.Answer.{Answer, given, refused, onward, refuseIf}
-use Rattle.model.specs.declared.Model.{Model}
-use Rattle.model.specs.Record.{noFactor, emptyModel}
+use Rattle.model.specs.declared.Chain.{Chain}
+use Rattle.model.specs.Record.{noFactor, emptyChain}
 use Rattle.model.proofs.Empty.{replicate-at}
 use Rattle.declaration_spelling.specs.Token.{Token, word}
 use Rattle.declaration_spelling.specs.House.{Factor}
@@ -85,7 +85,7 @@ module _ (size n : ℕ) (fits : size ≤ 255) (some-place : 0 < size) (few : n �
     where
       go : (o : Option Rows) → andThen (placeFactor f (startRows size)) (placeOthers size fs) ≡ o → (b : Bool) → noneTwice n (f ∷ fs) ≡ b →
           onward (orRefuse NameTwice o) (λ g. given (declared p (modelOf g))) ≡ refuseIf (not b) NameTwice (given (declared p (recordOf size (f ∷ fs))))
-      go (some k) e true t = ap (λ (m : Model). given (declared p m)) (record-filled size (f ∷ fs) k (filled k e))
+      go (some k) e true t = ap (λ (m : Chain). given (declared p m)) (record-filled size (f ∷ fs) k (filled k e))
       go (some k) e false t = absurd (true≢false (sym (once-all n (f ∷ fs) (filled k e .once)) ∙ t))
       go none e false t = refl
       go none e true t =
@@ -98,8 +98,8 @@ none-twice-nil : (n : ℕ) → noneTwice n [] ≡ true
 unfolding total
 none-twice-nil n = once-all n [] (λ x. omega arith)
 
-empty-record : (size : ℕ) → recordOf size [] ≡ emptyModel size
-unfolding emptyModel placeFrom modeAt
+empty-record : (size : ℕ) → recordOf size [] ≡ emptyChain size
+unfolding emptyChain placeFrom modeAt
 empty-record size =
     let q : valuesFrom 0 size (placeFrom 0 []) ≡ replicate size noFactor
     = values-is 0 size (placeFrom 0 []) noFactor (replicate size noFactor) (length-replicate {A = ℕ} size noFactor) (λ x h. sym (replicate-at size x noFactor)) in
@@ -137,9 +137,9 @@ module _ (size : ℕ) (names : List (List ℕ)) (fits : size ≤ 255) (some-plac
       go full small true e = walked p f fs full small e
       go full small false e = refl
 
-  empty-answer : (p : ℕ) → given (declared p (emptyModel size)) ≡ refuseIf (not (allFactors (known names) [])) UnknownName (Single p [])
+  empty-answer : (p : ℕ) → given (declared p (emptyChain size)) ≡ refuseIf (not (allFactors (known names) [])) UnknownName (Single p [])
   unfolding allFactors numbered
-  empty-answer p = rw (none-twice-nil (length names)) (ap (λ (m : Model). given (declared p m)) (sym (empty-record size)))
+  empty-answer p = rw (none-twice-nil (length names)) (ap (λ (m : Chain). given (declared p m)) (sym (empty-record size)))
 
   model-answer : (p : ℕ) (fs : List (Factor (List ℕ))) (ts : List Token) → IsModel fs ts →
       contentAnswer size names p ts ≡ refuseIf (not (allFactors (known names) fs)) UnknownName (Single p fs)

@@ -7,7 +7,7 @@ use Rattle.name.specs.Rule.{isName, goodLength, goodBytes, allLater}
 use Rattle.name.specs.Word.{wordByte}
 use Rattle.name_order.specs.Order.{orderOf}
 use Rattle.book.specs.Access.{numberFrom, numberIn}
-use Rattle.model.specs.Record.{emptyModel}
+use Rattle.model.specs.Record.{emptyChain}
 use Rattle.declaration_spelling.specs.Text.{bytes}
 use Rattle.declaration_spelling.specs.Token.{isSpace}
 use Rattle.declaration_spelling.specs.House.{opening, emptyWord}
@@ -31,7 +31,7 @@ unfolding
     -- the walk
     markKind tokenKind arrows along step numberOf walk isWord kindFits passes allPass accepts acceptsRest hasForm
     -- the record filled
-    emptyModel startRows isFree withName nextFactor withMode takeToken andThen gatherFrom modelOf
+    emptyChain startRows isFree withName nextFactor withMode takeToken andThen gatherFrom modelOf
     -- the answer
     factorsAnswer beginsWithWord contentAnswer tokensAnswer textAnswer
 answered = refl

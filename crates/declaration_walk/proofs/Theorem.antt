@@ -11,7 +11,7 @@ use Rattle.refusal.specs.declared.Refusal.the-variants.{NotADeclaration, Unknow
 use Rattle.refusal.specs.Answer.{Answer, given, refused}
 use Rattle.refusal.proofs.Answers.{check-given, given-same}
 use Rattle.name.specs.Rule.{isName}
-use Rattle.model.specs.declared.Model.{Model}
+use Rattle.model.specs.declared.Chain.{Chain}
 use Rattle.model.specs.Record.{IsChain}
 use Rattle.declaration_spelling.specs.House.{nameAt, named, declaration}
 use Rattle.declaration_spelling.specs.Spelled.{Spelled}
@@ -52,7 +52,7 @@ module _ (size : ℕ) (names : List (List ℕ)) (G : GoodNames size names) where
   formed = formed-answer size names (G .small) (G .place) (G .few)
 
   -- the text is a spelling of what the reader answers
-  read-sound : (text : List ℕ) (p : ℕ) (m : Model) → textAnswer size names text ≡ given (declared p m) → Spelled size names text p m
+  read-sound : (text : List ℕ) (p : ℕ) (m : Chain) → textAnswer size names text ≡ given (declared p m) → Spelled size names text p m
   unfolding judged
   read-sound text p m e =
       let (d, F) = answer-formed size names text (λ q. let z : _≡_ {A = Answer Declared} (refused NotADeclaration) (given (declared p m)) = sym q ∙ e in false≢true cc) in
@@ -61,7 +61,7 @@ module _ (size : ℕ) (names : List (List ℕ)) (G : GoodNames size names) where
       subst (λ (x : Declared). Spelled size names text (x .parent) (x .model)) (given-same _ _ (b .1)) (form-spelled text d F (not-false _ (a .0)) (not-false _ (b .0)))
 
   -- a spelling of a chain is read as that chain
-  read-complete : (text : List ℕ) (p : ℕ) (m : Model) → Spelled size names text p m → textAnswer size names text ≡ given (declared p m)
+  read-complete : (text : List ℕ) (p : ℕ) (m : Chain) → Spelled size names text p m → textAnswer size names text ≡ given (declared p m)
   unfolding judged allForm
   read-complete text p m S =
       let n = length names in
@@ -85,15 +85,15 @@ module _ (size : ℕ) (names : List (List ℕ)) (G : GoodNames size names) where
       )
 
   -- a text is read exactly when it is a spelling of the declaration for what is then answered
-  pub read-exactly : (text : List ℕ) (p : ℕ) (m : Model) → (textAnswer size names text ≡ given (declared p m)) ↔ Spelled size names text p m
+  pub read-exactly : (text : List ℕ) (p : ℕ) (m : Chain) → (textAnswer size names text ≡ given (declared p m)) ↔ Spelled size names text p m
   read-exactly text p m = (read-sound text p m, read-complete text p m)
 
   -- what is written is read back
-  pub read-written : (p : ℕ) (m : Model) → p < length names → IsChain size (length names) m → textAnswer size names (declaration names p m) ≡ given (declared p m)
+  pub read-written : (p : ℕ) (m : Chain) → p < length names → IsChain size (length names) m → textAnswer size names (declaration names p m) ≡ given (declared p m)
   read-written p m l c = read-complete (declaration names p m) p m (house-spelled size names p m (G .small) l c)
 
   -- a text is a spelling of at most one declaration
-  pub spelled-once : (text : List ℕ) (p q : ℕ) (m k : Model) → Spelled size names text p m → Spelled size names text q k → (p ≡ q) × (m ≡ k)
+  pub spelled-once : (text : List ℕ) (p q : ℕ) (m k : Chain) → Spelled size names text p m → Spelled size names text q k → (p ≡ q) × (m ≡ k)
   spelled-once text p q m k S T =
       let e = given-same _ _ (sym (read-complete text p m S) ∙ read-complete text q k T) in
       (ap (λ (x : Declared). x .parent) e, ap (λ (x : Declared). x .model) e)

@@ -10,8 +10,8 @@ use lib.Dec.{eqb, ltb}
 use lib.ListN.{getD, set, replicate, drop}
 use Rattle.refusal.specs.declared.Refusal.the-variants.{NotADeclaration, UnknownName, NameTwice}
 use Rattle.refusal.specs.Answer.{Answer, given, refused, onward, refuseIf}
-use Rattle.model.specs.declared.Model.{Model}
-use Rattle.model.specs.Record.{noFactor, emptyModel}
+use Rattle.model.specs.declared.Chain.{Chain}
+use Rattle.model.specs.Record.{noFactor, emptyChain}
 use Rattle.declaration_spelling.specs.Token.{Token, word, lpar, rpar, comma, bar, end, mark, other}
 use Rattle.declaration_spelling.specs.Cut.{cut, tokens}
 use Rattle.declaration_spelling.specs.Read.{known, numberFor, Declared, declared, orRefuse}
@@ -73,7 +73,7 @@ gatherFrom size names [] g = some g
 gatherFrom size names (t ∷ ts) g = andThen (takeToken size names t g) (gatherFrom size names ts)
 
 -- The record, once its last factor is filled.
-unfoldable pub modelOf : Rows → Model
+unfoldable pub modelOf : Rows → Chain
 modelOf g = record { count = suc (g .index); factor = g .factor; mode = g .mode }
 
 -- ---- the answer
@@ -90,7 +90,7 @@ beginsWithWord (t ∷ ts) = isWord t
 
 -- The model: a word is `EMPTY`, for the text has the form.
 unfoldable pub contentAnswer : ℕ → List (List ℕ) → ℕ → List Token → Answer Declared
-contentAnswer size names p ts = cond (beginsWithWord ts) (given (declared p (emptyModel size))) (factorsAnswer size names p ts)
+contentAnswer size names p ts = cond (beginsWithWord ts) (given (declared p (emptyChain size))) (factorsAnswer size names p ts)
 
 -- The parent, which is a name of the book, and the model.
 unfoldable pub tokensAnswer : ℕ → List (List ℕ) → List Token → Answer Declared

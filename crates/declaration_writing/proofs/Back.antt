@@ -15,16 +15,16 @@ use Rattle.nameset.specs.Places.{places}
 use Rattle.book.specs.Book.{Book}
 use Rattle.book.specs.Taken.{takenBook, TakenAs, badParent}
 use Rattle.book.proofs.Taken.{good-parent}
-use Rattle.model.specs.declared.Model.{Model}
+use Rattle.model.specs.declared.Chain.{Chain}
 use Rattle.model.specs.Record.{IsChain}
 use Rattle.model.specs.Check.{isChain}
-use Rattle.model.proofs.Chain.{chain-law}
+use Rattle.model.proofs.ChainLaw.{chain-law}
 use Rattle.declaration_spelling.specs.House.{declaration}
 use Rattle.declaration_writing.specs.Write.{fitted, writeIn, writeAnswer, bufferAfter}
 use Rattle.byte_buffer.proofs.Puts.{wrote-none, wrote-start}
 
 -- A text that is given is the declaration of the record for a parent of the book, and fits the buffer.
-pub record Given (s : List ℕ) (p : ℕ) (m : Model) (room : ℕ) (text : List ℕ) : Type 0 where
+pub record Given (s : List ℕ) (p : ℕ) (m : Chain) (room : ℕ) (text : List ℕ) : Type 0 where
   pub book : Book
   pub read : TakenAs s book
   pub below : p < length (book .names)
@@ -32,7 +32,7 @@ pub record Given (s : List ℕ) (p : ℕ) (m : Model) (room : ℕ) (text : List 
   pub same : text ≡ declaration (book .names) p m
   pub fits : length text ≤ room
 
-pub text-given : (s : List ℕ) (p : ℕ) (m : Model) (room : ℕ) (text : List ℕ) → writeAnswer s p m room ≡ given text → Given s p m room text
+pub text-given : (s : List ℕ) (p : ℕ) (m : Chain) (room : ℕ) (text : List ℕ) → writeAnswer s p m room ≡ given text → Given s p m room text
 unfolding writeAnswer writeIn fitted
 text-given s p m room text e =
     let b = onward-given (takenBook s) _ text e in

@@ -19,10 +19,10 @@ use Rattle.book.specs.Layout.{readingOf}
 use Rattle.book.specs.Access.{LaidOut}
 use Rattle.book.specs.Taken.{takenBook}
 use Rattle.book.proofs.Taken as Taken
-use Rattle.model.specs.declared.Model.{Model}
+use Rattle.model.specs.declared.Chain.{Chain}
 use Rattle.model.specs.Record.{IsChain}
 use Rattle.model.specs.Check.{isChain}
-use Rattle.model.proofs.Chain.{chain-law}
+use Rattle.model.proofs.ChainLaw.{chain-law}
 use Rattle.declaration_spelling.specs.House.{declaration}
 use Rattle.declaration_spelling.specs.Length.{longestDeclaration}
 use Rattle.byte_buffer.specs.Put.{wrote, Put}
@@ -33,7 +33,7 @@ use Rattle.declaration_writing.specs.Write.{fitted, writeIn, writeAnswer
 
 -- ---- a chain of a book that was read
 
-pub fits-aside : (s : List ℕ) (l : Layout) (p : ℕ) (m : Model) → LaidOut s l × (p < l .names) × IsChain places (l .names) m →
+pub fits-aside : (s : List ℕ) (l : Layout) (p : ℕ) (m : Chain) → LaidOut s l × (p < l .names) × IsChain places (l .names) m →
     0 + length (declaration (namesIn s) p m) ≤ length (replicate {A = ℕ} longestDeclaration 0)
 fits-aside s l p m (laid, below, c) =
     let h : length (declaration (namesIn s) p m) ≤ longestDeclaration = declaration-short s l laid p below m c in
@@ -80,7 +80,7 @@ pub stopped : (d : List ℕ) (w : Written) (f : Refusal) (a : Answer (List ℕ))
 unfolding bufferAfter
 stopped d w f a e q = rw q (e, sym (wrote-none d 0))
 
-module _ (s : List ℕ) (p : ℕ) (m : Model) (d : List ℕ) (r : Reading) (read : r ≡ readingOf (takenBook s)) where
+module _ (s : List ℕ) (p : ℕ) (m : Chain) (d : List ℕ) (r : Reading) (read : r ≡ readingOf (takenBook s)) where
   pub stopped-book : (w : Written) (f : Refusal) → r .outcome ≡ Refused f → w ≡ written (refused f) → Writes (writeAnswer s p m (length d)) w d d
   unfolding writeAnswer
   stopped-book w f o e = stopped d w f (writeAnswer s p m (length d)) e (Taken.take-refused s r read _ f o)

@@ -2,7 +2,7 @@
 use book::Layout;
 use byte_buffer::put_all;
 use declaration_text::put_declaration;
-use model::Model;
+use model::Chain;
 use refusal::Outcome;
 use refusal::Refusal;
 ghost use mathlib.Core.Path.{_≡_};
@@ -41,7 +41,7 @@ pub fn write_chain(
     bytes: &[u8],
     layout: Layout,
     parent: usize,
-    m: Model,
+    m: Chain,
     buffer: &mut [u8],
 ) -> Written
     requires { ⌜ LaidOut (now bytes) layout × (parent < layout .names) × IsChain places (layout .names) m ⌝ }
@@ -60,7 +60,7 @@ pub fn write_chain(
 }
 
 // The call: any bytes as the book, any parent, any record, any buffer.
-pub fn write_declaration(bytes: &[u8], parent: usize, m: Model, buffer: &mut [u8]) -> Written
+pub fn write_declaration(bytes: &[u8], parent: usize, m: Chain, buffer: &mut [u8]) -> Written
     ensures { λ r. ⌜ WritesDeclaration (now (bytes .entry)) parent m r (now (buffer .entry)) (now (buffer .exit)) ⌝ }
 {
     let reading = book_reading::take_book(bytes);

@@ -27,8 +27,8 @@ use Rattle.book.proofs.Stops.{book-whole}
 use Rattle.book.proofs.Taken.{taken-law}
 use Rattle.book_blocks.specs.Gathers.{Gathers}
 use Rattle.book_reading.specs.Opening.{blocksRead}
-use Rattle.model.specs.declared.Model.{Model}
-use Rattle.model.specs.Record.{factorOf, modeOf, IsChain, emptyModel, dueModel}
+use Rattle.model.specs.declared.Chain.{Chain}
+use Rattle.model.specs.Record.{factorOf, modeOf, IsChain, emptyChain, dueModel}
 use Rattle.model.specs.Accept.{Accepts, Names}
 use Rattle.model_language.specs.Word.{Point, name, end, Fact}
 use Rattle.model_language.specs.Reach.{Reach}
@@ -94,11 +94,11 @@ use Rattle.demands.proofs.SoFar as So
 -- "Each refusal in document 01's table is given for its condition and for no other": the records are in
 -- specs/Conditions.
 
-pub word-refusals : (n : ℕ) (m : Model) (w : List ℕ) (r : Acceptance) (call : AcceptsWord n m w r) →
+pub word-refusals : (n : ℕ) (m : Chain) (w : List ℕ) (r : Acceptance) (call : AcceptsWord n m w r) →
     WordConditions n m w (acceptanceNumber r)
 word-refusals n m w r call = subst (WordConditions n m w) (sym (call .number)) (Law.word-conditions n m w)
 
-pub within-refusals : (n : ℕ) (first second : Model) (r : Inclusion) (before after : List ℕ)
+pub within-refusals : (n : ℕ) (first second : Chain) (r : Inclusion) (before after : List ℕ)
     (call : ComparesModels n first second r before after) →
     WithinConditions n first second (length before) (inclusionNumber r)
 within-refusals n first second r before after call =
@@ -111,7 +111,7 @@ unfolding inferred
 model-refusals bytes parent r call = subst (ModelConditions bytes parent)
     (sym (ap (λ (x : Inferred). outcomeNumber (x .outcome)) call)) (Law.model-conditions bytes parent)
 
-pub write-refusals : (bytes : List ℕ) (parent : ℕ) (m : Model) (w : Written) (before after : List ℕ)
+pub write-refusals : (bytes : List ℕ) (parent : ℕ) (m : Chain) (w : Written) (before after : List ℕ)
     (call : WritesDeclaration bytes parent m w before after) →
     WriteConditions bytes parent m (length before) (outcomeNumber (w .outcome))
 unfolding written
@@ -156,20 +156,20 @@ book-exactly = book-whole
 pub word-kept : (r : Acceptance) → 0 < acceptanceNumber r → acceptanceYes r ≡ false
 word-kept = Text.refused-no
 
-pub within-kept : (n : ℕ) (first second : Model) (r : Inclusion) (before after : List ℕ)
+pub within-kept : (n : ℕ) (first second : Chain) (r : Inclusion) (before after : List ℕ)
     (call : ComparesModels n first second r before after) →
     0 < inclusionNumber r → (inclusionYes r ≡ false) × (inclusionLength r ≡ 0) × (after ≡ before)
 within-kept = Compare.refused-keeps
 
 pub model-kept : (bytes : List ℕ) (parent : ℕ) (r : Inferred) (call : InfersModel bytes parent r) →
-    0 < outcomeNumber (r .outcome) → r .model ≡ emptyModel places
+    0 < outcomeNumber (r .outcome) → r .model ≡ emptyChain places
 unfolding inferred
 model-kept bytes parent r call l =
     let (f, o) = refused-by (r .outcome) l in
     let e = outcome-refused (modelAnswer bytes parent) f .0 (sym (ap (λ (x : Inferred). x .outcome) call) ∙ o) in
     ap (λ (x : Inferred). x .model) call ∙ ap (valueOr dueModel) e
 
-pub write-kept : (bytes : List ℕ) (parent : ℕ) (m : Model) (w : Written) (before after : List ℕ)
+pub write-kept : (bytes : List ℕ) (parent : ℕ) (m : Chain) (w : Written) (before after : List ℕ)
     (call : WritesDeclaration bytes parent m w before after) →
     0 < outcomeNumber (w .outcome) → (w .length ≡ 0) × (after ≡ before)
 write-kept bytes parent m w before after call = Text.writes-kept _ w before after call
@@ -185,20 +185,20 @@ dtd-kept bytes w before after call = Text.writes-kept _ w before after call
 
 pub read-kept : (bytes text : List ℕ) (r : Declaration) (call : ReadsDeclaration bytes text r) →
     0 < outcomeNumber (r .outcome) →
-    (r .parent ≡ 0) × (r .model ≡ emptyModel places)
+    (r .parent ≡ 0) × (r .model ≡ emptyChain places)
 read-kept bytes text r call l = let (f, o) = refused-by (r .outcome) l in Reading.refused-due bytes text r call f o
 
 -- ==== demand 2
 
 -- "A word is accepted exactly when XML 1.0, section 3.2, lets the model match it": the call says yes exactly when
 -- nothing stops it and the word is a joining of one part for each factor of the model, in order.
-pub accepted-exactly : (n : ℕ) (m : Model) (w : List ℕ) (r : Acceptance) (call : AcceptsWord n m w r) →
+pub accepted-exactly : (n : ℕ) (m : Chain) (w : List ℕ) (r : Acceptance) (call : AcceptsWord n m w r) →
     (acceptanceYes r ≡ true) ↔ (Passes n m w × Accepts m w)
 accepted-exactly n m w r call = let h = yes-exactly n m w r call in (λ e. h .0 (Text.yes-by r e), λ p. Text.by-yes r (h .1 p))
 
 -- What a call that writes has done where it was not refused: the front of the buffer is the canonical form. From the
 -- sample it is that of the model x which the call for the model answers.
-pub write-done : (bytes : List ℕ) (parent : ℕ) (m : Model) (w : Written) (before after : List ℕ)
+pub write-done : (bytes : List ℕ) (parent : ℕ) (m : Chain) (w : Written) (before after : List ℕ)
     (call : WritesDeclaration bytes parent m w before after) →
     outcomeNumber (w .outcome) ≡ 0 → (b : Book) × TakenAs bytes b × Wrote (declaration (b .names) parent m) (w .length) before after
 write-done = Text.write-done
@@ -215,7 +215,7 @@ pub dtd-done : (bytes : List ℕ) (w : Written) (before after : List ℕ) (call 
 dtd-done = Text.dtd-done
 
 -- "A model written as a declaration reads back as the same model."
-pub written-reads-back : (bytes : List ℕ) (parent : ℕ) (m : Model) (w : Written) (before after : List ℕ)
+pub written-reads-back : (bytes : List ℕ) (parent : ℕ) (m : Chain) (w : Written) (before after : List ℕ)
     (call : WritesDeclaration bytes parent m w before after) →
     outcomeNumber (w .outcome) ≡ 0 → (r : Declaration) → ReadsDeclaration bytes (take (w .length) after) r →
     Reads r parent m
@@ -230,7 +230,7 @@ sample-reads-back bytes parent w before after call z x asked =
 
 -- "A text is read exactly when it is a spelling, allowed by document 01, of the declaration then written": it is read
 -- as the parent p and the record m exactly when it is a spelling of them, and what was read is then written.
-pub read-exactly : (bytes text : List ℕ) (r : Declaration) (call : ReadsDeclaration bytes text r) (p : ℕ) (m : Model) →
+pub read-exactly : (bytes text : List ℕ) (r : Declaration) (call : ReadsDeclaration bytes text r) (p : ℕ) (m : Chain) →
     Reads r p m ↔ ((b : Book) × TakenAs bytes b × Spelled places (b .names) text p m)
 read-exactly = Reading.read-exactly
 
@@ -243,12 +243,12 @@ pub read-writes : (bytes text : List ℕ) (r : Declaration) (call : ReadsDeclara
 read-writes = Text.read-writes
 
 -- The canonical form is one of the spellings, and no text is a spelling of two declarations.
-pub canonical-spelled : (bytes : List ℕ) (b : Book) → IsBook bytes b → (p : ℕ) (m : Model) → p < length (b .names) →
+pub canonical-spelled : (bytes : List ℕ) (b : Book) → IsBook bytes b → (p : ℕ) (m : Chain) → p < length (b .names) →
     IsChain places (length (b .names)) m →
     Spelled places (b .names) (declaration (b .names) p m) p m
 canonical-spelled bytes b read p m = house-spelled places (b .names) p m (good-names bytes b read .small)
 
-pub spelled-once : (bytes : List ℕ) (b : Book) → IsBook bytes b → (text : List ℕ) (p q : ℕ) (m k : Model) →
+pub spelled-once : (bytes : List ℕ) (b : Book) → IsBook bytes b → (text : List ℕ) (p q : ℕ) (m k : Chain) →
     Spelled places (b .names) text p m → Spelled places (b .names) text q k → (p ≡ q) × (m ≡ k)
 spelled-once bytes b read = Spelling.spelled-once places (b .names) (good-names bytes b read)
 
@@ -269,11 +269,11 @@ no-better-model bytes parent r b a = (
 
 -- "Two chain expressions are the same exactly when they have the same factors in the same order with the same marks",
 -- and, in paper 01, "exactly when the records are equal".
-pub same-exactly : (n : ℕ) (one other : Model) → IsChain places n one → IsChain places n other →
+pub same-exactly : (n : ℕ) (one other : Chain) → IsChain places n one → IsChain places n other →
     (one ≡ other) ↔
     ((one .count ≡ other .count) × ((x : ℕ) → factorOf one x ≡ factorOf other x) × ((i : ℕ) → modeOf one i ≡ modeOf other i))
 same-exactly n one other c d = (
-  λ e. (ap (λ (m : Model). m .count) e, λ x. ap (λ (m : Model). factorOf m x) e, λ i. ap (λ (m : Model). modeOf m i) e),
+  λ e. (ap (λ (m : Chain). m .count) e, λ x. ap (λ (m : Chain). factorOf m x) e, λ i. ap (λ (m : Chain). modeOf m i) e),
   λ (counts, factors, modes). equal-records places n one other c d counts factors modes,
 )
 
@@ -284,7 +284,7 @@ pub model-is-placed : (bytes : List ℕ) (parent : ℕ) (r : Inferred) (b : Book
 model-is-placed bytes parent r b a = Model3.is-placed bytes parent r (a .call) b (a .read) (a .block)
 
 pub only-placed : (bytes : List ℕ) (parent : ℕ) (r : Inferred) (b : Book) → Asked bytes parent r b →
-    (m : Model) → IsChain places (length (b .names)) m → Placed (Fact (sampleOf b parent)) m → m ≡ r .model
+    (m : Chain) → IsChain places (length (b .names)) m → Placed (Fact (sampleOf b parent)) m → m ≡ r .model
 only-placed bytes parent r b a = Model3.only-placed bytes parent r (a .call) b (a .read) (a .block)
 
 -- The executable definition of the same chain, which the code is proved to compute. (`chainOfWords` is `chainOf` of the
@@ -352,7 +352,7 @@ pub program-line : (bytes : List ℕ) (parent : ℕ) (r : Inferred) (b : Book) �
 unfolding lineOf chainIn
 program-line bytes parent r b a =
     rw (some-word (sampleOf b parent) .1 (a .block))
-    (ap (λ (m : Model). declaration (b .names) parent m ++ (10 ∷ [])) (Model3.model-is bytes parent r (a .call) b (a .read) (a .block)))
+    (ap (λ (m : Chain). declaration (b .names) parent m ++ (10 ∷ [])) (Model3.model-is bytes parent r (a .call) b (a .read) (a .block)))
 
 pub program-no-line : (b : Book) (parent : ℕ) → sampleOf b parent ≡ [] → lineOf b parent ≡ []
 unfolding lineOf
@@ -390,26 +390,26 @@ dtd-from-facts bytes b taken = dtd-by-facts bytes b (taken-law bytes b .0 taken)
 
 -- "Say yes exactly when every word that the first accepts is accepted by the second", whatever its length; and no
 -- exactly when that is not so. A refused call answers no as well; `within-not` is about calls that were not refused.
-pub within-exactly : (n : ℕ) (first second : Model) (r : Inclusion) (before after : List ℕ)
+pub within-exactly : (n : ℕ) (first second : Chain) (r : Inclusion) (before after : List ℕ)
     (call : ComparesModels n first second r before after) →
     (inclusionYes r ≡ true) ↔ (PassesBoth n first second (length before) × Within first second)
 within-exactly = Compare.yes-exactly
 
-pub within-not : (n : ℕ) (first second : Model) (r : Inclusion) (before after : List ℕ)
+pub within-not : (n : ℕ) (first second : Chain) (r : Inclusion) (before after : List ℕ)
     (call : ComparesModels n first second r before after) →
     ((inclusionNumber r ≡ 0) × (inclusionYes r ≡ false)) ↔
     (PassesBoth n first second (length before) × (¬ Within first second))
 within-not = Compare.no-exactly
 
 -- "Bytes past it, and on yes all bytes, are kept; on yes the length is 0": what is kept on yes.
-pub within-yes : (n : ℕ) (first second : Model) (r : Inclusion) (before after : List ℕ)
+pub within-yes : (n : ℕ) (first second : Chain) (r : Inclusion) (before after : List ℕ)
     (call : ComparesModels n first second r before after) →
     inclusionYes r ≡ true → (inclusionLength r ≡ 0) × (after ≡ before)
 within-yes = Compare.yes-keeps
 
 -- "On no, hand over one word of at most 65 names that the first accepts and the second doesn't, in a lent buffer, and
 -- its length": the word is at the front of the buffer, its numbers are below N, and the bytes past it are kept.
-pub within-word : (n : ℕ) (first second : Model) (r : Inclusion) (before after : List ℕ)
+pub within-word : (n : ℕ) (first second : Chain) (r : Inclusion) (before after : List ℕ)
     (call : ComparesModels n first second r before after) →
     inclusionNumber r ≡ 0 → inclusionYes r ≡ false →
     (w : List ℕ) × Counterexample first second w × Names n w × (length w ≤ longestCounterexample) ×
@@ -417,7 +417,7 @@ pub within-word : (n : ℕ) (first second : Model) (r : Inclusion) (before after
 within-word = Text.word-written
 
 -- The yes or no without a buffer, for later requests: `is_within` of crates/model_within computes `within`.
-pub within-law : (n : ℕ) (first second : Model) → IsChain places n first → IsChain places n second →
+pub within-law : (n : ℕ) (first second : Chain) → IsChain places n first → IsChain places n second →
     (Search.within n first second ≡ true) ↔ Within first second
 within-law n first second c d = Inclusion-law.within-law places n first second c d (omega arith)
 
@@ -426,7 +426,7 @@ within-law n first second c d = Inclusion-law.within-law places n first second c
 -- Each of these makes the call in Rattle and passes on its answer as a struct r of C. Stated of r, one after another:
 -- its number and when it is given; the rest of r where the call was refused; the rest of r where it was not.
 
-pub c-word : (n : ℕ) (m : Model) (w : List ℕ) (r : Verdict) (call : RepliesWord n m w r) →
+pub c-word : (n : ℕ) (m : Chain) (w : List ℕ) (r : Verdict) (call : RepliesWord n m w r) →
     WordConditions n m w (r .refusal) × (0 < r .refusal → r .yes ≡ false) ×
     ((r .yes ≡ true) ↔ (Passes n m w × Accepts m w))
 unfolding verdict
@@ -434,7 +434,7 @@ c-word n m w r (x, call, e) =
     subst (λ (v : Verdict). WordConditions n m w (v .refusal) × (0 < v .refusal → v .yes ≡ false) × ((v .yes ≡ true) ↔ (Passes n m w × Accepts m w))) (sym e)
     (word-refusals n m w x call, word-kept x, accepted-exactly n m w x call)
 
-pub c-within : (n : ℕ) (first second : Model) (r : InclusionReply) (before after : List ℕ)
+pub c-within : (n : ℕ) (first second : Chain) (r : InclusionReply) (before after : List ℕ)
     (call : RepliesWithin n first second r before after) →
     WithinConditions n first second (length before) (r .refusal) ×
     (0 < r .refusal → (r .yes ≡ false) × (r .length ≡ 0) × (after ≡ before)) ×
@@ -458,12 +458,12 @@ c-within n first second r before after (x, call, e) =
     )
 
 pub c-model : (bytes : List ℕ) (parent : ℕ) (r : ModelReply) (call : RepliesModel bytes parent r) →
-    ModelConditions bytes parent (r .refusal) × (0 < r .refusal → r .model ≡ emptyModel places) ×
+    ModelConditions bytes parent (r .refusal) × (0 < r .refusal → r .model ≡ emptyChain places) ×
     ((b : Book) → TakenAs bytes b → ¬ (sampleOf b parent ≡ []) →
     (r .refusal ≡ 0) × Minimal (length (b .names)) (r .model) (sampleOf b parent) × Placed (Fact (sampleOf b parent)) (r .model))
 unfolding modelReply
 c-model bytes parent r (x, call, e) =
-    subst (λ (v : ModelReply). ModelConditions bytes parent (v .refusal) × (0 < v .refusal → v .model ≡ emptyModel places) ×
+    subst (λ (v : ModelReply). ModelConditions bytes parent (v .refusal) × (0 < v .refusal → v .model ≡ emptyChain places) ×
     ((b : Book) → TakenAs bytes b → ¬ (sampleOf b parent ≡ []) →
     (v .refusal ≡ 0) × Minimal (length (b .names)) (v .model) (sampleOf b parent) × Placed (Fact (sampleOf b parent)) (v .model))) (sym e) (
       model-refusals bytes parent x call,
@@ -473,7 +473,7 @@ c-model bytes parent r (x, call, e) =
           let n = no-better-model bytes parent x b a in (n .0, n .1, model-is-placed bytes parent x b a),
     )
 
-pub c-write : (bytes : List ℕ) (parent : ℕ) (m : Model) (r : LengthReply) (before after : List ℕ)
+pub c-write : (bytes : List ℕ) (parent : ℕ) (m : Chain) (r : LengthReply) (before after : List ℕ)
     (call : RepliesWritten bytes parent m r before after) →
     WriteConditions bytes parent m (length before) (r .refusal) ×
     (0 < r .refusal → (r .length ≡ 0) × (after ≡ before)) ×
@@ -504,13 +504,13 @@ c-dtd bytes r before after (x, call, e) =
     (dtd-refusals bytes x before after call, dtd-kept bytes x before after call, dtd-done bytes x before after call)
 
 pub c-read : (bytes text : List ℕ) (r : TextReply) (call : RepliesText bytes text r) →
-    ReadConditions bytes text (r .refusal) × (0 < r .refusal → (r .parent ≡ 0) × (r .model ≡ emptyModel places)) ×
-    ((p : ℕ) (m : Model) → ((r .refusal ≡ 0) × (r .parent ≡ p) × (r .model ≡ m)) ↔
+    ReadConditions bytes text (r .refusal) × (0 < r .refusal → (r .parent ≡ 0) × (r .model ≡ emptyChain places)) ×
+    ((p : ℕ) (m : Chain) → ((r .refusal ≡ 0) × (r .parent ≡ p) × (r .model ≡ m)) ↔
     ((b : Book) × TakenAs bytes b × Spelled places (b .names) text p m))
 unfolding textReply
 c-read bytes text r (x, call, e) =
     subst (λ (v : TextReply). ReadConditions bytes text (v .refusal) ×
-    (0 < v .refusal → (v .parent ≡ 0) × (v .model ≡ emptyModel places)) ×
-    ((p : ℕ) (m : Model) → ((v .refusal ≡ 0) × (v .parent ≡ p) × (v .model ≡ m)) ↔
+    (0 < v .refusal → (v .parent ≡ 0) × (v .model ≡ emptyChain places)) ×
+    ((p : ℕ) (m : Chain) → ((v .refusal ≡ 0) × (v .parent ≡ p) × (v .model ≡ m)) ↔
     ((b : Book) × TakenAs bytes b × Spelled places (b .names) text p m))) (sym e)
     (read-refusals bytes text x call, read-kept bytes text x call, λ p m. Text.read-number bytes text x call p m)

@@ -22,12 +22,12 @@ use Rattle.book.specs.Stops.{Stops}
 use Rattle.book.specs.Taken.{takenBook, TakenAs, badParent}
 use Rattle.book.proofs.Taken.{taken-law, taken-refused, bad-parent, good-parent}
 use Rattle.book.proofs.Onward.{book-first, book-or-later, in-book, in-given}
-use Rattle.model.specs.declared.Model.{Model}
+use Rattle.model.specs.declared.Chain.{Chain}
 use Rattle.model.specs.Record.{IsChain}
 use Rattle.model.specs.Check.{isChain}
 use Rattle.model.specs.Accept.{Names}
 use Rattle.model.specs.Run.{accepts}
-use Rattle.model.proofs.Chain.{chain-law}
+use Rattle.model.proofs.ChainLaw.{chain-law}
 use Rattle.declaration_spelling.specs.House.{declaration}
 use Rattle.declaration_spelling.specs.Spelled.{Spelled}
 use Rattle.declaration_spelling.specs.Read.{Declared, declared}
@@ -67,10 +67,10 @@ turned t h = (λ e. h .0 (not-true t e), λ p. ap not (h .1 p))
 turned-back : {P : Type 0} (t : Bool) → (t ≡ true) ↔ P → (not t ≡ false) ↔ P
 turned-back t h = (λ e. h .0 (not-false t e), λ p. ap not (h .1 p))
 
-not-chain : (n : ℕ) (m : Model) → (not (isChain places n m) ≡ true) ↔ (¬ IsChain places n m)
+not-chain : (n : ℕ) (m : Chain) → (not (isChain places n m) ≡ true) ↔ (¬ IsChain places n m)
 not-chain n m = turned (isChain places n m) (fails (isChain places n m) (chain-law places n m))
 
-is-chain : (n : ℕ) (m : Model) → (not (isChain places n m) ≡ false) ↔ IsChain places n m
+is-chain : (n : ℕ) (m : Chain) → (not (isChain places n m) ≡ false) ↔ IsChain places n m
 is-chain n m = turned-back (isChain places n m) (chain-law places n m)
 
 count-law : (n : ℕ) → (goodCount n ≡ true) ↔ InRange n
@@ -95,7 +95,7 @@ book-rows bytes a law =
 
 -- ---- acceptance of a word
 
-module _ (n : ℕ) (m : Model) (w : List ℕ) where
+module _ (n : ℕ) (m : Chain) (w : List ℕ) where
   some-names : (not (goodCount n) ≡ false) ↔ InRange n
   some-names = turned-back (goodCount n) (count-law n)
 
@@ -155,7 +155,7 @@ either-check {P = P} {Q} t r next law behind = (
     back true e q = check-law t r next r .1 (inl (e, refl))
     back false e q = check-law t r next r .1 (inr (e, behind .1 q))
 
-module _ (n : ℕ) (first second : Model) (room : ℕ) where
+module _ (n : ℕ) (first second : Chain) (room : ℕ) where
   both-pass : {K : Type 0} →
       K ↔ (InRange n × (IsChain places n first × (IsChain places n second × (longestCounterexample ≤ room)))) → K ↔ PassesBoth n first second room
   both-pass h = (
@@ -229,7 +229,7 @@ module _ (bytes : List ℕ) (parent : ℕ) where
   abbrev t₂ : Book → Bool
   t₂ b = noWord (sampleOf b parent)
 
-  abbrev a₁ : Book → Answer Model
+  abbrev a₁ : Book → Answer Chain
   a₁ b = refuseIf (t₂ b) NoBlock (given (chainIn b parent))
 
   -- its two refusals, each with what P says of it
@@ -241,7 +241,7 @@ module _ (bytes : List ℕ) (parent : ℕ) where
   unfolding modelAnswer modelIn
   model-conditions =
       let a = modelAnswer bytes parent in
-      let next : Book → Answer Model = λ b. modelIn b parent in
+      let next : Book → Answer Chain = λ b. modelIn b parent in
       record {
         book = book-rows bytes a (λ f l. book-first bytes next f l (λ b k. model-each (λ r. ofBook r ≡ false) refl refl b f));
         eight =
@@ -329,7 +329,7 @@ module _ (bytes : List ℕ) (parent room : ℕ) (r : Refusal) (late : ofBook r �
               (each (λ f. (numberOf f ≡ 8) ⊎ ((numberOf f ≡ numberOf r) ⊎ (numberOf f ≡ 12))) (inl refl) (inr (inl refl)) (inr (inr refl)));
         }
 
-pub write-conditions : (bytes : List ℕ) (parent : ℕ) (m : Model) (room : ℕ) → WriteConditions bytes parent m room (answerNumber (writeAnswer bytes parent m room))
+pub write-conditions : (bytes : List ℕ) (parent : ℕ) (m : Chain) (room : ℕ) → WriteConditions bytes parent m room (answerNumber (writeAnswer bytes parent m room))
 unfolding writeAnswer writeIn
 write-conditions bytes parent m room =
     let h =
@@ -373,11 +373,11 @@ dtd-conditions bytes room =
 -- ---- a declaration read
 
 module _ (bytes text : List ℕ) where
-  read-given : ((x : Declared) × (readAnswer bytes text ≡ given x)) ↔ ((b : Book) × TakenAs bytes b × ((p : ℕ) × (m : Model) × Spelled places (b .names) text p m))
+  read-given : ((x : Declared) × (readAnswer bytes text ≡ given x)) ↔ ((b : Book) × TakenAs bytes b × ((p : ℕ) × (m : Chain) × Spelled places (b .names) text p m))
   unfolding readAnswer
-  read-given = in-given bytes (λ b. textAnswer places (b .names) text) (λ b. (p : ℕ) × (m : Model) × Spelled places (b .names) text p m) spelled
+  read-given = in-given bytes (λ b. textAnswer places (b .names) text) (λ b. (p : ℕ) × (m : Chain) × Spelled places (b .names) text p m) spelled
     where
-      spelled : (b : Book) → TakenAs bytes b → ((x : Declared) × (textAnswer places (b .names) text ≡ given x)) ↔ ((p : ℕ) × (m : Model) × Spelled places (b .names) text p m)
+      spelled : (b : Book) → TakenAs bytes b → ((x : Declared) × (textAnswer places (b .names) text ≡ given x)) ↔ ((p : ℕ) × (m : Chain) × Spelled places (b .names) text p m)
       spelled b q =
           let good = good-names bytes b (taken-law bytes b .0 q) in (
             λ (x, g). (x .parent, x .model, Spelling.read-exactly places (b .names) good text (x .parent) (x .model) .0 g),

@@ -15,7 +15,7 @@ use Rattle.nameset.specs.Places.{places, OutOfRange}
 use Rattle.book.specs.Book.{Book}
 use Rattle.book.specs.Taken.{TakenAs}
 use Rattle.book.specs.Stops.{Stops}
-use Rattle.model.specs.declared.Model.{Model}
+use Rattle.model.specs.declared.Chain.{Chain}
 use Rattle.model.specs.Record.{IsChain}
 use Rattle.chain_sample.specs.Sample.{chainOfWords}
 use Rattle.declaration_spelling.specs.House.{declaration}
@@ -54,7 +54,7 @@ abbrev pub InRange : ℕ → Type 0
 InRange n = (0 < n) × (n ≤ places)
 
 -- Acceptance of the word w by the record m over n names.
-pub record WordConditions (n : ℕ) (m : Model) (w : List ℕ) (k : ℕ) : Type 0 where
+pub record WordConditions (n : ℕ) (m : Chain) (w : List ℕ) (k : ℕ) : Type 0 where
   -- "count N, also when given alone: 0 or above 64"
   pub three : (k ≡ 3) ↔ OutOfRange n
   -- "no chain over N names"
@@ -65,7 +65,7 @@ pub record WordConditions (n : ℕ) (m : Model) (w : List ℕ) (k : ℕ) : Type 
   pub no-other : (k ≡ 0) ⊎ ((k ≡ 3) ⊎ ((k ≡ 10) ⊎ (k ≡ 11)))
 
 -- The comparison of two models over so many names (`count`), with a buffer of `room` places (request U4 of paper 02).
-pub record WithinConditions (count : ℕ) (first second : Model) (room : ℕ) (k : ℕ) : Type 0 where
+pub record WithinConditions (count : ℕ) (first second : Chain) (room : ℕ) (k : ℕ) : Type 0 where
   pub three : (k ≡ 3) ↔ OutOfRange count
   -- "10 for the first record, then 10 for the second": one number for both, so it does not tell which one was seen
   -- first
@@ -86,7 +86,7 @@ pub record ModelConditions (bytes : List ℕ) (parent : ℕ) (k : ℕ) : Type 0 
   pub no-other : (k ≡ 0) ⊎ (OfBook k ⊎ ((k ≡ 8) ⊎ (k ≡ 9)))
 
 -- A declaration written with the record m, into a buffer of `room` bytes.
-pub record WriteConditions (bytes : List ℕ) (parent : ℕ) (m : Model) (room : ℕ) (k : ℕ) : Type 0 where
+pub record WriteConditions (bytes : List ℕ) (parent : ℕ) (m : Chain) (room : ℕ) (k : ℕ) : Type 0 where
   pub book : BookConditions bytes k
   pub eight : (k ≡ 8) ↔ ((b : Book) × TakenAs bytes b × (length (b .names) ≤ parent))
   pub ten : (k ≡ 10) ↔ ((b : Book) × TakenAs bytes b × ((parent < length (b .names)) × (¬ IsChain places (length (b .names)) m)))
@@ -131,5 +131,5 @@ pub record ReadConditions (bytes text : List ℕ) (k : ℕ) : Type 0 where
   -- "a name twice in the model"
   pub fifteen : (k ≡ 15) ↔ ((b : Book) × TakenAs bytes b ×
       ((d : Form) × HasForm text d × ((x : List ℕ) → List·Memᴰ x (formNames d) → List·Memᴰ x (b .names)) × Twice (modelNames (d .factors))))
-  pub none : (k ≡ 0) ↔ ((b : Book) × TakenAs bytes b × ((p : ℕ) × (m : Model) × Spelled places (b .names) text p m))
+  pub none : (k ≡ 0) ↔ ((b : Book) × TakenAs bytes b × ((p : ℕ) × (m : Chain) × Spelled places (b .names) text p m))
   pub no-other : (k ≡ 0) ⊎ (OfBook k ⊎ ((k ≡ 13) ⊎ ((k ≡ 14) ⊎ (k ≡ 15))))

@@ -7,7 +7,7 @@ use lib.ListN.{length, take, drop}
 use Rattle.nameset.specs.Places.{places}
 use Rattle.book.specs.Book.{Book}
 use Rattle.book.specs.Taken.{TakenAs}
-use Rattle.model.specs.declared.Model.{Model}
+use Rattle.model.specs.declared.Chain.{Chain}
 use Rattle.model.specs.Record.{IsChain}
 use Rattle.model.specs.Accept.{Accepts, Names}
 use Rattle.model_language.specs.Word.{AcceptsAll}
@@ -30,12 +30,12 @@ pub record Asked (bytes : List ℕ) (parent : ℕ) (r : Inferred) (b : Book) : T
   pub block : ¬ (sampleOf b parent ≡ [])
 
 -- Demand 3, of a record and the words of a sample over n names.
-pub record Minimal (n : ℕ) (ours : Model) (words : List (List ℕ)) : Type 0 where
+pub record Minimal (n : ℕ) (ours : Chain) (words : List (List ℕ)) : Type 0 where
   -- "our model for that parent is a chain expression"
   pub chain : IsChain places n ours
   -- "that accepts every one of them."
   pub accepts : AcceptsAll ours words
   -- "Every other chain expression that accepts every word of that sample also accepts some word that ours does not
   -- accept." The proof gives such a word, and it is short: at most one name more than that chain has factors.
-  pub no-better : (other : Model) → IsChain places n other → AcceptsAll other words → ¬ (other ≡ ours) →
+  pub no-better : (other : Chain) → IsChain places n other → AcceptsAll other words → ¬ (other ≡ ours) →
       (w : List ℕ) × Accepts other w × (¬ Accepts ours w) × (length w ≤ other .count + 1) × Names n w

@@ -2,7 +2,7 @@
 -- Assumes nothing.
 use mathlib.Core.Path.{_≡_, refl}
 use mathlib.Core.List.{map}
-use Rattle.model.specs.Record.{factorOf, modeOf, emptyModel}
+use Rattle.model.specs.Record.{factorOf, modeOf, emptyChain}
 use Rattle.model.specs.Build.{entriesWith, withFactor}
 use Rattle.follow.specs.Follow.{someWord, beginsWith, endsWith, hasPair, isEmpty}
 use Rattle.chain_levels.specs.Below.{anyBelow, countBelow, firstBelow, largestBelow}
@@ -28,7 +28,7 @@ unfolding
     -- levels
     isBefore levelBy levelOf lastLevel skipped
     -- the chain
-    emptyModel entriesWith withFactor singleAt leadsAt factors factorsAt fixed singlesMode groupMode
+    emptyChain entriesWith withFactor singleAt leadsAt factors factorsAt fixed singlesMode groupMode
     withAny withEach withBoth withLevel chainTo chainOf chainOfWords
     -- the declaration
     factorOf modeOf markByte members factorsFrom factorsOf nameAt namesAt named opening emptyWord

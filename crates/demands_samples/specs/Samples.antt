@@ -7,7 +7,7 @@ use mathlib.Core.List.{List, [], _∷_, _++_, map}
 use lib.Dec.{eqb}
 use lib.ListN.{length}
 use Rattle.nameset.specs.Places.{places}
-use Rattle.model.specs.declared.Model.{Model}
+use Rattle.model.specs.declared.Chain.{Chain}
 use Rattle.chain_sample.specs.Sample.{chainOfWords}
 use Rattle.declaration_spelling.specs.House.{declaration}
 use Rattle.declaration_spelling.specs.Text.{bytes}
@@ -55,7 +55,7 @@ unfoldable pub lineWords : Line → List (List ℕ)
 lineWords l = map (λ w. map (letterNumber (bytes (l .letters))) (bytes w)) (l .sample)
 
 -- The model that paper 01's rules give to these words: a record of 64 places.
-unfoldable pub lineModel : Line → Model
+unfoldable pub lineModel : Line → Chain
 lineModel l = chainOfWords places (length (lineNames l)) (lineWords l)
 
 -- The declaration of this model. A declaration names a parent and the table gives none: the first letter is taken.

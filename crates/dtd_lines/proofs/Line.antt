@@ -11,7 +11,7 @@ use Rattle.book.specs.declared.Layout.{Layout}
 use Rattle.book.specs.Book.{namesIn}
 use Rattle.book.specs.Access.{LaidOut}
 use Rattle.book.proofs.Laws.{few-names}
-use Rattle.model.specs.declared.Model.{Model}
+use Rattle.model.specs.declared.Chain.{Chain}
 use Rattle.model.specs.Record.{noFactor, IsChain}
 use Rattle.follow.proofs.Laws.{over-in}
 use Rattle.follow_row.specs.Row.{OfWords}
@@ -37,7 +37,7 @@ module _ (s : List ℕ) (l : Layout) (laid : LaidOut s l) (p : ℕ) (below : p <
   nothing-put e d at = put-is d at [] (factLine (namesIn s) p (rowFacts (l .names) row)) at d (sym (no-line e)) (put-nothing d at)
 
   -- facts that show a word
-  module _ (some : showWord places (rowFacts (l .names) row) ≡ true) (m : Model) (made : m ≡ chainOf places (rowFacts (l .names) row)) where
+  module _ (some : showWord places (rowFacts (l .names) row) ≡ true) (m : Chain) (made : m ≡ chainOf places (rowFacts (l .names) row)) where
     pub chain : IsChain places (l .names) m
     unfolding rowFacts chainOfWords
     chain =
@@ -48,7 +48,7 @@ module _ (s : List ℕ) (l : Layout) (laid : LaidOut s l) (p : ℕ) (below : p <
 
     line-is : factLine (namesIn s) p (rowFacts (l .names) row) ≡ declaration (namesIn s) p m ++ shown 10
     unfolding factLine shown
-    line-is = rw some (ap (λ (x : Model). declaration (namesIn s) p x ++ (10 ∷ [])) (sym made))
+    line-is = rw some (ap (λ (x : Chain). declaration (namesIn s) p x ++ (10 ∷ [])) (sym made))
 
     pub some-short : length (factLine (namesIn s) p (rowFacts (l .names) row)) ≤ longestLine
     unfolding shown

@@ -12,7 +12,7 @@ use Rattle.nameset.specs.Places.{places}
 use Rattle.book.specs.Book.{Book, IsBook}
 use Rattle.book.specs.Taken.{TakenAs}
 use Rattle.book.proofs.Taken.{taken-law}
-use Rattle.model.specs.declared.Model.{Model}
+use Rattle.model.specs.declared.Chain.{Chain}
 use Rattle.model.specs.Record.{noFactor, IsChain}
 use Rattle.model.specs.Accept.{Accepts, Names}
 use Rattle.model_language.specs.Word.{Fact, AcceptsAll}
@@ -37,7 +37,7 @@ module _ (bytes : List ℕ) (parent : ℕ) (answer : Inferred) (call : answer �
   abbrev sample : List (List ℕ)
   sample = sampleOf book parent
 
-  abbrev ours : Model
+  abbrev ours : Chain
   ours = answer .model
 
   read : IsBook bytes book
@@ -72,15 +72,15 @@ module _ (bytes : List ℕ) (parent : ℕ) (answer : Inferred) (call : answer �
   -- it accepts every sample word,
   pub accepts-sample : AcceptsAll ours sample
   unfolding chainOfWords
-  accepts-sample = subst (λ (m : Model). AcceptsAll m sample) model-is (Demand.accepts-words places n few small sample names block)
+  accepts-sample = subst (λ (m : Chain). AcceptsAll m sample) model-is (Demand.accepts-words places n few small sample names block)
 
   -- and every other chain over the book's names that accepts every sample word accepts a word, handed over here, that
   -- ours does not accept.
-  pub no-better : (other : Model) → IsChain places n other → AcceptsAll other sample → ¬ (other ≡ ours) →
+  pub no-better : (other : Chain) → IsChain places n other → AcceptsAll other sample → ¬ (other ≡ ours) →
       (w : List ℕ) × Accepts other w × (¬ Accepts ours w) × (length w ≤ other .count + 1) × Names n w
   unfolding chainOfWords
   no-better other c a =
-      subst (λ (m : Model). ¬ (other ≡ m) → (w : List ℕ) × Accepts other w × (¬ Accepts m w) × (length w ≤ other .count + 1) × Names n w) model-is
+      subst (λ (m : Chain). ¬ (other ≡ m) → (w : List ℕ) × Accepts other w × (¬ Accepts m w) × (length w ≤ other .count + 1) × Names n w) model-is
       (Demand.other-accepts-more places n few small sample names block other c a)
 
   -- It is the chain that the levels give, over the steps that the sample's words show, and the only chain that is.
@@ -88,7 +88,7 @@ module _ (bytes : List ℕ) (parent : ℕ) (answer : Inferred) (call : answer �
   unfolding chainOfWords
   is-placed = subst (Placed (Fact sample)) model-is (Demand.is-placed places n few small sample names block)
 
-  pub only-placed : (m : Model) → IsChain places n m → Placed (Fact sample) m → m ≡ ours
+  pub only-placed : (m : Chain) → IsChain places n m → Placed (Fact sample) m → m ≡ ours
   unfolding chainOfWords
   only-placed m c p = Demand.only-placed places n few small sample names block m c p ∙ model-is
 

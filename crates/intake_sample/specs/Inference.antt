@@ -12,7 +12,7 @@ use Rattle.refusal.specs.Answer.{Answer, given, onward, refuseIf, valueOr, outc
 use Rattle.book.specs.declared.Reading.{Reading}
 use Rattle.book.specs.Book.{Book}
 use Rattle.book.specs.Taken.{takenBook, badParent}
-use Rattle.model.specs.declared.Model.{Model}
+use Rattle.model.specs.declared.Chain.{Chain}
 use Rattle.model.specs.Record.{dueModel}
 use Rattle.follow.specs.Sample.{wordsOf}
 use Rattle.chain_sample.specs.Sample.{chainOfWords}
@@ -29,19 +29,19 @@ noWord [] = true
 noWord (w ∷ ws) = false
 
 -- The chain of the parent's sample over the book's names.
-unfoldable pub chainIn : Book → ℕ → Model
+unfoldable pub chainIn : Book → ℕ → Chain
 chainIn b parent = chainOfWords places (length (b .names)) (sampleOf b parent)
 
 -- 8, then "9: no block has it", else the chain.
-unfoldable pub modelIn : Book → ℕ → Answer Model
+unfoldable pub modelIn : Book → ℕ → Answer Chain
 modelIn b parent = refuseIf (badParent b parent) BadParent (refuseIf (noWord (sampleOf b parent)) NoBlock (given (chainIn b parent)))
 
 -- The call's answer for any bytes as the book and any parent: 1 to 7, then those.
-unfoldable pub modelAnswer : List ℕ → ℕ → Answer Model
+unfoldable pub modelAnswer : List ℕ → ℕ → Answer Chain
 modelAnswer bytes parent = onward (takenBook bytes) (λ b. modelIn b parent)
 
 -- The answer as the code has it: a refused call answers the model due.
-unfoldable pub inferred : Answer Model → Inferred
+unfoldable pub inferred : Answer Chain → Inferred
 inferred a = record { outcome = outcomeOf a; model = valueOr dueModel a }
 
 -- The whole promise of the call, of its answer r.
@@ -49,5 +49,5 @@ abbrev pub InfersModel : List ℕ → ℕ → Inferred → Type 0
 InfersModel bytes parent r = r ≡ inferred (modelAnswer bytes parent)
 
 -- The same, with the layout of the book for whoever goes back to its names.
-unfoldable pub inferredIn : Reading → Answer Model → InferredIn
+unfoldable pub inferredIn : Reading → Answer Chain → InferredIn
 inferredIn r a = record { outcome = outcomeOf a; layout = r .layout; model = valueOr dueModel a }

@@ -6,7 +6,7 @@ use chain_sample::row_chain;
 use chain_sample::shows_word;
 use follow_parent::take_parent;
 use follow_row::ROW;
-use model::Model;
+use model::Chain;
 use refusal::Outcome;
 use refusal::Refusal;
 ghost use mathlib.Core.Path.{_≡_};
@@ -23,7 +23,7 @@ fn stopped(reading: Reading, refusal: Refusal) -> InferredIn
     InferredIn {
         outcome: Outcome::Refused(refusal),
         layout,
-        model: Model::empty(),
+        model: Chain::empty(),
     }
 }
 

@@ -11,10 +11,10 @@ use Rattle.refusal.specs.declared.Refusal.the-variants.{BadNameCount, NotAChain
 use Rattle.refusal.specs.Answer.{Answer, given, refused}
 use Rattle.nameset.specs.Places.{places, goodCount}
 use Rattle.nameset.proofs.Count.{count-bounds}
-use Rattle.model.specs.declared.Model.{Model}
+use Rattle.model.specs.declared.Chain.{Chain}
 use Rattle.model.specs.Record.{IsChain}
 use Rattle.model.specs.Check.{isChain}
-use Rattle.model.proofs.Chain.{chain-law}
+use Rattle.model.proofs.ChainLaw.{chain-law}
 use Rattle.model_language.specs.Step.{Step}
 use Rattle.model_language.proofs.Theorem.{accepts-steps}
 use Rattle.model_inclusion.specs.Inclusion.{longestCounterexample}
@@ -35,7 +35,7 @@ use Rattle.intake_within.specs.Comparison.{comparisonOf, Leaves, Compare
 
 -- ---- two chains
 
-module _ (n : ℕ) (a b : Model) (c : IsChain places n a) (d : IsChain places n b) (t : Compared) (q : Told a b t) where
+module _ (n : ℕ) (a b : Chain) (c : IsChain places n a) (d : IsChain places n b) (t : Compared) (q : Told a b t) where
   pub says-yes : (d₀ : List ℕ) → t ≡ Included → Leaves a b (given (within n a b)) Yes d₀ d₀
   says-yes d₀ e = subst (λ (z : Bool). Leaves a b (given z) Yes d₀ d₀) (told-yes n a b c d t q e) (refl, refl)
 
@@ -73,7 +73,7 @@ module _ (n : ℕ) (a b : Model) (c : IsChain places n a) (d : IsChain places n 
 
 -- ---- each way through the checks
 
-module _ (n : ℕ) (a b : Model) (d₀ : List ℕ) where
+module _ (n : ℕ) (a b : Chain) (d₀ : List ℕ) where
   promised : (x : Answer Bool) (r : Inclusion) (d₁ : List ℕ) → comparisonOf n a b (length d₀) ≡ x → Leaves a b x r d₀ d₁ → ComparesModels n a b r d₀ d₁
   promised x r d₁ e h = record { leaves = subst (λ (z : Answer Bool). Leaves a b z r d₀ d₁) (sym e) h }
 

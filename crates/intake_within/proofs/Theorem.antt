@@ -15,9 +15,9 @@ use Rattle.refusal.proofs.Laws.{number-positive}
 use Rattle.refusal.proofs.Answers.{check-given, given-same}
 use Rattle.nameset.specs.Places.{places, goodCount}
 use Rattle.nameset.proofs.Count.{count-bounds, bounds-count}
-use Rattle.model.specs.declared.Model.{Model}
+use Rattle.model.specs.declared.Chain.{Chain}
 use Rattle.model.specs.Check.{isChain}
-use Rattle.model.proofs.Chain.{chain-law}
+use Rattle.model.proofs.ChainLaw.{chain-law}
 use Rattle.model_inclusion.specs.Inclusion.{Within, longestCounterexample}
 use Rattle.model_inclusion.specs.Search.{within}
 use Rattle.model_inclusion.proofs.Search.{within-law, not-within}
@@ -26,7 +26,7 @@ use Rattle.intake_within.specs.Comparison.{comparisonOf, inclusionNumber
 
 -- ---- what the checks let pass
 
-module _ (n : ℕ) (first second : Model) (room : ℕ) where
+module _ (n : ℕ) (first second : Chain) (room : ℕ) where
   given-passes : (b : Bool) → comparisonOf n first second room ≡ given b → PassesBoth n first second room × (within n first second ≡ b)
   unfolding comparisonOf
   given-passes b e =
@@ -59,7 +59,7 @@ module _ (n : ℕ) (first second : Model) (room : ℕ) where
 
 -- ---- the call
 
-module _ (n : ℕ) (first second : Model) (r : Inclusion) (before after : List ℕ) (call : ComparesModels n first second r before after) where
+module _ (n : ℕ) (first second : Chain) (r : Inclusion) (before after : List ℕ) (call : ComparesModels n first second r before after) where
   -- The promise, for an answer that is known.
   leaves : (x : Answer Bool) → comparisonOf n first second (length before) ≡ x → Leaves first second x r before after
   leaves x e = subst (λ (z : Answer Bool). Leaves first second z r before after) e (call .leaves)

@@ -14,7 +14,7 @@ use Rattle.refusal.specs.Table.{stoppedBy}
 use Rattle.refusal.specs.Answer.{Answer, given, refused, refuseIf}
 use Rattle.nameset.specs.Places.{places, goodCount}
 use Rattle.byte_buffer.specs.Put.{wrote}
-use Rattle.model.specs.declared.Model.{Model}
+use Rattle.model.specs.declared.Chain.{Chain}
 use Rattle.model.specs.Record.{IsChain}
 use Rattle.model.specs.Check.{isChain}
 use Rattle.model_inclusion.specs.Inclusion.{Counterexample, longestCounterexample}
@@ -24,7 +24,7 @@ use Rattle.intake_within.specs.declared.Inclusion.the-variants.{Yes, No,
 
 -- "3, then 10 for the first record, then 10 for the second, then 12 if the buffer has fewer than 65 places, even when
 -- the answer is yes"; else whether every word of the first is one of the second. The buffer has `room` places.
-unfoldable pub comparisonOf : ℕ → Model → Model → ℕ → Answer Bool
+unfoldable pub comparisonOf : ℕ → Chain → Chain → ℕ → Answer Bool
 comparisonOf n first second room =
     refuseIf (not (goodCount n)) BadNameCount
     (refuseIf (not (isChain places n first)) NotAChain
@@ -50,7 +50,7 @@ inclusionLength (No l) = l
 inclusionLength (Refused f) = stoppedBy f .length
 
 -- Nothing stops the call.
-pub record PassesBoth (n : ℕ) (first second : Model) (room : ℕ) : Type 0 where
+pub record PassesBoth (n : ℕ) (first second : Chain) (room : ℕ) : Type 0 where
   pub some : 0 < n
   pub few : n ≤ places
   pub first-chain : IsChain places n first
@@ -58,7 +58,7 @@ pub record PassesBoth (n : ℕ) (first second : Model) (room : ℕ) : Type 0 whe
   pub enough : longestCounterexample ≤ room
 
 -- A counterexample of l names was written to the front of the buffer: any one, "which word is free".
-pub record WordWritten (first second : Model) (l : ℕ) (before after : List ℕ) : Type 0 where
+pub record WordWritten (first second : Chain) (l : ℕ) (before after : List ℕ) : Type 0 where
   pub word : List ℕ
   pub example : Counterexample first second word
   pub short : length word ≤ longestCounterexample
@@ -66,11 +66,11 @@ pub record WordWritten (first second : Model) (l : ℕ) (before after : List ℕ
   pub buffer : after ≡ wrote before 0 word
 
 -- The answer as the code has it, and what the buffer holds, which held `before`. Only on no is it changed.
-abbrev pub Leaves : Model → Model → Answer Bool → Inclusion → List ℕ → List ℕ → Type 0
+abbrev pub Leaves : Chain → Chain → Answer Bool → Inclusion → List ℕ → List ℕ → Type 0
 Leaves first second (given true) r before after = (r ≡ Yes) × (after ≡ before)
 Leaves first second (given false) r before after = (l : ℕ) × (r ≡ No l) × WordWritten first second l before after
 Leaves first second (refused f) r before after = (r ≡ Refused f) × (after ≡ before)
 
 -- The whole promise of the call, of its answer r.
-pub record ComparesModels (n : ℕ) (first second : Model) (r : Inclusion) (before after : List ℕ) : Type 0 where
+pub record ComparesModels (n : ℕ) (first second : Chain) (r : Inclusion) (before after : List ℕ) : Type 0 where
   pub leaves : Leaves first second (comparisonOf n first second (length before)) r before after

@@ -1,6 +1,6 @@
 // The call that says whether every word of a model is a word of another (request U4 of paper 02). It has no
 // requirement: it says for every input what it answers and what the buffer then holds.
-use model::Model;
+use model::Chain;
 use model_extremes::extreme_names;
 use model_within::Compared;
 use model_within::find_step;
@@ -29,7 +29,7 @@ const LONGEST: usize = PLACES + 1;
 
 // Whether a record is a chain. Its two rows are copied here, once for each record; without the copies a call over up
 // to 24 names takes longer.
-fn is_chain(names: usize, m: Model) -> bool
+fn is_chain(names: usize, m: Chain) -> bool
     ensures { λ r. ⌜ r ≡ isChain places names m ⌝ }
 {
     let factor = m.factor;
@@ -38,7 +38,7 @@ fn is_chain(names: usize, m: Model) -> bool
 }
 
 // The answer for two chains, with the word in the front of the buffer if it is no.
-fn compare_chains(names: usize, first: Model, second: Model, word: &mut [u8]) -> Inclusion
+fn compare_chains(names: usize, first: Chain, second: Chain, word: &mut [u8]) -> Inclusion
     requires { ⌜ (names ≤ places) × IsChain places names first × IsChain places names second × (longestCounterexample ≤ length (now word)) ⌝ }
     ensures { λ r. ⌜ Leaves first second (given (within names first second)) r (now (word .entry)) (now (word .exit)) ⌝ }
 {
@@ -53,7 +53,7 @@ fn compare_chains(names: usize, first: Model, second: Model, word: &mut [u8]) ->
 
 // Whether every word of the first model is a word of the second: 3, then 10 for the first, 10 for the second, then 12,
 // else yes or no.
-pub fn within(names: usize, first: Model, second: Model, word: &mut [u8]) -> Inclusion
+pub fn within(names: usize, first: Chain, second: Chain, word: &mut [u8]) -> Inclusion
     ensures { λ r. ⌜ ComparesModels names first second r (now (word .entry)) (now (word .exit)) ⌝ }
 {
     if !nameset::good_count(names) {

@@ -10,7 +10,7 @@ use Rattle.refusal.specs.declared.Refusal.the-variants.{BadNameCount, NotAChain
 use Rattle.refusal.specs.Answer.{Answer, given, refused, outcomeOf, outcomeNumber}
 use Rattle.nameset.specs.Places.{places, goodCount}
 use Rattle.book.specs.Book.{allBelow}
-use Rattle.model.specs.declared.Model.{Model}
+use Rattle.model.specs.declared.Chain.{Chain}
 use Rattle.model.specs.Check.{isChain}
 use Rattle.model.specs.Run.{accepts}
 use Rattle.intake_word.specs.declared.Acceptance.the-variants.{Refused}
@@ -40,7 +40,7 @@ yes-law (given true) = refl
 yes-law (given false) = refl
 yes-law (refused r) = refl
 
-module _ (n : ℕ) (m : Model) (w : List ℕ) where
+module _ (n : ℕ) (m : Chain) (w : List ℕ) where
   promised : (a : Answer Bool) → answerOf n m w ≡ a → AcceptsWord n m w (acceptance a)
   promised a e = rw (← e) record { same = refl; number = number-law (answerOf n m w); yes = yes-law (answerOf n m w) }
 

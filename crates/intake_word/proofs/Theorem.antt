@@ -14,11 +14,11 @@ use Rattle.refusal.proofs.Answers.{check-given, given-same}
 use Rattle.nameset.specs.Places.{places, goodCount}
 use Rattle.nameset.proofs.Count.{count-bounds, bounds-count}
 use Rattle.book.specs.Book.{allBelow}
-use Rattle.model.specs.declared.Model.{Model}
+use Rattle.model.specs.declared.Chain.{Chain}
 use Rattle.model.specs.Check.{isChain}
 use Rattle.model.specs.Accept.{Accepts, Names}
 use Rattle.model.proofs.Tests.{never}
-use Rattle.model.proofs.Chain.{chain-law}
+use Rattle.model.proofs.ChainLaw.{chain-law}
 use Rattle.model.proofs.Acceptance.{accepts-law}
 use Rattle.intake_word.specs.declared.Acceptance.{Acceptance}
 use Rattle.intake_word.specs.declared.Acceptance.the-variants.{Yes}
@@ -70,7 +70,7 @@ yes-given (refused r) e = absurd (never (cc))
 
 -- The call answers yes exactly when nothing stops it and the word is a joining of one part for each factor of the model
 -- in order.
-pub yes-exactly : (n : ℕ) (m : Model) (w : List ℕ) (r : Acceptance) → AcceptsWord n m w r → (r ≡ Yes) ↔ (Passes n m w × Accepts m w)
+pub yes-exactly : (n : ℕ) (m : Chain) (w : List ℕ) (r : Acceptance) → AcceptsWord n m w r → (r ≡ Yes) ↔ (Passes n m w × Accepts m w)
 unfolding acceptance answerOf badModel badWord
 yes-exactly n m w r h = (λ e. to (yes-given (answerOf n m w) (sym (h .same) ∙ e)), λ p. h .same ∙ from (p .0) (p .1))
   where

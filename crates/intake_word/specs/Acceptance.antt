@@ -13,7 +13,7 @@ use Rattle.refusal.specs.Table.{stoppedBy}
 use Rattle.refusal.specs.Answer.{Answer, given, refused, refuseIf, answerNumber}
 use Rattle.nameset.specs.Places.{places, goodCount}
 use Rattle.book.specs.Book.{allBelow}
-use Rattle.model.specs.declared.Model.{Model}
+use Rattle.model.specs.declared.Chain.{Chain}
 use Rattle.model.specs.Record.{IsChain}
 use Rattle.model.specs.Check.{isChain}
 use Rattle.model.specs.Accept.{Names}
@@ -22,7 +22,7 @@ use Rattle.intake_word.specs.declared.Acceptance.{Acceptance}
 use Rattle.intake_word.specs.declared.Acceptance.the-variants.{Yes, No, Refused}
 
 -- 10: "no chain over N names".
-unfoldable pub badModel : ℕ → Model → Bool
+unfoldable pub badModel : ℕ → Chain → Bool
 badModel n m = not (isChain places n m)
 
 -- The most names that a word may have in a call.
@@ -34,7 +34,7 @@ unfoldable pub badWord : ℕ → List ℕ → Bool
 badWord n w = ltb longestWord (length w) || not (allBelow n w)
 
 -- The call's answer: the first check that applies (3: "0 or above 64" for the count N), else whether m accepts w.
-unfoldable pub answerOf : ℕ → Model → List ℕ → Answer Bool
+unfoldable pub answerOf : ℕ → Chain → List ℕ → Answer Bool
 answerOf n m w =
     refuseIf (not (goodCount n)) BadNameCount (refuseIf (badModel n m) NotAChain (refuseIf (badWord n w) BadWord (given (accepts m w))))
 
@@ -62,7 +62,7 @@ yesDue (given b) = b
 yesDue (refused r) = stoppedBy r .yes
 
 -- Nothing stops the call.
-pub record Passes (n : ℕ) (m : Model) (w : List ℕ) : Type 0 where
+pub record Passes (n : ℕ) (m : Chain) (w : List ℕ) : Type 0 where
   pub some : 0 < n
   pub few : n ≤ places
   pub chain : IsChain places n m
@@ -70,7 +70,7 @@ pub record Passes (n : ℕ) (m : Model) (w : List ℕ) : Type 0 where
   pub names : Names n w
 
 -- The whole promise of the call, of its answer r.
-pub record AcceptsWord (n : ℕ) (m : Model) (w : List ℕ) (r : Acceptance) : Type 0 where
+pub record AcceptsWord (n : ℕ) (m : Chain) (w : List ℕ) (r : Acceptance) : Type 0 where
   pub same : r ≡ acceptance (answerOf n m w)
   pub number : acceptanceNumber r ≡ answerNumber (answerOf n m w)
   pub yes : acceptanceYes r ≡ yesDue (answerOf n m w)

@@ -1,5 +1,5 @@
 // The call that says whether a model accepts a word. It has no requirement: it says for every input what it answers.
-use model::Model;
+use model::Chain;
 use refusal::Refusal;
 ghost use mathlib.Core.Path.{_≡_};
 ghost use Prim.Native.Nat.{_<_};
@@ -55,7 +55,7 @@ fn rows_accept_word<'a>(
 }
 
 // Whether the model accepts the word. Here its two rows are copied, once for the call; all below borrows them.
-pub fn accepts_word(names: usize, model: Model, word: &[u8]) -> Acceptance
+pub fn accepts_word(names: usize, model: Chain, word: &[u8]) -> Acceptance
     ensures { λ r. ⌜ AcceptsWord names model (now (word .entry)) r ⌝ }
 {
     let factor = model.factor;

@@ -10,7 +10,7 @@ use native.Mathlib.Omega.{arith}
 use native.Mathlib.Numerals.{add-one}
 use borrow.Author.Tests.{eqb-true, eq-eqb, ne-eqb}
 use lib.Dec.{eqb}
-use Rattle.model.specs.declared.Model.{Model}
+use Rattle.model.specs.declared.Chain.{Chain}
 use Rattle.model.specs.declared.Turn.{Turn}
 use Rattle.model.specs.declared.Turn.the-variants.{Take, Leave, Refuse}
 use Rattle.model.specs.declared.Moved.the-variants.{To}
@@ -22,7 +22,7 @@ use Rattle.model.proofs.Turns.{leave≢take, refuse≢take, take≢leav
 use Rattle.model.proofs.Words.{run-nowhere}
 
 -- From factor i, of which a name was taken or not, the word w leads to the end.
-pub data Run (m : Model) : ℕ → Bool → List ℕ → Type 0 where
+pub data Run (m : Chain) : ℕ → Bool → List ℕ → Type 0 where
   done : {i : ℕ} {t : Bool} {w : List ℕ} → i ≡ m .count → w ≡ [] → Run m i t w
   leave : {i : ℕ} {t : Bool} {w : List ℕ} → i < m .count → turnOf (modeOf m i) t false ≡ Leave → Run m (suc i) false w → Run m i t w
   take : {i x : ℕ} {t : Bool} {w : List ℕ} → i < m .count → factorOf m x ≡ i → turnOf (modeOf m i) t true ≡ Take → Run m i true w → Run m i t (x ∷ w)
@@ -44,10 +44,10 @@ turn-leave (suc (suc (suc (suc f)))) t true e = e
 -- ---- the test and the turns
 
 -- Whether w leads to the end from factor i, by the test.
-abbrev pub Goes : Model → ℕ → Bool → List ℕ → Bool
+abbrev pub Goes : Chain → ℕ → Bool → List ℕ → Bool
 Goes m i t w = mayEnd m (run m (To (state i t)) w)
 
-module _ (m : Model) (i : ℕ) (t : Bool) where
+module _ (m : Chain) (i : ℕ) (t : Bool) where
   -- At the end of the word it is factor i's turn with no name of its own.
   pub goes-end : (u : Turn) → i < m .count → turnOf (modeOf m i) t false ≡ u → Goes m i t [] ≡ after u true (Goes m (suc i) false [])
   unfolding run mayEnd modeOf
@@ -83,7 +83,7 @@ module _ (m : Model) (i : ℕ) (t : Bool) where
   unfolding run move wentTo mayEnd
   past-name x w e = rw (goes-past (m .mode) (m .count) i t (factorOf m x) false (omega arith), run-nowhere m w)
 
-found : (m : Model) (w : List ℕ) (left i : ℕ) (t : Bool) → i + left ≡ m .count → Goes m i t w ≡ true → Run m i t w
+found : (m : Chain) (w : List ℕ) (left i : ℕ) (t : Bool) → i + left ≡ m .count → Goes m i t w ≡ true → Run m i t w
 unfolding run mayEnd after
 found m [] zero i t n e = let z : i ≡ m .count = omega arith in done z refl
 found m (x ∷ w) zero i t n e = absurd (false≢true (sym (past-name m i t x w (omega arith)) ∙ e))
@@ -111,12 +111,12 @@ found m (x ∷ w) (suc left) i t n e =
     go h q Refuse p f g = absurd (false≢true (sym (goes-name m i t x w Refuse l p) ∙ e))
 
 -- The first name of a run is in the factor where the run stands, or in a later one.
-ahead : {m : Model} {i x : ℕ} {t : Bool} {w : List ℕ} → Run m i t (x ∷ w) → i ≤ factorOf m x
+ahead : {m : Chain} {i x : ℕ} {t : Bool} {w : List ℕ} → Run m i t (x ∷ w) → i ≤ factorOf m x
 ahead (done e f) = absurd (never (cc))
 ahead (leave l e r) = omega (arith, ahead r)
 ahead (take l e f r) = omega arith
 
-tested : {m : Model} {i : ℕ} {t : Bool} {w : List ℕ} → Run m i t w → Goes m i t w ≡ true
+tested : {m : Chain} {i : ℕ} {t : Bool} {w : List ℕ} → Run m i t w → Goes m i t w ≡ true
 unfolding run after
 tested {m} {i} {t} (done e f) = rw f (past-end m i t e)
 tested {m} {i} {t} {w} (leave l e r) = go w r (tested r)
@@ -129,7 +129,7 @@ tested {m} {i} {t} (take {x = x} {w = w} l e f r) = goes-name m i t x w Take l (
 -- ---- the turns and the joining of parts
 
 -- What factor i, of mode f, may still take.
-abbrev Left : ℕ → Bool → Model → ℕ → List ℕ → Type 0
+abbrev Left : ℕ → Bool → Chain → ℕ → List ℕ → Type 0
 Left f false m i u = Part f m i u
 Left zero true m i u = u ≡ []
 Left (suc zero) true m i u = u ≡ []
@@ -137,7 +137,7 @@ Left (suc (suc zero)) true m i u = Many m i u
 Left (suc (suc (suc zero))) true m i u = Many m i u
 Left (suc (suc (suc (suc f)))) true m i u = ⊥
 
-left-none : (f : ℕ) (t : Bool) (m : Model) (i : ℕ) → turnOf f t false ≡ Leave → Left f t m i []
+left-none : (f : ℕ) (t : Bool) (m : Chain) (i : ℕ) → turnOf f t false ≡ Leave → Left f t m i []
 unfolding turnOf either
 left-none zero true m i e = refl
 left-none zero false m i e = absurd (refuse≢leave e)
@@ -150,7 +150,7 @@ left-none (suc (suc (suc zero))) false m i e = tt
 left-none (suc (suc (suc (suc f)))) true m i e = refuse≢leave e
 left-none (suc (suc (suc (suc f)))) false m i e = refuse≢leave e
 
-left-some : (f : ℕ) (t : Bool) (m : Model) (i x : ℕ) (u : List ℕ) → turnOf f t true ≡ Take → factorOf m x ≡ i → Left f true m i u → Left f t m i (x ∷ u)
+left-some : (f : ℕ) (t : Bool) (m : Chain) (i x : ℕ) (u : List ℕ) → turnOf f t true ≡ Take → factorOf m x ≡ i → Left f true m i u → Left f t m i (x ∷ u)
 unfolding turnOf either
 left-some zero true m i x u e h k = absurd (leave≢take e)
 left-some zero false m i x u e h k = (x, ap (λ (v : List ℕ). x ∷ v) k, h)
@@ -163,10 +163,10 @@ left-some (suc (suc (suc zero))) false m i x u e h k = (h, k)
 left-some (suc (suc (suc (suc f)))) t m i x u e h k = absurd (refuse≢take e)
 
 -- And the other way round: nothing, or a name and what may follow it.
-abbrev View : ℕ → Bool → Model → ℕ → List ℕ → Type 0
+abbrev View : ℕ → Bool → Chain → ℕ → List ℕ → Type 0
 View f t m i u = ((u ≡ []) × (turnOf f t false ≡ Leave)) ⊎ ((x : ℕ) × (v : List ℕ) × (u ≡ x ∷ v) × (factorOf m x ≡ i) × (turnOf f t true ≡ Take) × Left f true m i v)
 
-left-view : (f : ℕ) (t : Bool) (m : Model) (i : ℕ) (u : List ℕ) → Left f t m i u → View f t m i u
+left-view : (f : ℕ) (t : Bool) (m : Chain) (i : ℕ) (u : List ℕ) → Left f t m i u → View f t m i u
 unfolding turnOf either
 left-view zero true m i u k = inl (k, refl)
 left-view zero false m i u (x, e, h) = inr (x, [], e, h, refl, refl)
@@ -185,14 +185,14 @@ left-view (suc (suc (suc (suc f)))) true m i u k = absurd k
 left-view (suc (suc (suc (suc f)))) false m i u k = absurd k
 
 -- A run from factor i is at the end, or has what factor i may still take and then a joining for the factors behind it.
-abbrev Split : Model → ℕ → Bool → List ℕ → Type 0
+abbrev Split : Chain → ℕ → Bool → List ℕ → Type 0
 Split m i t w = ((i ≡ m .count) × (w ≡ [])) ⊎ ((u : List ℕ) × (v : List ℕ) × (i < m .count) × (w ≡ u ++ v) × Left (modeOf m i) t m i u × Joined m (suc i) v)
 
-split-joined : (m : Model) (i : ℕ) (w : List ℕ) → Split m i false w → Joined m i w
+split-joined : (m : Chain) (i : ℕ) (w : List ℕ) → Split m i false w → Joined m i w
 split-joined m i w (inl (e, f)) = none e f
 split-joined m i w (inr (u, v, l, e, k, j)) = part u v l e k j
 
-run-split : {m : Model} {i : ℕ} {t : Bool} {w : List ℕ} → Run m i t w → Split m i t w
+run-split : {m : Chain} {i : ℕ} {t : Bool} {w : List ℕ} → Run m i t w → Split m i t w
 run-split (done e f) = inl (e, f)
 run-split {m} {i} {t} {w} (leave l e r) = inr ([], w, l, refl, left-none (modeOf m i) t m i e, split-joined m (suc i) w (run-split r))
 run-split {m} {i} {t} (take {x = x} {w = w} l h e r) = go (run-split r)
@@ -201,7 +201,7 @@ run-split {m} {i} {t} (take {x = x} {w = w} l h e r) = go (run-split r)
     go (inl (p, f)) = absurd (omega arith)
     go (inr (u, v, l, p, k, j)) = inr (x ∷ u, v, l, ap (λ (z : List ℕ). x ∷ z) p, left-some (modeOf m i) t m i x u e h k, j)
 
-left-run : (m : Model) (i : ℕ) (v : List ℕ) → i < m .count → Run m (suc i) false v → (u : List ℕ) (t : Bool) → Left (modeOf m i) t m i u → Run m i t (u ++ v)
+left-run : (m : Chain) (i : ℕ) (v : List ℕ) → i < m .count → Run m (suc i) false v → (u : List ℕ) (t : Bool) → Left (modeOf m i) t m i u → Run m i t (u ++ v)
 left-run m i v l r [] t k = go (left-view (modeOf m i) t m i [] k)
   where
     go : View (modeOf m i) t m i [] → Run m i t v
@@ -216,16 +216,16 @@ left-run m i v l r (y ∷ u) t k = go (left-view (modeOf m i) t m i (y ∷ u) k)
         let b : z ≡ u = cc in
         take l (rw a at h) p (f (rw b at q))
 
-joined-run : {m : Model} {i : ℕ} {w : List ℕ} → Joined m i w → Run m i false w
+joined-run : {m : Chain} {i : ℕ} {w : List ℕ} → Joined m i w → Run m i false w
 joined-run (none e f) = done e f
 joined-run {m} {i} (part u v l e k j) = rw e (left-run m i v l (joined-run j) u false k)
 
 -- ---- the laws
 
-pub accepts-run : (m : Model) (w : List ℕ) → Accepts m w ↔ Run m 0 false w
+pub accepts-run : (m : Chain) (w : List ℕ) → Accepts m w ↔ Run m 0 false w
 accepts-run m w = (joined-run, λ r. split-joined m 0 w (run-split r))
 
 -- The computed answer is yes exactly when the word is a joining of one part for each factor in order.
-pub accepts-law : (m : Model) (w : List ℕ) → (accepts m w ≡ true) ↔ Accepts m w
+pub accepts-law : (m : Chain) (w : List ℕ) → (accepts m w ≡ true) ↔ Accepts m w
 unfolding accepts
 accepts-law m w = (λ e. accepts-run m w .1 (found m w (m .count) 0 false (omega arith) e), λ a. tested (accepts-run m w .0 a))

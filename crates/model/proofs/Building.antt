@@ -14,7 +14,7 @@ use lib.Seq.{getD-set-same, getD-set-other, ext-getD}
 use Rattle.nameset.specs.Places.{places}
 use Rattle.nameset.specs.Set.{member, first}
 use Rattle.nameset.specs.declared.NameSet.{NameSet}
-use Rattle.model.specs.declared.Model.{Model}
+use Rattle.model.specs.declared.Chain.{Chain}
 use Rattle.model.specs.Record.{noFactor}
 use Rattle.model.specs.Build.{entriesWith, withFactor}
 use Rattle.model.proofs.Tests.{and-left}
@@ -88,7 +88,7 @@ enter-all {names} {left} {v} {old} {new} r h =
 
 -- ---- the record
 
-pub built : (m : Model) (names : NameSet) (count : ℕ) (mode : ℕ) (factor : List ℕ) → count ≡ m .count → factor ≡ entriesWith (member names) count 0 (m .factor) →
-    _≡_ {A = Model} (record { count = count + 1; factor = factor; mode = set (m .mode) count mode }) (withFactor m (member names) mode)
+pub built : (m : Chain) (names : NameSet) (count : ℕ) (mode : ℕ) (factor : List ℕ) → count ≡ m .count → factor ≡ entriesWith (member names) count 0 (m .factor) →
+    _≡_ {A = Chain} (record { count = count + 1; factor = factor; mode = set (m .mode) count mode }) (withFactor m (member names) mode)
 unfolding withFactor
 built m names count mode factor e q = rw (q, e)

@@ -6,8 +6,8 @@ use mathlib.Core.List.{List, []}
 use mathlib.Core.Logic.{_↔_, inl}
 use native.Mathlib.Omega.{arith}
 use lib.ListN.{getD, replicate, length-replicate}
-use Rattle.model.specs.declared.Model.{Model}
-use Rattle.model.specs.Record.{noFactor, factorOf, modeOf, IsChain, emptyModel}
+use Rattle.model.specs.declared.Chain.{Chain}
+use Rattle.model.specs.Record.{noFactor, factorOf, modeOf, IsChain, emptyChain}
 use Rattle.model.specs.Accept.{Joined, none, part, Accepts}
 
 -- A row of one value has it at each place, and past its end where it is the default.
@@ -17,8 +17,8 @@ replicate-at (suc n) zero a = refl
 replicate-at (suc n) (suc i) a = replicate-at n i a
 
 -- For readers: the empty model is a chain,
-pub empty-chain : (size n : ℕ) → IsChain size n (emptyModel size)
-unfolding emptyModel factorOf modeOf
+pub empty-chain : (size n : ℕ) → IsChain size n (emptyChain size)
+unfolding emptyChain factorOf modeOf
 empty-chain size n = record {
   factors = length-replicate size noFactor;
   modes = length-replicate size 0;
@@ -31,7 +31,7 @@ empty-chain size n = record {
 }
 
 -- and its only word is the empty one.
-pub empty-words : (m : Model) (w : List ℕ) → m .count ≡ 0 → Accepts m w ↔ (w ≡ [])
+pub empty-words : (m : Chain) (w : List ℕ) → m .count ≡ 0 → Accepts m w ↔ (w ≡ [])
 empty-words m w e = (go, λ f. none (sym e) f)
   where
     go : Joined m 0 w → w ≡ []

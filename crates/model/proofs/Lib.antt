@@ -1,7 +1,7 @@
 pub mod Tests
 pub mod Turns
 pub mod Words
-pub mod Chain
+pub mod ChainLaw
 pub mod Acceptance
 pub mod Empty
 pub mod Building

@@ -1,4 +1,4 @@
--- A means: the check of a model record; `chain-law` in proofs/Chain.antt says that it passes exactly the chains. `size`
+-- A means: the check of a model record; `chain-law` in proofs/ChainLaw.antt says that it passes exactly the chains. `size`
 -- is the number of places.
 -- Assumes nothing.
 use Prim.Native.Nat.{ℕ, zero, suc}
@@ -6,7 +6,7 @@ use mathlib.Core.Bool.{Bool, true, false, _&&_, _||_}
 use mathlib.Core.List.{List}
 use lib.Dec.{eqb, ltb, leb}
 use lib.ListN.{length, getD}
-use Rattle.model.specs.declared.Model.{Model}
+use Rattle.model.specs.declared.Chain.{Chain}
 use Rattle.model.specs.Record.{noFactor}
 
 -- Every number below n passes the test.
@@ -42,7 +42,7 @@ unfoldable pub allKnown : ℕ → ℕ → List ℕ → Bool
 allKnown size count modes = everyBelow size (λ i. mayBe (ltb i count) (getD modes i 0))
 
 -- Whether m is a chain over n names.
-unfoldable pub isChain : ℕ → ℕ → Model → Bool
+unfoldable pub isChain : ℕ → ℕ → Chain → Bool
 isChain size n m =
     eqb (length (m .factor)) size && (eqb (length (m .mode)) size && (leb (m .count) size
     && (allPlaced size n (m .count) (m .factor) && (allNamed n (m .count) (m .factor) && allKnown size (m .count) (m .mode)))))

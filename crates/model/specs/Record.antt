@@ -6,22 +6,22 @@ use mathlib.Core.Path.{_≡_}
 use mathlib.Core.Logic.{_⊎_}
 use lib.ListN.{length, getD, replicate}
 use Rattle.nameset.specs.Places.{places}
-use Rattle.model.specs.declared.Model.{Model}
+use Rattle.model.specs.declared.Chain.{Chain}
 
 -- The entry of a name that no factor holds.
 abbrev pub noFactor : ℕ
 noFactor = 255
 
 -- The factor that holds the name x.
-unfoldable pub factorOf : Model → ℕ → ℕ
+unfoldable pub factorOf : Chain → ℕ → ℕ
 factorOf m x = getD (m .factor) x noFactor
 
 -- The mode of factor i: 0 plain, 1 `?`, 2 `+`, 3 `*`.
-unfoldable pub modeOf : Model → ℕ → ℕ
+unfoldable pub modeOf : Chain → ℕ → ℕ
 modeOf m i = getD (m .mode) i 0
 
 -- "It is a chain over N names if:"
-pub record IsChain (size n : ℕ) (m : Model) : Type 0 where
+pub record IsChain (size n : ℕ) (m : Chain) : Type 0 where
   -- a record with `size` places and `size` modes
   pub factors : length (m .factor) ≡ size
   pub modes : length (m .mode) ≡ size
@@ -39,9 +39,9 @@ pub record IsChain (size n : ℕ) (m : Model) : Type 0 where
   pub rest : (i : ℕ) → m .count ≤ i → modeOf m i ≡ 0
 
 -- The model of a parent whose words are all empty: "F = 0, all 255, all modes 0".
-unfoldable pub emptyModel : ℕ → Model
-emptyModel size = record { count = 0; factor = replicate size noFactor; mode = replicate size 0 }
+unfoldable pub emptyChain : ℕ → Chain
+emptyChain size = record { count = 0; factor = replicate size noFactor; mode = replicate size 0 }
 
 -- What a refused call answers for a model: "a model due is the empty model".
-abbrev pub dueModel : Model
-dueModel = emptyModel places
+abbrev pub dueModel : Chain
+dueModel = emptyChain places

@@ -6,7 +6,7 @@ use mathlib.Core.Bool.{Bool, true, false, cond}
 use mathlib.Core.List.{List, [], _∷_}
 use lib.Dec.{eqb}
 use lib.ListN.{getD}
-use Rattle.model.specs.declared.Model.{Model}
+use Rattle.model.specs.declared.Chain.{Chain}
 use Rattle.model.specs.declared.State.{State}
 use Rattle.model.specs.declared.Turn.{Turn}
 use Rattle.model.specs.declared.Turn.the-variants.{Take, Leave, Refuse}
@@ -54,20 +54,20 @@ unfoldable pub wentTo : Bool → ℕ → Moved
 wentTo there own = cond there (To (state own true)) Nowhere
 
 -- One more name x: some factor has to take it, the one that holds it.
-unfoldable pub move : Model → Moved → ℕ → Moved
+unfoldable pub move : Chain → Moved → ℕ → Moved
 move m (To s) x = wentTo (goesTo (m .count) (m .mode) (factorOf m x) false s) (factorOf m x)
 move m Nowhere x = Nowhere
 
 -- All names of w.
-unfoldable pub run : Model → Moved → List ℕ → Moved
+unfoldable pub run : Chain → Moved → List ℕ → Moved
 run m s [] = s
 run m s (x ∷ w) = run m (move m s x) w
 
 -- Whether the word may end there: all factors can be left, with no next name. No factor has the number F.
-unfoldable pub mayEnd : Model → Moved → Bool
+unfoldable pub mayEnd : Chain → Moved → Bool
 mayEnd m (To s) = goesTo (m .count) (m .mode) (m .count) true s
 mayEnd m Nowhere = false
 
 -- m accepts the word w: it starts before factor 0's names.
-unfoldable pub accepts : Model → List ℕ → Bool
+unfoldable pub accepts : Chain → List ℕ → Bool
 accepts m w = mayEnd m (run m (To (state 0 false)) w)

@@ -3,19 +3,19 @@ ghost use mathlib.Core.Path.{_≡_};
 ghost use Prim.Native.Nat.{_<_};
 ghost use Rattle.nameset.specs.Places.{places};
 ghost use Rattle.nameset.specs.Set.{member};
-ghost use Rattle.model.specs.Record.{emptyModel};
+ghost use Rattle.model.specs.Record.{emptyChain};
 ghost use Rattle.model.specs.Build.{withFactor};
-use super::Model;
+use super::Chain;
 use super::NO_FACTOR;
 use nameset::NameSet;
 use nameset::PLACES;
 
-impl Model {
+impl Chain {
     // The record with no factor.
-    pub fn empty() -> Model
-        ensures { λ r. ⌜ r ≡ emptyModel places ⌝ }
+    pub fn empty() -> Chain
+        ensures { λ r. ⌜ r ≡ emptyChain places ⌝ }
     {
-        Model {
+        Chain {
             count: 0,
             factor: [NO_FACTOR; PLACES],
             mode: [0; PLACES],
@@ -24,7 +24,7 @@ impl Model {
 
     // The record with one factor more, behind the others. Its names are in no factor yet, or leave the one that they
     // are in.
-    pub fn with_factor(self, names: NameSet, mode: u8) -> Model
+    pub fn with_factor(self, names: NameSet, mode: u8) -> Chain
         requires { ⌜ self .count < places ⌝ }
         ensures { λ r. ⌜ r ≡ withFactor self (member names) mode ⌝ }
     {
@@ -39,7 +39,7 @@ impl Model {
         }
         let mut modes = self.mode;
         modes[count] = mode;
-        Model {
+        Chain {
             count: count + 1,
             factor,
             mode: modes,

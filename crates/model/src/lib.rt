@@ -11,7 +11,7 @@ pub const NO_FACTOR: u8 = 255;
 // Paper 01's model record, laid out as C has it. `count` is its F, `factor` has for each name the factor that holds it
 // or 255 for none, and `mode` has the mode of each factor.
 #[repr(C)]
-pub struct Model {
+pub struct Chain {
     pub count: usize,
     pub factor: [u8; PLACES],
     pub mode: [u8; PLACES],

@@ -10,7 +10,7 @@ use native.Mathlib.Numerals.{add-one}
 use borrow.Author.Tests.{not-true, not-false}
 use lib.ListN.{getD, set, length-set, length-append}
 use Rattle.nameset.specs.Places.{places}
-use Rattle.model.specs.declared.Model.{Model}
+use Rattle.model.specs.declared.Chain.{Chain}
 use Rattle.model.specs.Record.{noFactor, factorOf}
 use Rattle.model_language.specs.Word.{Point, name}
 use Rattle.model_language.specs.Step.{optional, place, Held}
@@ -78,7 +78,7 @@ rest-done modes names i stop d₀ at whole d to h l =
 -- ---- the names before a point, and those behind it
 
 -- A name of a factor of the record, as the code finds it.
-module _ (m : Model) (u : Spot) (x own : ℕ) (e : u ≡ Name x) (o : own ≡ getD (m .factor) x noFactor) (s : Held m (point u)) where
+module _ (m : Chain) (u : Spot) (x own : ℕ) (e : u ≡ Name x) (o : own ≡ getD (m .factor) x noFactor) (s : Held m (point u)) where
   own-is : own ≡ factorOf m x
   unfolding factorOf
   own-is = o
@@ -105,17 +105,17 @@ module _ (m : Model) (u : Spot) (x own : ℕ) (e : u ≡ Name x) (o : own ≡ ge
   tail-room at l = omega (arith, own-is, subst (λ (z : Spot). at ≤ place m (point z)) e l)
 
 -- No name before the start or the end, and none behind it.
-pub lead-none : (m : Model) (rep : ℕ → ℕ) (u : Spot) (d : List ℕ) → (u ≡ Start) ⊎ (u ≡ End) → Put d 0 (lead m rep (point u)) 0 d
+pub lead-none : (m : Chain) (rep : ℕ → ℕ) (u : Spot) (d : List ℕ) → (u ≡ Start) ⊎ (u ≡ End) → Put d 0 (lead m rep (point u)) 0 d
 lead-none m rep u d (inl e) = rw e (put-nothing d 0)
 lead-none m rep u d (inr e) = rw e (put-nothing d 0)
 
-pub tail-none : (m : Model) (rep : ℕ → ℕ) (u : Spot) (d : List ℕ) (at : ℕ) → (u ≡ Start) ⊎ (u ≡ End) → Put d at (tail m rep (point u)) at d
+pub tail-none : (m : Chain) (rep : ℕ → ℕ) (u : Spot) (d : List ℕ) (at : ℕ) → (u ≡ Start) ⊎ (u ≡ End) → Put d at (tail m rep (point u)) at d
 tail-none m rep u d at (inl e) = rw e (put-nothing d at)
 tail-none m rep u d at (inr e) = rw e (put-nothing d at)
 
 -- ---- the whole word
 
-module _ (m : Model) (row : List ℕ) (u v : Point) (s : Stepping m row u v) where
+module _ (m : Chain) (row : List ℕ) (u v : Point) (s : Stepping m row u v) where
   module _ (d₀ d : List ℕ) (at : ℕ) (p : Put d₀ 0 (lead m (nameIn row) u) at d) where
     -- before the step there are no more names than factors
     pub lead-short : at ≤ place m v

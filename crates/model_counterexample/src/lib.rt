@@ -9,7 +9,7 @@ ghost use Rattle.model_language.specs.Step.{place, Held};
 ghost use Rattle.model_places.specs.Places.{point};
 ghost use Rattle.byte_buffer.specs.Put.{Put};
 ghost use Rattle.model_counterexample.specs.Word.{nameIn, Stepping, Shown};
-use model::Model;
+use model::Chain;
 use model::NO_FACTOR;
 use model::entry;
 use model_places::Spot;
@@ -41,7 +41,7 @@ fn put_needed(
 }
 
 // Puts the names up to a point that a step leaves, and answers how many they are.
-fn put_lead(word: &mut [u8], m: Model, names: &[u8], u: Spot) -> usize
+fn put_lead(word: &mut [u8], m: Chain, names: &[u8], u: Spot) -> usize
     requires { ⌜ Held m (point u) × (m .count ≤ places) × (longestCounterexample ≤ length (now word)) ⌝ }
     ensures { λ r. ⌜ Put (now (word .entry)) 0 (lead m (nameIn (now (names .entry))) (point u)) r (now (word .exit)) ⌝ }
 {
@@ -58,7 +58,7 @@ fn put_lead(word: &mut [u8], m: Model, names: &[u8], u: Spot) -> usize
 }
 
 // Puts the names from a point on that a step leads to, from place `at` on. Answers the place behind them.
-fn put_tail(word: &mut [u8], at: usize, m: Model, names: &[u8], v: Spot) -> usize
+fn put_tail(word: &mut [u8], at: usize, m: Chain, names: &[u8], v: Spot) -> usize
     requires { ⌜ Held m (point v) × (m .count ≤ places) × (at ≤ place m (point v)) × (longestCounterexample ≤ length (now word)) ⌝ }
     ensures { λ r. ⌜ Put (now (word .entry)) at (tail m (nameIn (now (names .entry))) (point v)) r (now (word .exit)) ⌝ }
 {
@@ -74,7 +74,7 @@ fn put_tail(word: &mut [u8], at: usize, m: Model, names: &[u8], v: Spot) -> usiz
 }
 
 // Puts a word of the chain that has the step from u to v, and answers its length.
-pub fn put_word(word: &mut [u8], m: Model, names: &[u8], u: Spot, v: Spot) -> usize
+pub fn put_word(word: &mut [u8], m: Chain, names: &[u8], u: Spot, v: Spot) -> usize
     requires { ⌜ Stepping m (now names) (point u) (point v) × (longestCounterexample ≤ length (now word)) ⌝ }
     ensures { λ r. ⌜ Shown m (point u) (point v) (now (word .entry)) r (now (word .exit)) ⌝ }
 {

@@ -9,7 +9,7 @@ use native.Mathlib.Decide.{decLt, ℕ-discrete}
 use lib.ListN.{length, getD, set, replicate, length-set, length-replicate, getD-replicate}
 use lib.Seq.{getD-set-same, getD-set-other}
 use Rattle.nameset.specs.Places.{places}
-use Rattle.model.specs.declared.Model.{Model}
+use Rattle.model.specs.declared.Chain.{Chain}
 use Rattle.model.specs.Record.{noFactor, factorOf, IsChain}
 use Rattle.model_inclusion.specs.Spans.{Spans}
 use Rattle.model_extremes.specs.declared.Extremes.{Extremes}
@@ -101,7 +101,7 @@ higher-trans factors a b c h l = omega arith
 -- ---- the extremes of each factor of a chain
 
 -- In the row of a chain: a name of each factor, preferred to each other one.
-module _ (R : ℕ → ℕ → Type 0) (n : ℕ) (m : Model) (c : IsChain places n m) (row : List ℕ) (b : Best R (m .factor) n row) (i : ℕ) (l : i < m .count) where
+module _ (R : ℕ → ℕ → Type 0) (n : ℕ) (m : Chain) (c : IsChain places n m) (row : List ℕ) (b : Best R (m .factor) n row) (i : ℕ) (l : i < m .count) where
   named : (x : ℕ) × (x < n) × (factorOf m x ≡ i)
   named = c .named i l
 
@@ -124,7 +124,7 @@ module _ (R : ℕ → ℕ → Type 0) (n : ℕ) (m : Model) (c : IsChain places 
       go (no h) = absurd (omega (arith, c .others y (omega arith), c .few))
 
 -- The names of factor i of m are, in k, from that of the low one to that of the high one.
-pub extremes-law : (n : ℕ) (m k : Model) (r : Extremes) → IsChain places n m → AreExtremes n (m .factor) (k .factor) r
+pub extremes-law : (n : ℕ) (m k : Chain) (r : Extremes) → IsChain places n m → AreExtremes n (m .factor) (k .factor) r
     → (i : ℕ) → i < m .count → Spans m k i (getD (r .low) i 0) (getD (r .high) i 0)
 unfolding factorOf
 extremes-law n m k r c x i l =

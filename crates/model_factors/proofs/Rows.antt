@@ -16,7 +16,7 @@ use Rattle.nameset.specs.Set.{member}
 use Rattle.nameset.specs.Rows.{rowAt, putRow, noRows}
 use Rattle.nameset.proofs.Laws.{member-empty}
 use Rattle.nameset.proofs.Rows.{row-put, row-kept, length-put, has-row, no-rows, row-of-none}
-use Rattle.model.specs.declared.Model.{Model}
+use Rattle.model.specs.declared.Chain.{Chain}
 use Rattle.model.specs.Record.{noFactor, factorOf}
 use Rattle.model_factors.specs.Names.{NamesOf, RowsOf}
 
@@ -26,12 +26,12 @@ same-default [] i a b h = absurd (omega arith)
 same-default (x ∷ l) zero a b h = refl
 same-default (x ∷ l) (suc i) a b h = same-default l i a b (le-of-suc-le-suc h)
 
-pub entry-is : (m : Model) (x : ℕ) → length (m .factor) ≡ places → x < places → getD (m .factor) x 0 ≡ factorOf m x
+pub entry-is : (m : Chain) (x : ℕ) → length (m .factor) ≡ places → x < places → getD (m .factor) x 0 ≡ factorOf m x
 unfolding factorOf
 entry-is m x l h = same-default (m .factor) x 0 noFactor (omega arith)
 
 -- no name was looked at yet
-pub rows-none : (m : Model) → RowsOf m 0 (noRows places)
+pub rows-none : (m : Chain) → RowsOf m 0 (noRows places)
 rows-none m =
     record {
       size = no-rows places;
@@ -51,7 +51,7 @@ below-next x k h = go (decLt x k)
     go (no l) = le-ltb x (k + 1) (omega arith) ∙ sym (le-ltb x k (omega arith))
 
 -- a set that factor i's name k is put into, or is not
-module _ (m : Model) (k i : ℕ) (s t : NameSet) (old : NamesOf m k i s) where
+module _ (m : Chain) (k i : ℕ) (s t : NameSet) (old : NamesOf m k i s) where
   names-more : factorOf m k ≡ i → ((x : ℕ) → member t x ≡ (member s x || eqb k x)) → NamesOf m (k + 1) i t
   names-more e put = record { law = λ x. put x ∙ at x (ℕ-discrete x k) }
     where
@@ -67,7 +67,7 @@ module _ (m : Model) (k i : ℕ) (s t : NameSet) (old : NamesOf m k i s) where
       at x (no q) = rw (below-next x k q) (old .law x)
 
 -- name k is put into the row of its factor f
-pub rows-more : (m : Model) (k : ℕ) (rows next : List ℕ) → RowsOf m k rows → (f : ℕ) (s t : NameSet) → f ≡ factorOf m k → f < places →
+pub rows-more : (m : Chain) (k : ℕ) (rows next : List ℕ) → RowsOf m k rows → (f : ℕ) (s t : NameSet) → f ≡ factorOf m k → f < places →
     s ≡ rowAt rows f → ((x : ℕ) → member t x ≡ (member s x || eqb k x)) → next ≡ putRow rows f t → RowsOf m (k + 1) next
 rows-more m k rows next r f s t ef hf es et e =
     rw e record { size = length-put rows f t ∙ r .size; row = λ i h. at i h (ℕ-discrete i f) }
@@ -79,10 +79,10 @@ rows-more m k rows next r f s t ef hf es et e =
     at i h (no q) = names-kept m k i (rowAt rows i) _ (r .row i h) (λ u. q (sym u ∙ sym ef)) (row-kept rows f i t q)
 
 -- name k is in no factor that has a row
-pub rows-kept : (m : Model) (k : ℕ) (rows next : List ℕ) → RowsOf m k rows → (f : ℕ) → f ≡ factorOf m k → places ≤ f → next ≡ rows → RowsOf m (k + 1) next
+pub rows-kept : (m : Chain) (k : ℕ) (rows next : List ℕ) → RowsOf m k rows → (f : ℕ) → f ≡ factorOf m k → places ≤ f → next ≡ rows → RowsOf m (k + 1) next
 rows-kept m k rows next r f ef hf e =
     rw e record { size = r .size; row = λ i h. names-kept m k i (rowAt rows i) _ (r .row i h) (λ u. omega arith) refl }
 
 -- all names were looked at
-pub rows-all : (m : Model) (n k : ℕ) (rows : List ℕ) → RowsOf m k rows → k ≤ n → n ≤ k → RowsOf m n rows
+pub rows-all : (m : Chain) (n k : ℕ) (rows : List ℕ) → RowsOf m k rows → k ≤ n → n ≤ k → RowsOf m n rows
 rows-all m n k rows r h l = let e : k ≡ n = omega arith in rw (sym e) r

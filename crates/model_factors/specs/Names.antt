@@ -10,14 +10,14 @@ use Rattle.nameset.specs.Places.{places}
 use Rattle.nameset.specs.declared.NameSet.{NameSet}
 use Rattle.nameset.specs.Set.{member}
 use Rattle.nameset.specs.Rows.{IsRows, rowAt}
-use Rattle.model.specs.declared.Model.{Model}
+use Rattle.model.specs.declared.Chain.{Chain}
 use Rattle.model.specs.Record.{factorOf}
 
 -- The set has those of the first n names that factor i holds, and no others.
-pub record NamesOf (m : Model) (n i : ℕ) (s : NameSet) : Type 0 where
+pub record NamesOf (m : Chain) (n i : ℕ) (s : NameSet) : Type 0 where
   pub law : (x : ℕ) → member s x ≡ (ltb x n && eqb (factorOf m x) i)
 
 -- For each place i, the row i has the names of factor i.
-pub record RowsOf (m : Model) (n : ℕ) (rows : List ℕ) : Type 0 where
+pub record RowsOf (m : Chain) (n : ℕ) (rows : List ℕ) : Type 0 where
   pub size : IsRows places rows
   pub row : (i : ℕ) → i < places → NamesOf m n i (rowAt rows i)

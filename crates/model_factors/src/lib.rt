@@ -1,5 +1,5 @@
 // The names of each factor of a record, as rows of words.
-use model::Model;
+use model::Chain;
 use nameset::PLACES;
 use nameset::ROWS;
 use nameset::put_row;
@@ -9,7 +9,7 @@ ghost use Rattle.nameset.specs.Places.{places};
 ghost use Rattle.model_factors.specs.Names.{RowsOf};
 
 // Row i keeps those of the first n names that factor i holds. One pass: each name is put into the row of its factor.
-pub fn factor_rows(m: Model, n: usize) -> [u64; ROWS]
+pub fn factor_rows(m: Chain, n: usize) -> [u64; ROWS]
     requires { ⌜ n ≤ places ⌝ }
     ensures { λ r. ⌜ RowsOf m n r ⌝ }
 {

@@ -3,30 +3,30 @@
 use mathlib.Core.Path.{_≡_, refl}
 use mathlib.Core.Bool.{true, false}
 use mathlib.Core.List.{[], _∷_}
-use Rattle.model.specs.declared.Model.{Model}
+use Rattle.model.specs.declared.Chain.{Chain}
 use Rattle.model.specs.Check.{everyBelow}
 use Rattle.model.specs.Record.{factorOf}
 use Rattle.model.specs.Run.{either, turnOf, after, goesFrom, goesTo, wentTo, move, run, mayEnd, accepts}
 use Rattle.model_inclusion.specs.Search.{everyWord, acceptedToo, within}
 
 -- (a,b)
-plain : Model
+plain : Chain
 plain = record { count = 2; factor = 0 ∷ 1 ∷ []; mode = 0 ∷ 0 ∷ [] }
 
 -- (a?,b+)
-wide : Model
+wide : Chain
 wide = record { count = 2; factor = 0 ∷ 1 ∷ []; mode = 1 ∷ 2 ∷ [] }
 
 -- ((a|b)*)
-star : Model
+star : Chain
 star = record { count = 1; factor = 0 ∷ 0 ∷ []; mode = 3 ∷ [] }
 
 -- (a)
-one : Model
+one : Chain
 one = record { count = 1; factor = 0 ∷ []; mode = 0 ∷ [] }
 
 -- (a+)
-more : Model
+more : Chain
 more = record { count = 1; factor = 0 ∷ []; mode = 2 ∷ [] }
 
 plain-wide : within 2 plain wide ≡ true

@@ -7,7 +7,7 @@ use mathlib.Core.List.{List, [], _∷_, _++_, append-assoc, append-nil}
 use mathlib.Core.Logic.{inl, inr}
 use native.Mathlib.Omega.{arith}
 use lib.ListN.{length, getD, length-append}
-use Rattle.model.specs.declared.Model.{Model}
+use Rattle.model.specs.declared.Chain.{Chain}
 use Rattle.model.specs.Record.{factorOf, modeOf, IsChain}
 use Rattle.model.specs.Accept.{Accepts}
 use Rattle.model_language.specs.Word.{Point, start, name, end, Beside, Shows}
@@ -27,7 +27,7 @@ needed-length modes rep (suc k) i = go (optional (getD modes i 0)) (needed-lengt
     go true h = omega arith
     go false h = omega arith
 
-module _ (m : Model) (rep : ℕ → ℕ) (named : (i : ℕ) → i < m .count → factorOf m (rep i) ≡ i) where
+module _ (m : Chain) (rep : ℕ → ℕ) (named : (i : ℕ) → i < m .count → factorOf m (rep i) ≡ i) where
   -- A step into factor i, and past it.
   past : (i : ℕ) (u : Point) → Before m u i → i < m .count → Step m u (name (rep i)) × Before m (name (rep i)) (suc i)
   past i u b l =

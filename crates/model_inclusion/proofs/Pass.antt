@@ -8,7 +8,7 @@ use mathlib.Core.Bool.{true, false, false≢true}
 use mathlib.Core.Logic.{_⊎_, inl, inr}
 use native.Mathlib.Omega.{arith}
 use native.Mathlib.Decide.{decLt, decLe, ℕ-discrete}
-use Rattle.model.specs.declared.Model.{Model}
+use Rattle.model.specs.declared.Chain.{Chain}
 use Rattle.model.specs.Record.{factorOf, modeOf}
 use Rattle.model_language.specs.Word.{Point, start, name, end}
 use Rattle.model_language.specs.Step.{optional, repeats, place, Held, Over, Repeat, Step, Includes}
@@ -16,7 +16,7 @@ use Rattle.model_language.proofs.Walk.{Before, next-to, enter, stay, finish}
 use Rattle.model_language.proofs.Shown.{step-rises}
 use Rattle.model_inclusion.specs.Spans.{Spans}
 
-held-place : (m : Model) (u : Point) → place m u ≤ m .count → Held m u
+held-place : (m : Chain) (u : Point) → place m u ≤ m .count → Held m u
 held-place m start l = tt
 held-place m (name x) l = omega arith
 held-place m end l = absurd (omega arith)
@@ -24,7 +24,7 @@ held-place m end l = absurd (omega arith)
 -- ---- steps between points that stand between others
 
 -- u stands between low and high, v between lo and hi.
-pub between : (k : Model) (low high lo hi u v : Point) → Step k low hi → Step k high lo → place k hi ≤ k .count
+pub between : (k : Chain) (low high lo hi u v : Point) → Step k low hi → Step k high lo → place k hi ≤ k .count
     → place k low ≤ place k u → place k u ≤ place k high → place k lo ≤ place k v → place k v ≤ place k hi → Step k u v
 between k low high lo hi u v s t top a b c d =
     record {
@@ -40,7 +40,7 @@ between k low high lo hi u v s t top a b c d =
     go (no l) x (inr w) = inr record { factor = w .factor; one = w .one; left = omega (arith, w .left, w .right); right = omega (arith, w .left, w .right); loop = w .loop }
 
 -- Two names that stand between lo and hi, if a step leads from hi back to lo.
-pub between-loop : (k : Model) (lo hi u v : Point) → Step k hi lo → place k lo ≤ place k u → place k u ≤ place k hi → place k lo ≤ place k v → place k v ≤ place k hi
+pub between-loop : (k : Chain) (lo hi u v : Point) → Step k hi lo → place k lo ≤ place k u → place k u ≤ place k hi → place k lo ≤ place k v → place k v ≤ place k hi
     → Step k u v
 between-loop k lo hi u v t a b c d =
     let r = step-rises k hi lo t in
@@ -50,7 +50,7 @@ between-loop k lo hi u v t a b c d =
     go (inl o) = absurd (omega (arith, o .rises))
     go (inr w) = inr record { factor = w .factor; one = w .one; left = omega (arith, w .left, w .right); right = omega (arith, w .left, w .right); loop = w .loop }
 
-between-end : (k : Model) (low u : Point) → Step k low end → place k low ≤ place k u → place k u ≤ k .count → Step k u end
+between-end : (k : Chain) (low u : Point) → Step k low end → place k low ≤ place k u → place k u ≤ k .count → Step k u end
 between-end k low u s a b = record { leaves = held-place k u b; meets = tt; way = go (s .way) }
   where
     go : Over k low end ⊎ Repeat k low end → Over k u end ⊎ Repeat k u end
@@ -59,23 +59,23 @@ between-end k low u s a b = record { leaves = held-place k u b; meets = tt; way 
 
 -- ---- points before a factor
 
-pub before-up : (m : Model) (u : Point) (i : ℕ) → Before m u i → optional (modeOf m i) ≡ true → Before m u (suc i)
+pub before-up : (m : Chain) (u : Point) (i : ℕ) → Before m u i → optional (modeOf m i) ≡ true → Before m u (suc i)
 before-up m u i b e = record { leaves = b .leaves; low = omega (arith, b .low); free = λ j p q. go j p q (ℕ-discrete j i) }
   where
     go : (j : ℕ) → place m u ≤ j → j < suc i → Dec (j ≡ i) → optional (modeOf m j) ≡ true
     go j p q (yes f) = rw f e
     go j p q (no d) = b .free j p (omega arith)
 
-before-down : (m : Model) (u : Point) (i : ℕ) → Before m u (suc i) → place m u ≤ i → Before m u i × (optional (modeOf m i) ≡ true)
+before-down : (m : Chain) (u : Point) (i : ℕ) → Before m u (suc i) → place m u ≤ i → Before m u i × (optional (modeOf m i) ≡ true)
 before-down m u i b l = (record { leaves = b .leaves; low = l; free = λ j p q. b .free j p (omega arith) }, b .free i l (omega arith))
 
-over-before : (m : Model) (u v : Point) (i : ℕ) → Held m u → Over m u v → place m v ≡ suc i → Before m u i
+over-before : (m : Chain) (u v : Point) (i : ℕ) → Held m u → Over m u v → place m v ≡ suc i → Before m u i
 over-before m u v i h o e = record { leaves = h; low = omega (arith, o .rises); free = λ j p q. o .free j p (omega arith) }
 
 -- ---- the pass
 
 -- The factors before i are passed.
-pub record Passed (m k : Model) (i : ℕ) (low high : Point) : Type 0 where
+pub record Passed (m k : Chain) (i : ℕ) (low high : Point) : Type 0 where
   pub below : Before m low i
   pub above : Before m high i
   pub least : (u : Point) → Before m u i → place k low ≤ place k u
@@ -83,7 +83,7 @@ pub record Passed (m k : Model) (i : ℕ) (low high : Point) : Type 0 where
   pub top : place k high ≤ k .count
   pub same : (u v : Point) → Step m u v → place m v ≤ i → Step k u v
 
-pub passed-none : (m k : Model) → Passed m k 0 start start
+pub passed-none : (m k : Chain) → Passed m k 0 start start
 passed-none m k =
     record {
       below = next-to m start tt;
@@ -99,7 +99,7 @@ passed-none m k =
     first (name x) l = absurd (omega arith)
     first end l = absurd (omega arith)
 
-module _ (m k : Model) (i : ℕ) (low high : Point) (lo hi : ℕ) (l : i < m .count) (p : Passed m k i low high) (n : Spans m k i lo hi) where
+module _ (m k : Chain) (i : ℕ) (low high : Point) (lo hi : ℕ) (l : i < m .count) (p : Passed m k i low high) (n : Spans m k i lo hi) where
   -- The three steps of m that are looked at.
   pub step-low : Step m low (name hi)
   step-low = enter m low i hi (p .below) l (n .hi-in)
@@ -192,7 +192,7 @@ module _ (m k : Model) (i : ℕ) (low high : Point) (lo hi : ℕ) (l : i < m .co
         }
 
 -- All factors are passed.
-module _ (m k : Model) (low high : Point) (p : Passed m k (m .count) low high) where
+module _ (m k : Chain) (low high : Point) (p : Passed m k (m .count) low high) where
   pub step-last : Step m low end
   step-last = finish m low (m .count) (p .below) refl
 

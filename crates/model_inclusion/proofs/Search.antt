@@ -7,7 +7,7 @@ use mathlib.Core.List.{List, [], _∷_}
 use mathlib.Core.Logic.{_⊎_, inl, inr, _↔_}
 use native.Mathlib.Omega.{arith}
 use lib.ListN.{length}
-use Rattle.model.specs.declared.Model.{Model}
+use Rattle.model.specs.declared.Chain.{Chain}
 use Rattle.model.specs.Record.{noFactor, IsChain}
 use Rattle.model.specs.Accept.{Accepts, Names}
 use Rattle.model.specs.Run.{accepts}
@@ -44,7 +44,7 @@ implies-law : (a b : Bool) → ((not a || b) ≡ true) ↔ (a ≡ true → b ≡
 implies-law true b = (λ e q. e, λ f. f refl)
 implies-law false b = (λ e q. absurd (false≢true q), λ f. refl)
 
-accepted-law : (m k : Model) (w : List ℕ) → (acceptedToo m k w ≡ true) ↔ (Accepts m w → Accepts k w)
+accepted-law : (m k : Chain) (w : List ℕ) → (acceptedToo m k w ≡ true) ↔ (Accepts m w → Accepts k w)
 unfolding acceptedToo
 accepted-law m k w =
     let a = implies-law (accepts m w) (accepts k w) in
@@ -53,7 +53,7 @@ accepted-law m k w =
 -- ---- all words
 
 -- Every word of at most F + 1 of the n names.
-short-law : (n : ℕ) (m k : Model) → (within n m k ≡ true) ↔ ((w : List ℕ) → length w ≤ m .count + 1 → Names n w → Accepts m w → Accepts k w)
+short-law : (n : ℕ) (m k : Chain) → (within n m k ≡ true) ↔ ((w : List ℕ) → length w ≤ m .count + 1 → Names n w → Accepts m w → Accepts k w)
 unfolding within
 short-law n m k =
     let a = all-law (m .count + 2) (λ l. everyWord n l (acceptedToo m k)) in (
@@ -62,11 +62,11 @@ short-law n m k =
     )
 
 -- A model with a counterexample is not within the other.
-pub not-within : (m k : Model) (w : List ℕ) → Counterexample m k w → ¬ Within m k
+pub not-within : (m k : Chain) (w : List ℕ) → Counterexample m k w → ¬ Within m k
 not-within m k w c f = c .not-accepted (f w (c .accepted))
 
 -- Two chains over the same n names.
-module _ (size n : ℕ) (m k : Model) (c : IsChain size n m) (d : IsChain size n k) (small : size ≤ noFactor) where
+module _ (size n : ℕ) (m k : Chain) (c : IsChain size n m) (d : IsChain size n k) (small : size ≤ noFactor) where
   -- The search says yes exactly when every word that m accepts, of any length, is accepted by k.
   pub within-law : (within n m k ≡ true) ↔ Within m k
   within-law = (λ e. go (short-law n m k .0 e) (words-decided size n m k c d small), λ f. short-law n m k .1 (λ w h q. f w))

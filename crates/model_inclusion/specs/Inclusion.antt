@@ -3,15 +3,15 @@
 use Prim.Native.Nat.{ℕ, _+_}
 use mathlib.Core.List.{List}
 use Rattle.nameset.specs.Places.{places}
-use Rattle.model.specs.declared.Model.{Model}
+use Rattle.model.specs.declared.Chain.{Chain}
 use Rattle.model.specs.Accept.{Accepts}
 
 -- "every word that the first accepts is accepted by the second": words of any length.
-abbrev pub Within : Model → Model → Type 0
+abbrev pub Within : Chain → Chain → Type 0
 Within m k = (w : List ℕ) → Accepts m w → Accepts k w
 
 -- A "word .. that the first accepts and the second doesn't".
-pub record Counterexample (m k : Model) (w : List ℕ) : Type 0 where
+pub record Counterexample (m k : Chain) (w : List ℕ) : Type 0 where
   pub accepted : Accepts m w
   pub not-accepted : Accepts k w → ⊥
 

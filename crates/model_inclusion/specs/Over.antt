@@ -6,7 +6,7 @@ use Prim.Native.Nat.{ℕ, zero, suc, _-_}
 use mathlib.Core.Bool.{cond}
 use mathlib.Core.List.{List, [], _∷_, _++_}
 use lib.ListN.{getD}
-use Rattle.model.specs.declared.Model.{Model}
+use Rattle.model.specs.declared.Chain.{Chain}
 use Rattle.model.specs.Record.{factorOf}
 use Rattle.model_language.specs.Word.{Point, start, name, end}
 use Rattle.model_language.specs.Step.{optional}
@@ -17,17 +17,17 @@ needed modes rep i zero = []
 needed modes rep i (suc k) = cond (optional (getD modes i 0)) (needed modes rep (suc i) k) (rep i ∷ needed modes rep (suc i) k)
 
 -- The names up to the point that the step leaves, its own included.
-abbrev pub lead : Model → (ℕ → ℕ) → Point → List ℕ
+abbrev pub lead : Chain → (ℕ → ℕ) → Point → List ℕ
 lead m rep start = []
 lead m rep (name x) = needed (m .mode) rep 0 (factorOf m x) ++ (x ∷ [])
 lead m rep end = []
 
 -- The names from the point on that the step leads to.
-abbrev pub tail : Model → (ℕ → ℕ) → Point → List ℕ
+abbrev pub tail : Chain → (ℕ → ℕ) → Point → List ℕ
 tail m rep start = []
 tail m rep (name y) = y ∷ needed (m .mode) rep (suc (factorOf m y)) (m .count - suc (factorOf m y))
 tail m rep end = []
 
 -- The word over the step from u to v.
-unfoldable pub wordOver : Model → (ℕ → ℕ) → Point → Point → List ℕ
+unfoldable pub wordOver : Chain → (ℕ → ℕ) → Point → Point → List ℕ
 wordOver m rep u v = lead m rep u ++ tail m rep v

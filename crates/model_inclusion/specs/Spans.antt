@@ -3,12 +3,12 @@
 -- Assumes nothing.
 use Prim.Native.Nat.{ℕ, _≤_}
 use mathlib.Core.Path.{_≡_}
-use Rattle.model.specs.declared.Model.{Model}
+use Rattle.model.specs.declared.Chain.{Chain}
 use Rattle.model.specs.Record.{factorOf}
 
 -- lo and hi are names of factor i of m. No name of that factor is in an earlier factor of k than lo, and none in a
 -- later one than hi. A name that no factor of k holds counts as later than all others.
-pub record Spans (m k : Model) (i lo hi : ℕ) : Type 0 where
+pub record Spans (m k : Chain) (i lo hi : ℕ) : Type 0 where
   pub lo-in : factorOf m lo ≡ i
   pub hi-in : factorOf m hi ≡ i
   pub least : (y : ℕ) → factorOf m y ≡ i → factorOf k lo ≤ factorOf k y

@@ -7,7 +7,7 @@ use mathlib.Core.List.{List, [], _∷_}
 use mathlib.Core.Logic.{_⊎_, inl, inr}
 use native.Mathlib.Omega.{arith}
 use native.Mathlib.Decide.{decLt, decLe, ℕ-discrete}
-use Rattle.model.specs.declared.Model.{Model}
+use Rattle.model.specs.declared.Chain.{Chain}
 use Rattle.model.specs.Record.{noFactor, factorOf, modeOf}
 use Rattle.model.specs.Accept.{Names}
 use Rattle.model_language.specs.Word.{Point, start, name, end}
@@ -52,12 +52,12 @@ points n P Q f = go (f start) (f end) (below n (λ x. P (name x)) (λ x. Q (name
 
 -- ---- a step is decided
 
-held? : (m : Model) (u : Point) → Dec (Held m u)
+held? : (m : Chain) (u : Point) → Dec (Held m u)
 held? m start = yes tt
 held? m (name x) = decLt (factorOf m x) (m .count)
 held? m end = yes tt
 
-over? : (m : Model) (u v : Point) → Dec (Over m u v)
+over? : (m : Chain) (u v : Point) → Dec (Over m u v)
 over? m u v = go (decLt (place m u) (place m v)) (below (place m v) Free Shut (λ i. at i (decLe (place m u) i) (decLt (suc i) (place m v)) (optional (modeOf m i)) refl))
   where
     Free : ℕ → Type 0
@@ -77,7 +77,7 @@ over? m u v = go (decLt (place m u) (place m v)) (below (place m v) Free Shut (�
     go (yes l) (inl f) = yes record { rises = l; free = λ i p q. f i (omega arith) p q }
     go (yes l) (inr (i, (p, q, e))) = no (λ o. false≢true (sym e ∙ o .free i p q))
 
-repeat? : (m : Model) (u v : Point) → Dec (Repeat m u v)
+repeat? : (m : Chain) (u v : Point) → Dec (Repeat m u v)
 repeat? m u v = go (place m u) refl (ℕ-discrete (place m v) (place m u))
   where
     loop? : (i : ℕ) → place m u ≡ suc i → place m v ≡ suc i → Dec (i < m .count) → (b : Bool) → repeats (modeOf m i) ≡ b → Dec (Repeat m u v)
@@ -90,7 +90,7 @@ repeat? m u v = go (place m u) refl (ℕ-discrete (place m v) (place m u))
     go (suc i) e (no d) = no (λ t. d (omega arith))
     go (suc i) e (yes d) = loop? i e (omega arith) (decLt i (m .count)) (repeats (modeOf m i)) refl
 
-step? : (m : Model) (u v : Point) → Dec (Step m u v)
+step? : (m : Chain) (u v : Point) → Dec (Step m u v)
 step? m u v = go (held? m u) (held? m v) (over? m u v) (repeat? m u v)
   where
     neither : ¬ Over m u v → ¬ Repeat m u v → ¬ (Over m u v ⊎ Repeat m u v)
@@ -107,10 +107,10 @@ step? m u v = go (held? m u) (held? m v) (over? m u v) (repeat? m u v)
 -- ---- inclusion is decided
 
 -- The step from u to v is one of m and none of k.
-abbrev pub Extra : Model → Model → Point → Point → Type 0
+abbrev pub Extra : Chain → Chain → Point → Point → Type 0
 Extra m k u v = Step m u v × (¬ Step k u v)
 
-compare : (m k : Model) (u v : Point) → (Step m u v → Step k u v) ⊎ Extra m k u v
+compare : (m k : Chain) (u v : Point) → (Step m u v → Step k u v) ⊎ Extra m k u v
 compare m k u v = go (step? m u v) (step? k u v)
   where
     go : Dec (Step m u v) → Dec (Step k u v) → (Step m u v → Step k u v) ⊎ Extra m k u v
@@ -118,7 +118,7 @@ compare m k u v = go (step? m u v) (step? k u v)
     go (no s) (no t) = inl (λ z. absurd (s z))
     go (yes s) (no t) = inr (s, t)
 
-module _ (n : ℕ) (m : Model) (few : m .count ≤ noFactor) (others : (x : ℕ) → n ≤ x → factorOf m x ≡ noFactor) where
+module _ (n : ℕ) (m : Chain) (few : m .count ≤ noFactor) (others : (x : ℕ) → n ≤ x → factorOf m x ≡ noFactor) where
   held-below : (u : Point) → Held m u → Below n u
   held-below start h = tt
   held-below end h = tt
@@ -132,7 +132,7 @@ module _ (n : ℕ) (m : Model) (few : m .count ≤ noFactor) (others : (x : ℕ)
   walk-names u [] s = tt
   walk-names u (x ∷ w) (s, p) = (held-below (name x) (s .meets), walk-names (name x) w p)
 
-  pub steps-decided : (k : Model) → Includes m k ⊎ ((u : Point) × ((v : Point) × Extra m k u v))
+  pub steps-decided : (k : Chain) → Includes m k ⊎ ((u : Point) × ((v : Point) × Extra m k u v))
   steps-decided k = go (points n All Some (λ u. points n (λ v. Step m u v → Step k u v) (λ v. Extra m k u v) (compare m k u)))
     where
       All : Point → Type 0

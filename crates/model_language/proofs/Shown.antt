@@ -7,19 +7,19 @@ use mathlib.Core.List.{List, [], _∷_}
 use mathlib.Core.Logic.{_⊎_, inl, inr}
 use native.Mathlib.Omega.{arith}
 use lib.ListN.{length}
-use Rattle.model.specs.declared.Model.{Model}
+use Rattle.model.specs.declared.Chain.{Chain}
 use Rattle.model.specs.Record.{factorOf}
 use Rattle.model_language.specs.Word.{Point, start, name, end, Beside, Shows}
 use Rattle.model_language.specs.Step.{place, Held, Over, Repeat, Step}
 use Rattle.model_language.proofs.Walk.{Walk, next-to, enter, finish}
 
-held-low : (m : Model) (u : Point) → Held m u → place m u ≤ suc (m .count)
+held-low : (m : Chain) (u : Point) → Held m u → place m u ≤ suc (m .count)
 held-low m start k = omega arith
 held-low m (name x) k = omega arith
 held-low m end k = omega arith
 
 -- No step falls, none leads to the start and none leaves the end.
-pub step-rises : (m : Model) (u v : Point) → Step m u v → (place m u ≤ place m v) × (0 < place m v) × (place m u ≤ m .count)
+pub step-rises : (m : Chain) (u v : Point) → Step m u v → (place m u ≤ place m v) × (0 < place m v) × (place m u ≤ m .count)
 step-rises m u v s = go (s .way)
   where
     go : Over m u v ⊎ Repeat m u v → (place m u ≤ place m v) × (0 < place m v) × (place m u ≤ m .count)
@@ -27,10 +27,10 @@ step-rises m u v s = go (s .way)
     go (inr t) = omega arith
 
 -- A step to the next factor.
-pub step-up : (m : Model) (u : Point) (x : ℕ) → Held m u → place m u ≡ factorOf m x → factorOf m x < m .count → Step m u (name x)
+pub step-up : (m : Chain) (u : Point) (x : ℕ) → Held m u → place m u ≡ factorOf m x → factorOf m x < m .count → Step m u (name x)
 step-up m u x k e l = enter m u (place m u) x (next-to m u k) (omega arith) (omega arith)
 
-module _ (m : Model) (named : (i : ℕ) → i < m .count → (x : ℕ) × (factorOf m x ≡ i)) where
+module _ (m : Chain) (named : (i : ℕ) → i < m .count → (x : ℕ) × (factorOf m x ≡ i)) where
   -- A point at a place.
   pub point : (d : ℕ) → d ≤ m .count → (u : Point) × Held m u × (place m u ≡ d)
   point zero l = (start, tt, refl)

@@ -7,7 +7,7 @@ use mathlib.Core.List.{List, [], _∷_}
 use mathlib.Core.Logic.{_⊎_, inl, inr, _↔_}
 use native.Mathlib.Omega.{arith}
 use lib.ListN.{length}
-use Rattle.model.specs.declared.Model.{Model}
+use Rattle.model.specs.declared.Chain.{Chain}
 use Rattle.model.specs.Record.{noFactor, factorOf, IsChain}
 use Rattle.model.specs.Accept.{Accepts, Names}
 use Rattle.model.proofs.Acceptance.{accepts-run}
@@ -20,7 +20,7 @@ use Rattle.model_language.proofs.Reach.{reach-ahead, ahead-reach}
 use Rattle.model_language.proofs.Include.{Extra, walk-names, steps-decided}
 
 -- m is a chain over n names, in a record of any size.
-module _ (size n : ℕ) (m : Model) (c : IsChain size n m) where
+module _ (size n : ℕ) (m : Chain) (c : IsChain size n m) where
   named : (i : ℕ) → i < m .count → (x : ℕ) × (factorOf m x ≡ i)
   named i l = let q = c .named i l in (q .0, q .2)
 
@@ -70,7 +70,7 @@ module _ (size n : ℕ) (m : Model) (c : IsChain size n m) where
   accepts-names small w a = walk-names n m (omega (arith, c .few)) (c .others) start w (accepts-walk w .0 a)
 
 -- Two chains over the same n names.
-module _ (size n : ℕ) (m k : Model) (c : IsChain size n m) (d : IsChain size n k) where
+module _ (size n : ℕ) (m k : Chain) (c : IsChain size n m) (d : IsChain size n k) where
   -- Every word of m is a word of k exactly when every step of m is a step of k.
   pub words-steps : ((w : List ℕ) → Accepts m w → Accepts k w) ↔ Includes m k
   words-steps = (

@@ -7,7 +7,7 @@ use mathlib.Core.List.{List, [], _∷_}
 use mathlib.Core.Logic.{_⊎_, inl, inr, _↔_}
 use native.Mathlib.Omega.{arith}
 use native.Mathlib.Decide.{ℕ-discrete}
-use Rattle.model.specs.declared.Model.{Model}
+use Rattle.model.specs.declared.Chain.{Chain}
 use Rattle.model.specs.declared.Turn.the-variants.{Take, Leave}
 use Rattle.model.specs.Record.{factorOf, modeOf}
 use Rattle.model.specs.Run.{either, turnOf}
@@ -17,11 +17,11 @@ use Rattle.model_language.specs.Word.{Point, start, name, end, Beside}
 use Rattle.model_language.specs.Step.{optional, repeats, place, Held, Over, Repeat, Step}
 
 -- Every step on the way from u over w to the end is a step of m.
-abbrev pub Walk : Model → Point → List ℕ → Type 0
+abbrev pub Walk : Chain → Point → List ℕ → Type 0
 Walk m u [] = Step m u end
 Walk m u (x ∷ w) = Step m u (name x) × Walk m (name x) w
 
-pub walk-steps : (m : Model) (p : Point) (w : List ℕ) → Walk m p w ↔ ((u v : Point) → Beside p w u v → Step m u v)
+pub walk-steps : (m : Chain) (p : Point) (w : List ℕ) → Walk m p w ↔ ((u v : Point) → Beside p w u v → Step m u v)
 walk-steps m p w = (to p w, from p w)
   where
     to : (p : Point) (w : List ℕ) → Walk m p w → (u v : Point) → Beside p w u v → Step m u v
@@ -63,29 +63,29 @@ first-turn (suc (suc (suc (suc f)))) l = absurd (omega arith)
 -- ---- from a run to a way
 
 -- u lies before factor i, and every factor between them is optional.
-pub record Before (m : Model) (u : Point) (i : ℕ) : Type 0 where
+pub record Before (m : Chain) (u : Point) (i : ℕ) : Type 0 where
   pub leaves : Held m u
   pub low : place m u ≤ i
   pub free : (j : ℕ) → place m u ≤ j → j < i → optional (modeOf m j) ≡ true
 
-pub next-to : (m : Model) (u : Point) → Held m u → Before m u (place m u)
+pub next-to : (m : Chain) (u : Point) → Held m u → Before m u (place m u)
 next-to m u k = record { leaves = k; low = omega arith; free = λ j p q. absurd (omega arith) }
 
-pub enter : (m : Model) (u : Point) (i x : ℕ) → Before m u i → i < m .count → factorOf m x ≡ i → Step m u (name x)
+pub enter : (m : Chain) (u : Point) (i x : ℕ) → Before m u i → i < m .count → factorOf m x ≡ i → Step m u (name x)
 enter m u i x b l h = record { leaves = b .leaves; meets = omega arith; way = inl record { rises = omega arith; free = λ j p q. b .free j p (omega arith) } }
 
-pub stay : (m : Model) (i x y : ℕ) → i < m .count → factorOf m x ≡ i → factorOf m y ≡ i → repeats (modeOf m i) ≡ true → Step m (name x) (name y)
+pub stay : (m : Chain) (i x y : ℕ) → i < m .count → factorOf m x ≡ i → factorOf m y ≡ i → repeats (modeOf m i) ≡ true → Step m (name x) (name y)
 stay m i x y l h k e = record { leaves = omega arith; meets = omega arith; way = inr record { factor = i; one = l; left = omega arith; right = omega arith; loop = e } }
 
-pub finish : (m : Model) (u : Point) (i : ℕ) → Before m u i → i ≡ m .count → Step m u end
+pub finish : (m : Chain) (u : Point) (i : ℕ) → Before m u i → i ≡ m .count → Step m u end
 finish m u i b e = record { leaves = b .leaves; meets = tt; way = inl record { rises = omega arith; free = λ j p q. b .free j p (omega arith) } }
 
 -- u is where a run stands in factor i: before it, or at a name of it.
-abbrev At : Model → ℕ → Bool → Point → Type 0
+abbrev At : Chain → ℕ → Bool → Point → Type 0
 At m i false u = Before m u i
 At m i true u = (x : ℕ) × (u ≡ name x) × (factorOf m x ≡ i)
 
-at-leave : (m : Model) (i : ℕ) (t : Bool) (u : Point) → i < m .count → turnOf (modeOf m i) t false ≡ Leave → At m i t u → Before m u (suc i)
+at-leave : (m : Chain) (i : ℕ) (t : Bool) (u : Point) → i < m .count → turnOf (modeOf m i) t false ≡ Leave → At m i t u → Before m u (suc i)
 at-leave m i true u l e (x, p, h) = rw p record { leaves = omega arith; low = omega arith; free = λ j a b. absurd (omega arith) }
 at-leave m i false u l e b = record { leaves = b .leaves; low = omega arith; free = λ j p q. go j p q (ℕ-discrete j i) }
   where
@@ -93,22 +93,22 @@ at-leave m i false u l e b = record { leaves = b .leaves; low = omega arith; fre
     go j p q (yes f) = rw f (optional-turn (modeOf m i) .0 e)
     go j p q (no d) = b .free j p (omega arith)
 
-at-take : (m : Model) (i x : ℕ) (t : Bool) (u : Point) → i < m .count → factorOf m x ≡ i → turnOf (modeOf m i) t true ≡ Take → At m i t u → Step m u (name x)
+at-take : (m : Chain) (i x : ℕ) (t : Bool) (u : Point) → i < m .count → factorOf m x ≡ i → turnOf (modeOf m i) t true ≡ Take → At m i t u → Step m u (name x)
 at-take m i x true u l h e (y, p, k) = rw p (stay m i y x l k h (repeats-turn (modeOf m i) .0 e))
 at-take m i x false u l h e b = enter m u i x b l h
 
-at-end : (m : Model) (i : ℕ) (t : Bool) (u : Point) → i ≡ m .count → Held m u → At m i t u → Step m u end
+at-end : (m : Chain) (i : ℕ) (t : Bool) (u : Point) → i ≡ m .count → Held m u → At m i t u → Step m u end
 at-end m i true u e k (x, p, h) = absurd (omega (arith, rw p at k))
 at-end m i false u e k b = finish m u i b e
 
-pub run-walk : {m : Model} {i : ℕ} {t : Bool} {w : List ℕ} → Run m i t w → (u : Point) → Held m u → At m i t u → Walk m u w
+pub run-walk : {m : Chain} {i : ℕ} {t : Bool} {w : List ℕ} → Run m i t w → (u : Point) → Held m u → At m i t u → Walk m u w
 run-walk {m} {i} {t} (done e f) u k a = rw f (at-end m i t u e k a)
 run-walk {m} {i} {t} (leave l e r) u k a = run-walk r u k (at-leave m i t u l e a)
 run-walk {m} {i} {t} (take {x = x} l h e r) u k a = (at-take m i x t u l h e a, run-walk r (name x) (omega arith) (x, refl, h))
 
 -- ---- from a way to a run
 
-module _ (m : Model) (known : (i : ℕ) → i < m .count → modeOf m i ≤ 3) where
+module _ (m : Chain) (known : (i : ℕ) → i < m .count → modeOf m i ≤ 3) where
   skip : (d i j : ℕ) (w : List ℕ) → i + d ≡ j → j ≤ m .count → ((k : ℕ) → i ≤ k → k < j → optional (modeOf m k) ≡ true) → Run m j false w → Run m i false w
   skip zero i j w e l h r = subst (λ (k : ℕ). Run m k false w) (omega arith) r
   skip (suc d) i j w e l h r =

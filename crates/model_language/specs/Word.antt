@@ -5,7 +5,7 @@ use Prim.Native.Nat.{ℕ}
 use mathlib.Core.Path.{_≡_}
 use mathlib.Core.List.{List, [], _∷_}
 use mathlib.Core.Logic.{_⊎_}
-use Rattle.model.specs.declared.Model.{Model}
+use Rattle.model.specs.declared.Chain.{Chain}
 use Rattle.model.specs.Accept.{Accepts}
 
 -- The start of a word, a name, the end of a word.
@@ -29,6 +29,6 @@ Fact [] u v = ⊥
 Fact (w ∷ ws) u v = Shows w u v ⊎ Fact ws u v
 
 -- m accepts every one of the words.
-abbrev pub AcceptsAll : Model → List (List ℕ) → Type 0
+abbrev pub AcceptsAll : Chain → List (List ℕ) → Type 0
 AcceptsAll m [] = Unit {0}
 AcceptsAll m (w ∷ ws) = Accepts m w × AcceptsAll m ws

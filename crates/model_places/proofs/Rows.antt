@@ -12,7 +12,7 @@ use lib.Dec.{leb}
 use lib.ListN.{length, getD, set, length-set}
 use lib.Seq.{getD-set-same, getD-set-other}
 use Rattle.nameset.specs.Places.{places}
-use Rattle.model.specs.declared.Model.{Model}
+use Rattle.model.specs.declared.Chain.{Chain}
 use Rattle.model.specs.Record.{noFactor, factorOf}
 use Rattle.model.specs.Build.{ofRows}
 use Rattle.model_language.specs.Word.{Point}
@@ -118,7 +118,7 @@ module _ (count : ℕ) (factors modes : List ℕ) (u : Spot) where
 
 -- ---- the test of a step
 
-module _ (m : Model) (u v : Point) {a b : ℕ} (e : a ≡ place m u) (f : b ≡ place m v) where
+module _ (m : Chain) (u v : Point) {a b : ℕ} (e : a ≡ place m u) (f : b ≡ place m v) where
   pub left-end : m .count < a → false ≡ hasStep m u v
   unfolding hasStep
   left-end l = rw (← e, lt-leb a (m .count) l)

@@ -10,7 +10,7 @@ use native.Mathlib.Decide.{decLt, decLe, ℕ-discrete}
 use borrow.Author.Tests.{leb-true, le-leb}
 use lib.Dec.{leb}
 use lib.ListN.{getD}
-use Rattle.model.specs.declared.Model.{Model}
+use Rattle.model.specs.declared.Chain.{Chain}
 use Rattle.model.specs.Record.{noFactor, factorOf, modeOf, IsChain}
 use Rattle.model.proofs.Tests.{both, and-left, and-right}
 use Rattle.model_language.specs.Word.{Point, start, name, end}
@@ -67,7 +67,7 @@ near-split modes (suc j) = go (repeats (getD modes j 0)) refl
 
 -- ---- the steps of a chain
 
-module _ (size n : ℕ) (m : Model) (c : IsChain size n m) (small : size < noFactor) (u v : Point) where
+module _ (size n : ℕ) (m : Chain) (c : IsChain size n m) (small : size < noFactor) (u v : Point) where
   near : ℕ
   near = nearest (m .mode) (place m u)
 

@@ -8,7 +8,7 @@ use mathlib.Core.List.{List}
 use lib.Dec.{leb}
 use lib.ListN.{length, getD}
 use Rattle.nameset.specs.Places.{places}
-use Rattle.model.specs.declared.Model.{Model}
+use Rattle.model.specs.declared.Chain.{Chain}
 use Rattle.model_language.specs.Word.{Point, start, name, end}
 use Rattle.model_language.specs.Step.{optional, repeats, place}
 use Rattle.model_places.specs.declared.Spot.{Spot}
@@ -42,7 +42,7 @@ pub record FarRow (count : ℕ) (modes row : List ℕ) : Type 0 where
 
 -- Whether the record m has the step from u to v: u is the start or a name that a factor holds, and v is from the
 -- nearest to the farthest place that a step from u leads to.
-unfoldable pub hasStep : Model → Point → Point → Bool
+unfoldable pub hasStep : Chain → Point → Point → Bool
 hasStep m u v =
     leb (place m u) (m .count)
     && (leb (nearest (m .mode) (place m u)) (place m v) && leb (place m v) (farthest (m .count) (m .mode) (place m u)))

@@ -13,7 +13,7 @@ use Rattle.byte_row.specs.Largest.{largest}
 use Rattle.byte_row.proofs.Laws.{most-law}
 use Rattle.model.specs.Check.{mayBe, allKnown}
 use Rattle.model.proofs.Tests.{both, and-left, and-right, same-test}
-use Rattle.model.proofs.Chain.{Mode, known-law}
+use Rattle.model.proofs.ChainLaw.{Mode, known-law}
 
 module _ (count : ℕ) (modes : List ℕ) where
   -- The modes from a place on are at most k, as far as the row goes and past its end.

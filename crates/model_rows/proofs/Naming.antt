@@ -15,7 +15,7 @@ use Rattle.nameset.specs.Places.{places}
 use Rattle.model.specs.Record.{noFactor}
 use Rattle.model.specs.Check.{everyBelow, anyBelow, mayHold, allPlaced, allNamed}
 use Rattle.model.proofs.Tests.{both, or-split, or-right, same-test, all-law, any-law}
-use Rattle.model.proofs.Chain.{placed-law, name-law}
+use Rattle.model.proofs.ChainLaw.{placed-law, name-law}
 use Rattle.model_rows.proofs.Factors.{all-same}
 
 -- Whether factor i holds the name x.

@@ -6,7 +6,7 @@ use mathlib.Core.Bool.{Bool, true, false, not, _||_, false≢true}
 use mathlib.Core.Logic.{inl, inr}
 use borrow.Author.Tests.{not-true, not-false, lt-ltb, le-ltb}
 use Rattle.nameset.specs.Places.{places}
-use Rattle.model.specs.declared.Model.{Model}
+use Rattle.model.specs.declared.Chain.{Chain}
 use Rattle.model_language.specs.Word.{name}
 use Rattle.model_language.specs.Step.{repeats}
 use Rattle.model_places.specs.declared.Spot.{Spot}
@@ -35,7 +35,7 @@ loop-off false b e = absurd (false≢true (sym e))
 
 -- ---- past a factor
 
-module _ (k : Model) (g : Frontier) (s : Span) (mode : ℕ) where
+module _ (k : Chain) (g : Frontier) (s : Span) (mode : ℕ) where
   pub stuck-low : {b : Bool} {u : Spot} → u ≡ spotAt (g .low) → b ≡ hasStep k (point u) (name (s .high)) → not b ≡ true → PassedBy k g s mode (Stuck u (Name (s .high)))
   stuck-low {b} q t e = (sym t ∙ not-true b e, inl (q, refl))
 

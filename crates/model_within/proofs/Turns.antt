@@ -10,7 +10,7 @@ use native.Mathlib.Decide.{decLt}
 use native.Mathlib.Numerals.{add-one}
 use lib.ListN.{getD, List·getD-eq-default}
 use Rattle.nameset.specs.Places.{places}
-use Rattle.model.specs.declared.Model.{Model}
+use Rattle.model.specs.declared.Chain.{Chain}
 use Rattle.model.specs.Record.{noFactor, factorOf, modeOf, IsChain}
 use Rattle.model_language.specs.Word.{Point, name, end}
 use Rattle.model_language.specs.Step.{optional, repeats, Step}
@@ -35,11 +35,11 @@ use Rattle.model_within.proofs.Tests.{spot-name}
 use Rattle.model_within.specs.Pass.{Comparable, spotAt, lowNext, PassedBy, Told}
 
 -- Chains with the extremes of their factors.
-pub comparable : (n : ℕ) (m k : Model) (r : Extremes) → IsChain places n m → IsChain places n k → AreExtremes n (m .factor) (k .factor) r
+pub comparable : (n : ℕ) (m k : Chain) (r : Extremes) → IsChain places n m → IsChain places n k → AreExtremes n (m .factor) (k .factor) r
     → Comparable m k (r .low) (r .high)
 comparable n m k r c d x = record { names = n; first = c; second = d; spans = extremes-law n m k r c x }
 
-module _ (m k : Model) (low high : List ℕ) (h : Comparable m k low high) where
+module _ (m k : Chain) (low high : List ℕ) (h : Comparable m k low high) where
   has : (u v : Point) → hasStep k u v ≡ true → Step k u v
   has u v = step-law places (h .names) k (h .second) (omega arith) u v .0
 
@@ -117,7 +117,7 @@ module _ (m k : Model) (low high : List ℕ) (h : Comparable m k low high) where
 
 -- ---- yes or no
 
-module _ (n : ℕ) (m k : Model) (c : IsChain places n m) (d : IsChain places n k) (r : Compared) (t : Told m k r) where
+module _ (n : ℕ) (m k : Chain) (c : IsChain places n m) (d : IsChain places n k) (r : Compared) (t : Told m k r) where
   pub told-yes : r ≡ Included → true ≡ within n m k
   told-yes e = sym (steps-in places n m k c d (omega arith) (subst (λ (z : Compared). Told m k z) e t))
 

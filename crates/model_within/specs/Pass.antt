@@ -9,7 +9,7 @@ use mathlib.Core.Logic.{_⊎_}
 use lib.Dec.{ltb}
 use lib.ListN.{getD}
 use Rattle.nameset.specs.Places.{places}
-use Rattle.model.specs.declared.Model.{Model}
+use Rattle.model.specs.declared.Chain.{Chain}
 use Rattle.model.specs.Record.{IsChain}
 use Rattle.model_language.specs.Word.{name}
 use Rattle.model_language.specs.Step.{optional, repeats, Step, Includes}
@@ -25,7 +25,7 @@ use Rattle.model_within.specs.declared.Compared.{Compared}
 use Rattle.model_within.specs.declared.Compared.the-variants.{Included, Apart}
 
 -- Two chains over the same names, with rows that have each factor's lowest and highest name.
-pub record Comparable (m k : Model) (low high : List ℕ) : Type 0 where
+pub record Comparable (m k : Chain) (low high : List ℕ) : Type 0 where
   pub names : ℕ
   pub first : IsChain places names m
   pub second : IsChain places names k
@@ -41,7 +41,7 @@ lowNext mode low lo = cond (optional mode) low lo
 
 -- k has the three steps into a factor of this mode that are asked for, and n is the frontier behind it; or it does not
 -- have the step from u to v, which is one of the three.
-abbrev pub PassedBy : Model → Frontier → Span → ℕ → Passing → Type 0
+abbrev pub PassedBy : Chain → Frontier → Span → ℕ → Passing → Type 0
 PassedBy k g s mode (On n) =
     (hasStep k (point (spotAt (g .low))) (name (s .high)) ≡ true) × (hasStep k (point (spotAt (g .high))) (name (s .low)) ≡ true)
     × (repeats mode ≡ true → hasStep k (name (s .high)) (name (s .low)) ≡ true)
@@ -52,6 +52,6 @@ PassedBy k g s mode (Stuck u v) =
     ⊎ (((u ≡ spotAt (g .high)) × (v ≡ Name (s .low))) ⊎ ((u ≡ Name (s .high)) × (v ≡ Name (s .low)) × (repeats mode ≡ true))))
 
 -- Every step of m is a step of k, or the step from u to v is one of m and not one of k.
-abbrev pub Told : Model → Model → Compared → Type 0
+abbrev pub Told : Chain → Chain → Compared → Type 0
 Told m k Included = Includes m k
 Told m k (Apart u v) = Step m (point u) (point v) × (Step k (point u) (point v) → ⊥)

@@ -11,7 +11,7 @@ ghost use Rattle.model_language.specs.Step.{repeats};
 ghost use Rattle.model_inclusion.specs.Search.{within};
 ghost use Rattle.model_places.specs.Places.{FarRow, hasStep};
 ghost use Rattle.model_within.specs.Pass.{Comparable, spotAt, lowNext, PassedBy, Told};
-use model::Model;
+use model::Chain;
 use model::entry;
 use model_extremes::extreme_names;
 use model_places::Spot;
@@ -115,7 +115,7 @@ fn pass_factor(
 
 // A step of the first chain that the second does not have, if there is one. `low` and `high` have for each factor of
 // the first its lowest and its highest name in the second.
-pub fn find_step<'a>(first: Model, second: Model, low: &'a [u8], high: &'a [u8]) -> Compared
+pub fn find_step<'a>(first: Chain, second: Chain, low: &'a [u8], high: &'a [u8]) -> Compared
     requires { ⌜ Comparable first second (now low) (now high) ⌝ }
     ensures { λ r. ⌜ Told first second r ⌝ }
 {
@@ -159,7 +159,7 @@ pub fn find_step<'a>(first: Model, second: Model, low: &'a [u8], high: &'a [u8])
 }
 
 // Whether every word of the first chain is a word of the second.
-pub fn is_within(n: usize, first: Model, second: Model) -> bool
+pub fn is_within(n: usize, first: Chain, second: Chain) -> bool
     requires { ⌜ (n ≤ places) × IsChain places n first × IsChain places n second ⌝ }
     ensures { λ r. ⌜ r ≡ within n first second ⌝ }
 {

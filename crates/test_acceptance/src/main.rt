@@ -1,7 +1,7 @@
 // Tests of the acceptance call. Each case writes a line: 1 for yes, 0 for no, else the number of the refusal.
 use intake_word::Acceptance;
 use libc::STDOUT_FILENO;
-use model::Model;
+use model::Chain;
 
 fn line(answer: Acceptance) -> u8 {
     match answer {
@@ -18,8 +18,8 @@ fn show(answer: Acceptance) {
 }
 
 // A record of three names, a, b, k, with the factor of each and the modes of three factors.
-fn record_of(count: usize, a: u8, b: u8, k: u8, first: u8, second: u8, third: u8) -> Model {
-    let mut m = Model {
+fn record_of(count: usize, a: u8, b: u8, k: u8, first: u8, second: u8, third: u8) -> Chain {
+    let mut m = Chain {
         count,
         factor: [255u8; 64],
         mode: [0u8; 64],
@@ -34,7 +34,7 @@ fn record_of(count: usize, a: u8, b: u8, k: u8, first: u8, second: u8, third: u8
 }
 
 // (a?,k*,b?)
-fn sample() -> Model {
+fn sample() -> Chain {
     record_of(3, 0, 2, 1, 1, 3, 1)
 }
 

@@ -1,7 +1,7 @@
 // Declarations written into buffers of many lengths. Each line has the number of the outcome, the length, and the
 // buffer: a dot where nothing was written.
 use declaration_writing::Written;
-use model::Model;
+use model::Chain;
 
 // The names a, b and c, and no block.
 fn small_book() -> [u8; 10] {
@@ -13,8 +13,8 @@ fn cut_book() -> [u8; 9] {
     [3, 0, 1, b'a', 1, b'b', 1, b'c', 0]
 }
 
-fn empty() -> Model {
-    Model {
+fn empty() -> Chain {
+    Chain {
         count: 0,
         factor: [255u8; 64],
         mode: [0u8; 64],
@@ -22,12 +22,12 @@ fn empty() -> Model {
 }
 
 // The model (b?).
-fn one_name() -> Model {
+fn one_name() -> Chain {
     let mut factor = [255u8; 64];
     let mut mode = [0u8; 64];
     factor[1] = 0;
     mode[0] = 1;
-    Model {
+    Chain {
         count: 1,
         factor,
         mode,
@@ -35,7 +35,7 @@ fn one_name() -> Model {
 }
 
 // The model ((a|c)*,b+).
-fn two_factors() -> Model {
+fn two_factors() -> Chain {
     let mut factor = [255u8; 64];
     let mut mode = [0u8; 64];
     factor[0] = 0;
@@ -43,7 +43,7 @@ fn two_factors() -> Model {
     factor[1] = 1;
     mode[0] = 3;
     mode[1] = 2;
-    Model {
+    Chain {
         count: 2,
         factor,
         mode,
@@ -51,7 +51,7 @@ fn two_factors() -> Model {
 }
 
 // 64 names in 32 pairs, each with a mark: the longest model there is.
-fn pairs() -> Model {
+fn pairs() -> Chain {
     let mut factor = [255u8; 64];
     let mut mode = [0u8; 64];
     let mut i = 0;
@@ -61,7 +61,7 @@ fn pairs() -> Model {
         mode[i] = 1;
         i += 1;
     }
-    Model {
+    Chain {
         count: 32,
         factor,
         mode,
@@ -77,37 +77,37 @@ fn report(written: Written, buffer: &[u8]) {
     test_lines::print(b"\n");
 }
 
-fn in_40(book: &[u8], parent: usize, m: Model) {
+fn in_40(book: &[u8], parent: usize, m: Chain) {
     let mut buffer = [b'.'; 40];
     let written = declaration_writing::write_declaration(book, parent, m, &mut buffer);
     report(written, &buffer);
 }
 
-fn in_17(book: &[u8], parent: usize, m: Model) {
+fn in_17(book: &[u8], parent: usize, m: Chain) {
     let mut buffer = [b'.'; 17];
     let written = declaration_writing::write_declaration(book, parent, m, &mut buffer);
     report(written, &buffer);
 }
 
-fn in_16(book: &[u8], parent: usize, m: Model) {
+fn in_16(book: &[u8], parent: usize, m: Chain) {
     let mut buffer = [b'.'; 16];
     let written = declaration_writing::write_declaration(book, parent, m, &mut buffer);
     report(written, &buffer);
 }
 
-fn in_2252(book: &[u8], parent: usize, m: Model) {
+fn in_2252(book: &[u8], parent: usize, m: Chain) {
     let mut buffer = [b'.'; 2252];
     let written = declaration_writing::write_declaration(book, parent, m, &mut buffer);
     report(written, &buffer);
 }
 
-fn in_2253(book: &[u8], parent: usize, m: Model) {
+fn in_2253(book: &[u8], parent: usize, m: Chain) {
     let mut buffer = [b'.'; 2253];
     let written = declaration_writing::write_declaration(book, parent, m, &mut buffer);
     report(written, &buffer);
 }
 
-fn in_2260(book: &[u8], parent: usize, m: Model) {
+fn in_2260(book: &[u8], parent: usize, m: Chain) {
     let mut buffer = [b'.'; 2260];
     let written = declaration_writing::write_declaration(book, parent, m, &mut buffer);
     report(written, &buffer);

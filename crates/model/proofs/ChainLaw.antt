@@ -10,7 +10,7 @@ use native.Mathlib.Decide.{decLt}
 use borrow.Author.Tests.{eqb-true, eq-eqb, ltb-true, lt-ltb, le-ltb, leb-true, le-leb}
 use lib.Dec.{eqb, ltb, leb}
 use lib.ListN.{length, getD, List·getD-eq-default}
-use Rattle.model.specs.declared.Model.{Model}
+use Rattle.model.specs.declared.Chain.{Chain}
 use Rattle.model.specs.Record.{noFactor, factorOf, modeOf, IsChain}
 use Rattle.model.specs.Check.{anyBelow, mayHold, mayBe, allPlaced, allNamed, allKnown, isChain}
 use Rattle.model.proofs.Tests.{or-split, or-right, all-law, any-law}
@@ -97,7 +97,7 @@ six true true false d e f h = absurd (false≢true h)
 six true false c d e f h = absurd (false≢true h)
 six false b c d e f h = absurd (false≢true h)
 
-pub chain-law : (size n : ℕ) (m : Model) → (isChain size n m ≡ true) ↔ IsChain size n m
+pub chain-law : (size n : ℕ) (m : Chain) → (isChain size n m ≡ true) ↔ IsChain size n m
 unfolding isChain factorOf modeOf
 chain-law size n m = (λ e. to (six (eqb (length (m .factor)) size) (eqb (length (m .mode)) size) (leb (m .count) size) _ _ _ e), from)
   where

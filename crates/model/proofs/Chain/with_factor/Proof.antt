@@ -1,4 +1,4 @@
--- `Model::with_factor` meets its contract.
+-- `Chain::with_factor` meets its contract.
 -- Assumes nothing.
 use mathlib.Core.Path.{_≡_, refl, sym, _∙_}
 use mathlib.Core.Bool.{false}
@@ -6,8 +6,8 @@ use borrow.Author.Needs.{needs}
 use borrow.Author.Tests.{not-true, not-false}
 use Rattle.nameset.specs.Set.{isEmpty, size}
 use Rattle.model.proofs.Building.{Entered, enter-none, enter-more, enter-all, built}
-use Rattle.model.proofs.Model.with_factor.Statement.{statement}
-use Rattle.model.proofs.Model.with_factor.Tie as tie
+use Rattle.model.proofs.Chain.with_factor.Statement.{statement}
+use Rattle.model.proofs.Chain.with_factor.Tie as tie
 
 abbrev Inv-loop : tie.InvT-loop
 Inv-loop self mode count own factor₀ left₀ factor left = Entered left₀ left own factor₀ factor
