@@ -15,12 +15,13 @@
  *    7  the book has bytes left over after its last block
  *    8  the parent asked for is not below the count of names
  *    9  no block in the book has the parent whose model is wanted from the sample
- *   10  the model record is not a chain over the names
+ *   10  the model record is not a chain over the names, or its text byte does not fit the chain
  *   11  the word has more than 255 names, or a number that is not below the count of names
  *   12  the output buffer is shorter than the text to be written, or has fewer than 65 places for a word
  *   13  the text does not have the form of a declaration
  *   14  a name in the text, the parent's included, is not in the book
  *   15  the model in the text has a name twice
+ *   16  a text byte in the book is above 1
  *
  * Several conditions may hold at once. A call makes its checks in the order that is given with it below, and answers
  * the number of the first one that fails. A book is not checked number by number. First its length is checked (1), then
@@ -31,6 +32,7 @@
  *    a name's bytes, taken whole          2, 4, 5
  *    the count of blocks                  2
  *    a block's parent                     2, 6
+ *    a block's text byte                  2, 16
  *    a block's child count                2
  *    a block's children, taken whole      2, 6
  *    the end, after the last block        7
@@ -39,16 +41,16 @@
  * with 3, although bytes are missing further on.
  *
  * A refused call changes nothing that it borrows. The rest of its answer is then: the model with count 0, every factor
- * 255 and every mode 0; no; length 0; parent 0. All of these are also answers of calls that were not refused, so look
- * at the refusal first.
+ * 255, every mode 0 and text 0; no; length 0; parent 0. All of these are also answers of calls that were not refused,
+ * so look at the refusal first.
  *
  * What a caller has to see to, since no call can check it: a pointer is not NULL, also where its length is 0. It points
  * to that many bytes that can be read (those of a buffer also written). While the call runs nobody else writes to them,
  * nor reads those of a buffer. A buffer overlaps nothing else that is passed to the same call.
  *
  * docs/FORMAT.md has the bytes of a book, the order of the checks and the text of a declaration. They are those of
- * paper 01, with requests U1 (reading), U2 (the whole DTD) and U4 (one model within another) of paper 02; the papers
- * decide.
+ * paper 01, with requests U1 (reading), U2 (the whole DTD), U4 (one model within another) and U5 (fields that hold
+ * text) of paper 02; the papers decide.
  */
 #ifndef CURLEWSONG_H
 #define CURLEWSONG_H
@@ -73,14 +75,17 @@ extern "C" {
 #define CURLEWSONG_LONGEST_COUNTEREXAMPLE 65
 
 /* A content model: `count` factors in order. factor[x] is the factor, from 0, that holds the name with number x, or
- * CURLEWSONG_NONE. mode[i] is the mark of factor i: 0 none, 1 '?', 2 '+', 3 '*'. A call takes any values and refuses
- * with 10 those that are no chain over the N names: `count` is at most 64; factor[x] is below `count` or
- * CURLEWSONG_NONE, and CURLEWSONG_NONE for x from N on; each factor holds a name; mode[i] is 0 to 3, and 0 for i from
- * `count` on. */
+ * CURLEWSONG_NONE. mode[i] is the mark of factor i: 0 none, 1 '?', 2 '+', 3 '*'. `text` is 1 where text is allowed
+ * and 0 where not. With text there is no factor, (#PCDATA), or one with mode 3, (#PCDATA|a|b)*.
+ *
+ * A call takes any values and refuses with 10 those that are no model over the N names: `count` is at most 64;
+ * factor[x] is below `count` or CURLEWSONG_NONE, and CURLEWSONG_NONE for x from N on; each factor holds a name; mode[i]
+ * is 0 to 3, and 0 for i from `count` on; `text` is 0, or 1 with `count` 0, or 1 with `count` 1 and mode[0] 3. */
 typedef struct {
     size_t count;
     uint8_t factor[CURLEWSONG_PLACES];
     uint8_t mode[CURLEWSONG_PLACES];
+    uint8_t text;
 } curlewsong_model;
 
 typedef struct {
@@ -110,31 +115,34 @@ typedef struct {
     curlewsong_model model;
 } curlewsong_read;
 
-/* The model of a parent from its blocks in the book: a chain that accepts every one of their words. Every other chain
- * over the book's names that accepts them all also accepts some word that this one does not. Refusals, in this order:
- * the book's (1 to 7), 8, 9. */
+/* The model of a parent from its blocks in the book. If none of them has text it is a chain that accepts every one of
+ * their words, with text 0. Every other chain over the book's names that accepts them all also accepts some word that
+ * this one does not. If one of them has text, text is allowed, and any number of exactly the names that are in their
+ * words, in any order. Refusals, in this order: the book's (1 to 7, 16), 8, 9. */
 curlewsong_model_answer curlewsong_model_of_parent(const uint8_t *book, size_t book_length, size_t parent);
 
 /* Whether the model over `names` names accepts the word: whether the word is a joining of one part for each factor in
- * order. Each byte of the word is the number of a name. Refusals, in this order: 3, 10, 11. */
+ * order. Each byte of the word is the number of a name. Whether text is allowed is not looked at. Refusals, in this
+ * order: 3, 10, 11. */
 curlewsong_verdict curlewsong_accepts_word(size_t names, curlewsong_model model, const uint8_t *word, size_t word_length);
 
 /* Whether every word, of any length, that the first model over `names` names accepts is accepted by the second. On no,
  * a word that the first accepts and the second does not is in the front of the buffer, one byte for the number of each
  * name, and `length` is its length, 0 for the empty word. Which of these words it is, is left open. The bytes behind it
  * keep their values. On yes all bytes do, and the length is 0. The buffer needs CURLEWSONG_LONGEST_COUNTEREXAMPLE
- * places, also where the answer is yes. Refusals, in this order: 3, 10 (the first model, then the second), 12. */
+ * places, also where the answer is yes. Whether text is allowed is not looked at. Refusals, in this order: 3, 10 (the
+ * first model, then the second), 12. */
 curlewsong_inclusion curlewsong_within(size_t names, curlewsong_model first, curlewsong_model second,
                                        uint8_t *buffer, size_t buffer_length);
 
 /* Writes the declaration of the parent with this model to the front of the buffer, in canonical form (paper 01 calls it
  * the house spelling), and answers its length. The bytes behind it keep their values: no line feed and no NUL is
- * written. The parent needs no block. Refusals, in this order: the book's (1 to 7), 8, 10, 12. */
+ * written. The parent needs no block. Refusals, in this order: the book's (1 to 7, 16), 8, 10, 12. */
 curlewsong_written curlewsong_write_declaration(const uint8_t *book, size_t book_length, size_t parent, curlewsong_model model,
                                                 uint8_t *buffer, size_t buffer_length);
 
 /* The same with the model of the parent from its blocks; here the parent needs a block. Refusals, in this order: the
- * book's (1 to 7), 8, 9, 12. */
+ * book's (1 to 7, 16), 8, 9, 12. */
 curlewsong_written curlewsong_write_from_sample(const uint8_t *book, size_t book_length, size_t parent,
                                                 uint8_t *buffer, size_t buffer_length);
 
@@ -143,15 +151,15 @@ curlewsong_written curlewsong_write_from_sample(const uint8_t *book, size_t book
  * not refused this is what the program dtd prints. A book without blocks has the length 0. The bytes behind the text
  * keep their values, and no NUL is written. The book is read once for all parents. A buffer of 2,254 bytes for each of
  * its names, so one of CURLEWSONG_LONGEST_DTD bytes, is never too short; with a shorter one the length of the text is
- * found first, and the call takes longer. Refusals, in this order: the book's (1 to 7), 12. */
+ * found first, and the call takes longer. Refusals, in this order: the book's (1 to 7, 16), 12. */
 curlewsong_written curlewsong_write_dtd(const uint8_t *book, size_t book_length, uint8_t *buffer, size_t buffer_length);
 
 /* The parent and the model of a declaration over the names of the book. The parent needs no block. A text that
  * curlewsong_write_declaration wrote for this book reads back as the same parent and model, and one that
  * curlewsong_write_from_sample wrote as the parent and the model from its blocks. White space may be spaces, tabs,
- * carriage returns and line feeds; the names of a group may come in any order; one name may have its own brackets; and
- * one group may be the whole model, as in (a|b)*. docs/FORMAT.md has the grammar. Refusals, in this order: the book's
- * (1 to 7), 13, 14, 15. */
+ * carriage returns and line feeds; the names of a group may come in any order; one name may have its own brackets;
+ * one group may be the whole model, as in (a|b)*; and (#PCDATA)* is read as (#PCDATA). docs/FORMAT.md has the grammar.
+ * Refusals, in this order: the book's (1 to 7, 16), 13, 14, 15. */
 curlewsong_read curlewsong_read_declaration(const uint8_t *book, size_t book_length, const uint8_t *text, size_t text_length);
 
 #ifdef __cplusplus

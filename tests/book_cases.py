@@ -1,5 +1,5 @@
 #!/usr/bin/env python3
-"""The cases of the program test_book: books on both sides of each limit of paper 01, with what is due of each.
+"""The cases of the program test_book: books on both sides of each limit, with what is due of each.
 
 Without an argument it writes crates/test_book/stdin and stdout; with --check it says whether they are as written here.
 """
@@ -18,8 +18,8 @@ def count(n):
     return bytes([n % 256, n // 256])
 
 
-def block(parent, children):
-    return bytes([parent, len(children)]) + bytes(children)
+def block(parent, children, text=0):
+    return bytes([parent, text, len(children)]) + bytes(children)
 
 
 def book(names, blocks, n=None, m=None):
@@ -34,31 +34,32 @@ def two_letters(i):
 
 EXAMPLE_NAMES = [b"contribution", b"entry", b"leaver", b"member", b"reason", b"total"]
 EXAMPLE = book([name(x) for x in EXAMPLE_NAMES], [block(1, [3, 0, 5]), block(1, [3, 2, 4]), block(1, [3, 0, 4])])
+EXAMPLE_BLOCKS = " 1:0:3" * 3
 A = [name(b"a")]
 AB = [name(b"a"), name(b"b")]
 
 
 def long_book(size):
-    """One name, 233 blocks of 255 children, and one more block that fills the book."""
-    blocks = [block(0, [0] * 255)] * 233
-    rest = size - len(book(A, blocks)) - 2
+    """One name, 232 blocks of 255 children, and one more block that fills the book."""
+    blocks = [block(0, [0] * 255)] * 232
+    rest = size - len(book(A, blocks)) - len(block(0, []))
     return book(A, blocks + [block(0, [0] * rest)])
 
 
 def cases():
     """Each case: a label, the book, a text to look up, and the line that is due behind the label."""
-    yield "example", EXAMPLE, b"leaver", "0 6 3 2 1:3 1:3 1:3"
+    yield "example", EXAMPLE, b"leaver", "0 6 3 2" + EXAMPLE_BLOCKS
     for i, text in enumerate(EXAMPLE_NAMES):
-        yield f"name {i}", EXAMPLE, text, f"0 6 3 {i} 1:3 1:3 1:3"
+        yield f"name {i}", EXAMPLE, text, f"0 6 3 {i}" + EXAMPLE_BLOCKS
     for text in (b"", b"a", b"contributio", b"contributions", b"lever", b"membes", b"totals", b"zzz"):
-        yield f"no name '{text.decode()}'", EXAMPLE, text, "0 6 3 - 1:3 1:3 1:3"
+        yield f"no name '{text.decode()}'", EXAMPLE, text, "0 6 3 -" + EXAMPLE_BLOCKS
     for k in range(len(EXAMPLE)):
         yield f"cut at {k}", EXAMPLE[:k], b"", "2 0 0"
     yield "one byte left over", EXAMPLE + b"\0", b"", "7 0 0"
     yield "left over after M = 0", book(A, []) + b"\0", b"", "7 0 0"
 
     # 1
-    yield "60,000 bytes", long_book(60000), b"a", "0 1 234 0" + " 0:255" * 233 + " 0:111"
+    yield "60,000 bytes", long_book(60000), b"a", "0 1 233 0" + " 0:0:255" * 232 + " 0:0:135"
     yield "60,001 bytes", long_book(60001), b"", "1 0 0"
     yield "60,001 bytes of nothing", bytes(60001), b"", "1 0 0"
 
@@ -100,17 +101,35 @@ def cases():
     yield "M = 0", book(A, []), b"", "0 1 0 -"
     yield "M = 65535", book(A, [], m=65535), b"", "2 0 0"
     yield "M = 65535, bad parent", book(A, [block(1, [])], m=65535), b"", "6 0 0"
-    yield "no child", book(A, [block(0, [])]), b"", "0 1 1 - 0:0"
-    yield "255 children", book(A, [block(0, [0] * 255)]), b"", "0 1 1 - 0:255"
-    yield "parent N - 1", book(AB, [block(1, [])]), b"", "0 2 1 - 1:0"
+    yield "no child", book(A, [block(0, [])]), b"", "0 1 1 - 0:0:0"
+    yield "255 children", book(A, [block(0, [0] * 255)]), b"", "0 1 1 - 0:0:255"
+    yield "parent N - 1", book(AB, [block(1, [])]), b"", "0 2 1 - 1:0:0"
     yield "parent N", book(AB, [block(2, [])]), b"", "6 0 0"
-    yield "parent N, count missing", book(AB, [b"\2"]), b"", "6 0 0"
-    yield "child N - 1", book(AB, [block(0, [1])]), b"", "0 2 1 - 0:1"
+    yield "parent N, nothing behind", book(AB, [b"\2"]), b"", "6 0 0"
+    yield "child N - 1", book(AB, [block(0, [1])]), b"", "0 2 1 - 0:0:1"
     yield "child N", book(AB, [block(0, [2])]), b"", "6 0 0"
     yield "last child N", book(AB, [block(0, [0] * 254 + [2])]), b"", "6 0 0"
-    yield "bad child, last child missing", book(AB, [bytes([0, 2, 9])]), b"", "2 0 0"
+    yield "bad child, last child missing", book(AB, [bytes([0, 0, 2, 9])]), b"", "2 0 0"
     yield "bad child in the second block", book(AB, [block(0, [1]), block(1, [9])]), b"", "6 0 0"
     yield "bad child and bytes left over", book(AB, [block(0, [2])]) + b"\0", b"", "6 0 0"
+
+    # 16, behind the parent and before the child count
+    yield "text byte missing", book(AB, [b"\0"]), b"", "2 0 0"
+    yield "text byte 0", book(AB, [block(0, [1], 0)]), b"", "0 2 1 - 0:0:1"
+    yield "text byte 1", book(AB, [block(0, [1], 1)]), b"", "0 2 1 - 0:1:1"
+    yield "text byte 2", book(AB, [block(0, [1], 2)]), b"", "16 0 0"
+    yield "text byte 255", book(AB, [block(0, [1], 255)]), b"", "16 0 0"
+    yield "text byte 1, count missing", book(AB, [b"\0\1"]), b"", "2 0 0"
+    yield "text byte 2, count missing", book(AB, [b"\0\2"]), b"", "16 0 0"
+    yield "text byte 1, child missing", book(AB, [b"\0\1\1"]), b"", "2 0 0"
+    yield "text byte 2, child missing", book(AB, [b"\0\2\1"]), b"", "16 0 0"
+    yield "parent N, text byte 2", book(AB, [block(2, [], 2)]), b"", "6 0 0"
+    yield "text byte 1, bad child", book(AB, [block(0, [2], 1)]), b"", "6 0 0"
+    yield "text byte 2, bad child", book(AB, [block(0, [2], 2)]), b"", "16 0 0"
+    yield "text without children", book(AB, [block(1, [], 1)]), b"", "0 2 1 - 1:1:0"
+    yield "text byte 2 in the second block", book(AB, [block(0, [1]), block(1, [0], 2)]), b"", "16 0 0"
+    yield "bad child, then text byte 2", book(AB, [block(0, [2]), block(1, [], 2)]), b"", "6 0 0"
+    yield "text byte 2 and bytes left over", book(AB, [block(0, [], 2)]) + b"\0", b"", "16 0 0"
 
 
 def size(text):

@@ -212,7 +212,8 @@ def right_sums(lines):
         def right(said):
             names = [path.rsplit("/", 1)[1] for path, _, _ in rows]
             upto = names.index(said.group(2)) + 1 if said.group(2) in names else len(rows)
-            new = [count for _, count, row in rows[:upto] if "without" not in said.group(1) or "read already" not in row]
+            every = "without" not in said.group(1)
+            new = [count for _, count, row in rows[:upto] if every or "read already" not in row]
             return f"Sum of {said.group(1)}: {sum(new):,}"
         if SUM.search(text):
             yield number, text, SUM.sub(right, text)
@@ -262,7 +263,7 @@ def books(lines, findings):
         findings.append(finding(book[0], "no code block `dtd` follows this code block `hex`"))
     for line, row, said in rows_under("`dtd` prints", lines):
         if re.fullmatch(f"`{BYTES}`", row[0]):
-            said = "" if said == "nothing" else said.strip("`") + "\n"
+            said = "" if said == "nothing" else said.replace("\\|", "|").strip("`") + "\n"
             yield line, bytes.fromhex(row[0].strip("`")), said
 
 
@@ -310,7 +311,7 @@ def wrong_readings(cases):
 
 
 def check_format(lines, programs, findings):
-    """Adds what is found in docs/FORMAT.md, and returns the numbers of books and of texts that were given to programs."""
+    """Adds what is found in docs/FORMAT.md, and returns how many books and texts were given to programs."""
     of_books, of_texts = list(books(lines, findings)), list(texts(lines))
     for case in of_books if DTD in programs else []:
         findings += wrong_output(*case)
@@ -323,7 +324,8 @@ def check(programs):
     for file in documents():
         lines = list(lines_of(file))
         checks = [wide_lines, missing_paths, dead_links, wrong_citations]
-        checks += {"README.md": [wrong_crates], "TRUST.md": [wrong_counts, wrong_sums, wrong_promises]}.get(file.name, [])
+        of_file = {"README.md": [wrong_crates], "TRUST.md": [wrong_counts, wrong_sums, wrong_promises]}
+        checks += of_file.get(file.name, [])
         found = [one for each in checks for one in each(lines)]
         if file.name == "FORMAT.md":
             ran = check_format(lines, programs, found)

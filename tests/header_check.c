@@ -27,16 +27,16 @@ static const uint8_t book[] = {
     6, 'r', 'e', 'a', 's', 'o', 'n',
     5, 't', 'o', 't', 'a', 'l',
     3, 0,
-    1, 3, 3, 0, 5,
-    1, 3, 3, 2, 4,
-    1, 3, 3, 0, 4,
+    1, 0, 3, 3, 0, 5,
+    1, 0, 3, 3, 2, 4,
+    1, 0, 3, 3, 0, 4,
 };
 
 static const char declaration[] = "<!ELEMENT entry (member,(contribution|leaver),(reason|total))>";
 
 static bool same(const curlewsong_model *a, const curlewsong_model *b) {
     return a->count == b->count && memcmp(a->factor, b->factor, CURLEWSONG_PLACES) == 0
-        && memcmp(a->mode, b->mode, CURLEWSONG_PLACES) == 0;
+        && memcmp(a->mode, b->mode, CURLEWSONG_PLACES) == 0 && a->text == b->text;
 }
 
 /* The names a, b and c; two blocks of c and two of a, by turns; none of b. */
@@ -44,10 +44,10 @@ static const uint8_t two_parents[] = {
     3, 0,
     1, 'a', 1, 'b', 1, 'c',
     4, 0,
-    2, 1, 0,
-    0, 2, 1, 1,
-    2, 2, 0, 1,
-    0, 0,
+    2, 0, 1, 0,
+    0, 0, 2, 1, 1,
+    2, 0, 2, 0, 1,
+    0, 0, 0,
 };
 
 static const char dtd[] = "<!ELEMENT a (b*)>\n<!ELEMENT c (a,b?)>\n";
@@ -140,11 +140,91 @@ static void check_within(void) {
     expect(!curlewsong_accepts_word(CURLEWSONG_PLACES, all, word, longest.length).yes, "and the second does not");
 }
 
+/* The names a, b and c: a with text and the children c and b in different blocks, b with text alone, c with neither. */
+static const uint8_t text_book[] = {
+    3, 0,
+    1, 'a', 1, 'b', 1, 'c',
+    4, 0,
+    0, 1, 1, 2,
+    0, 0, 1, 1,
+    1, 1, 0,
+    2, 0, 0,
+};
+
+/* The model of this parent of `text_book`, its declaration, and both written and read back. */
+static void check_text_model(size_t parent, curlewsong_model due, const char *text) {
+    const size_t length = strlen(text);
+    uint8_t buffer[CURLEWSONG_LONGEST_DECLARATION];
+    const curlewsong_model_answer found = curlewsong_model_of_parent(text_book, sizeof text_book, parent);
+    expect(found.refusal == 0 && same(&found.model, &due), text);
+    memset(buffer, 7, sizeof buffer);
+    curlewsong_written written =
+        curlewsong_write_declaration(text_book, sizeof text_book, parent, found.model, buffer, length);
+    expect(written.refusal == 0 && written.length == length && memcmp(buffer, text, length) == 0, text);
+    expect(buffer[length] == 7, text);
+    const curlewsong_read read = curlewsong_read_declaration(text_book, sizeof text_book, buffer, length);
+    expect(read.refusal == 0 && read.parent == parent && same(&read.model, &due), text);
+    memset(buffer, 7, sizeof buffer);
+    written = curlewsong_write_from_sample(text_book, sizeof text_book, parent, buffer, length);
+    expect(written.refusal == 0 && written.length == length && memcmp(buffer, text, length) == 0, text);
+}
+
+static void check_text_of_samples(void) {
+    curlewsong_model mixed = plain_names(0), text = mixed;
+    mixed.count = 1;
+    mixed.factor[1] = mixed.factor[2] = 0;
+    mixed.mode[0] = 3;
+    mixed.text = text.text = 1;
+    check_text_model(0, mixed, "<!ELEMENT a (#PCDATA|b|c)*>");
+    check_text_model(1, text, "<!ELEMENT b (#PCDATA)>");
+    check_text_model(2, plain_names(0), "<!ELEMENT c EMPTY>");
+
+    uint8_t bad_book[sizeof text_book];
+    memcpy(bad_book, text_book, sizeof bad_book);
+    bad_book[sizeof bad_book - 2] = 2;
+    const curlewsong_model_answer refused = curlewsong_model_of_parent(bad_book, sizeof bad_book, 0);
+    const curlewsong_model empty = plain_names(0);
+    expect(refused.refusal == 16 && same(&refused.model, &empty), "a text byte of 2 is refused");
+    expect(curlewsong_model_of_parent(bad_book, sizeof bad_book - 1, 0).refusal == 16, "before the child count");
+    expect(curlewsong_model_of_parent(bad_book, sizeof bad_book - 2, 0).refusal == 2, "a text byte is missing");
+}
+
+static void check_text_records(void) {
+    const uint8_t back[] = {1, 0, 1}, a[] = {0};
+    curlewsong_model mixed = plain_names(0), text = mixed;
+    mixed.count = 1;
+    mixed.factor[0] = mixed.factor[1] = 0;
+    mixed.mode[0] = 3;
+    mixed.text = text.text = 1;
+    expect(curlewsong_accepts_word(2, mixed, back, sizeof back).yes, "mixed content is any number of its names");
+    expect(curlewsong_accepts_word(2, text, back, 0).yes, "text alone accepts the empty word");
+    const curlewsong_verdict child = curlewsong_accepts_word(2, text, a, sizeof a);
+    expect(child.refusal == 0 && !child.yes, "and no other");
+    const curlewsong_inclusion yes = {0, true, 0}, ten = {10, false, 0};
+    check_inclusion(2, text, plain_names(0), 65, yes, "(#PCDATA) is within EMPTY: text is not looked at");
+
+    curlewsong_model bad[] = {mixed, mixed, plain_names(2), plain_names(0)};
+    bad[0].mode[0] = 2;
+    bad[1].text = 2;
+    bad[2].text = 1;
+    bad[3].text = 255;
+    for (size_t i = 0; i < sizeof bad / sizeof *bad; i++) {
+        uint8_t buffer[99];
+        const curlewsong_verdict verdict = curlewsong_accepts_word(2, bad[i], back, 0);
+        expect(verdict.refusal == 10 && !verdict.yes, "this text byte does not fit");
+        check_inclusion(2, bad[i], text, 0, ten, "also in the first of two records");
+        check_inclusion(2, text, bad[i], 0, ten, "and in the second");
+        memset(buffer, 7, sizeof buffer);
+        const curlewsong_written written =
+            curlewsong_write_declaration(text_book, sizeof text_book, 0, bad[i], buffer, sizeof buffer);
+        expect(written.refusal == 10 && written.length == 0 && all_seven(buffer, sizeof buffer), "nor is it written");
+    }
+}
+
 int main(void) {
     const size_t length = sizeof declaration - 1;
     uint8_t buffer[CURLEWSONG_LONGEST_DECLARATION];
-    curlewsong_model empty = {0};
-    memset(empty.factor, CURLEWSONG_NONE, CURLEWSONG_PLACES);
+    const curlewsong_model empty = plain_names(0);
 
     curlewsong_model_answer found = curlewsong_model_of_parent(book, sizeof book, 1);
     expect(found.refusal == 0, "entry has a model");
@@ -182,6 +262,8 @@ int main(void) {
 
     check_write_dtd();
     check_within();
+    check_text_of_samples();
+    check_text_records();
 
     if (failures == 0) {
         printf("header_check: every call of include/curlewsong.h answers as the papers have it\n");

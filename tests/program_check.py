@@ -4,7 +4,7 @@
 Usage: python3 tests/program_check.py target/bin/dtd
 
 Each case gives the program a standard input and compares its standard output, its standard error and its status with
-what is written down here from paper 01. Where a read fails, it must print nothing and say so on standard error.
+what is written down here from papers 01 and 02. Where a read fails, it must print nothing and say so on standard error.
 Each difference is printed; the status is 1 if there is one, else 0.
 """
 import contextlib
@@ -27,8 +27,8 @@ def count(n):
     return bytes([n % 256, n // 256])
 
 
-def block(parent, children):
-    return bytes([parent, len(children)]) + bytes(children)
+def block(parent, children, text=0):
+    return bytes([parent, text, len(children)]) + bytes(children)
 
 
 def book(names, blocks):
@@ -47,14 +47,21 @@ EXAMPLE_PRINTED = b"<!ELEMENT entry (member,(contribution|leaver),(reason|total)
 def book_of(size):
     """A book of so many bytes: blocks of a with 255 times b, and a last block of b that is filled with a."""
     names = [b"a", b"b"]
-    full, left = divmod(size - len(book(names, [])), 257)
-    whole = book(names, [block(0, [1] * 255)] * full + [block(1, [0] * (left - 2))])
+    full, left = divmod(size - len(book(names, [])), len(block(0, [1] * 255)))
+    whole = book(names, [block(0, [1] * 255)] * full + [block(1, [0] * (left - len(block(1, []))))])
     assert len(whole) == size
     return whole
 
 
 # As for the sample aa of paper 01: each model is one loop group of one name on a level that is not skipped.
 FULL_PRINTED = b"<!ELEMENT a (b+)>\n<!ELEMENT b (a+)>\n"
+
+# Paper 02, request U5: text and children, text alone, and no text, each also by a block that shows less.
+TEXTS = book(
+    [b"a", b"b", b"c"],
+    [block(0, [2]), block(1, [], 1), block(0, [1, 1], 1), block(1, []), block(2, []), block(0, [])],
+)
+TEXTS_PRINTED = b"<!ELEMENT a (#PCDATA|b|c)*>\n<!ELEMENT b (#PCDATA)>\n<!ELEMENT c EMPTY>\n"
 
 
 # ---- inputs: each is a context that gives the file descriptor to read from
@@ -149,6 +156,10 @@ def cases():
         ("a file of 1,000,000 bytes", file_of(full + bytes(1000000 - LONGEST)), b"refused 1\n", b""),
         ("1,000,000 bytes through a pipe", pipe_of(full + bytes(1000000 - LONGEST), 65536, 0), b"refused 1\n", b""),
         ("an input with no byte", file_of(b""), b"refused 2\n", b""),
+        ("a book with text", file_of(TEXTS), TEXTS_PRINTED, b""),
+        ("a text byte of 2", file_of(book([b"a"], [block(0, [], 2)])), b"refused 16\n", b""),
+        ("a text byte of 255 in the last block", file_of(TEXTS[:-2] + b"\xff\0"), b"refused 16\n", b""),
+        ("a text byte of 2 and nothing behind it", file_of(book([b"a"], [block(0, [], 2)])[:-1]), b"refused 16\n", b""),
         ("a book of 60,000 bytes in pieces of 1,000", pipe_of(full, 1000, 0.003), FULL_PRINTED, b""),
         ("a book that comes byte by byte", pipe_of(EXAMPLE, 1, 0.005), EXAMPLE_PRINTED, b""),
         ("a non-blocking pipe with a book in it and its end", non_blocking(EXAMPLE, ended=True), EXAMPLE_PRINTED, b""),

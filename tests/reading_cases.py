@@ -1,14 +1,21 @@
 #!/usr/bin/env python3
-"""The cases of the program test_reading: declarations read by the book of the names EMPTY, a, b, c and d, with what is due of each.
+"""The cases of the program test_reading: declarations read by the book of the names EMPTY, a, b, c and d, with what is
+due of each.
 
-The reader and the writer here are written from paper 01 and from request U1 of paper 02 alone. Without an argument the script writes
-crates/test_reading/stdin and stdout; with --check it says whether they are as written here. The program takes a text as a line. A line
-feed in a text is the byte 1F in its line, in both files, so no text here has a byte 1F of its own.
+The reader and the writer here are written from paper 01 and from requests U1 and U5 of paper 02 alone. Without an
+argument the script writes crates/test_reading/stdin and stdout; with --check it says whether they are as written here.
+The program takes a text as a line. A line feed in a text is the byte 1F in its line, in both files, so no text here has
+a byte 1F of its own. A line of output has the refusal's number, the parent's number, the count of factors and the text
+byte of the record; then, behind bars, the factor of each of the five names and the mode of each of the first five
+factors; and the text between `[` and `]`:
+
+  0 4 1 1 | 255 0 0 255 255 | 3 0 0 0 0 [<!ELEMENT d (#PCDATA|b|a)*>]
 """
 import pathlib
 import random
 import re
 import sys
+from collections import namedtuple
 
 FOLDER = pathlib.Path(__file__).resolve().parent.parent / "crates" / "test_reading"
 NAMES = [b"EMPTY", b"a", b"b", b"c", b"d"]
@@ -17,7 +24,10 @@ NONE = 255
 PLACES = 64
 FEED = b"\x1f"
 
-# The grammar of request U1. A name is the longest run of its bytes, so one of 33 bytes is no name.
+# What the reader answers: the refusal's number, the parent, and the count, text byte and rows of the record.
+Answer = namedtuple("Answer", "number parent count text factor mode")
+
+# The grammar of requests U1 and U5. A name is the longest run of its bytes, so one of 33 bytes is no name.
 WHITE = " \t\r\n"
 S = f"[{WHITE}]"
 NAME = r"[A-Za-z_][A-Za-z0-9._-]{0,31}(?![A-Za-z0-9._-])"
@@ -25,59 +35,70 @@ MARK = r"[?+*]?"
 GROUP = rf"\({S}*{NAME}(?:{S}*\|{S}*{NAME})*{S}*\)"
 FACTOR = rf"(?:{NAME}|{GROUP}){MARK}"
 FACTORS = rf"\({S}*{FACTOR}(?:{S}*,{S}*{FACTOR})*{S}*\)"
-CONTENT = rf"(?:EMPTY|(?P<group>{GROUP}{MARK})|(?P<factors>{FACTORS}))"
+MIXED = rf"\({S}*#PCDATA(?:{S}*\)\*?|(?:{S}*\|{S}*{NAME})+{S}*\)\*)"
+CONTENT = rf"(?:EMPTY|(?P<mixed>{MIXED})|(?P<group>{GROUP}{MARK})|(?P<factors>{FACTORS}))"
 TEXT = re.compile(rf"<!ELEMENT{S}+(?P<parent>{NAME}){S}+{CONTENT}{S}*>".encode())
 
 
 def factors_of(text):
-    """The parent, and each factor as names and mark, or None where the text has not the form."""
+    """The parent, the text byte, and each factor as names and mark, or None where the text has not the form."""
     form = TEXT.fullmatch(text)
     if form is None:
         return None
+    if form["mixed"]:
+        names = re.findall(NAME.encode(), form["mixed"].replace(b"#PCDATA", b""))
+        return form["parent"], 1, [(names, b"*")] if names else []
     if form["group"]:
         parts = [form["group"]]
     else:
         parts = form["factors"][1:-1].split(b",") if form["factors"] else []
     # no name has a byte of a mark, and a factor has no other mark than its own
-    return form["parent"], [(re.findall(NAME.encode(), part), b"".join(re.findall(rb"[?+*]", part))) for part in parts]
+    factors = [(re.findall(NAME.encode(), part), b"".join(re.findall(rb"[?+*]", part))) for part in parts]
+    return form["parent"], 0, factors
+
+
+def refused(number):
+    """A refusal, with parent 0 and the empty model."""
+    return Answer(number, 0, 0, 0, [NONE] * PLACES, [0] * PLACES)
 
 
 def read(text):
-    """The refusal's number, the parent, the count, the factor row and the mode row."""
-    factor, mode = [NONE] * PLACES, [0] * PLACES
     form = factors_of(text)
     if form is None:
-        return 13, 0, 0, factor, mode
-    parent, factors = form
+        return refused(13)
+    parent, has_text, factors = form
     names = [x for group, _ in factors for x in group]
     if any(x not in NAMES for x in [parent] + names):
-        return 14, 0, 0, factor, mode
+        return refused(14)
     if len(set(names)) < len(names):
-        return 15, 0, 0, factor, mode
+        return refused(15)
+    factor, mode = [NONE] * PLACES, [0] * PLACES
     for i, (group, mark) in enumerate(factors):
         for x in group:
             factor[NAMES.index(x)] = i
         mode[i] = MARKS.index(mark)
-    return 0, NAMES.index(parent), len(factors), factor, mode
+    return Answer(0, NAMES.index(parent), len(factors), has_text, factor, mode)
 
 
 def house(answer):
     """The house spelling of the parent and the record of an answer that is no refusal."""
-    _, parent, count, factor, mode = answer
-    factors = []
-    for i in range(count):
-        names = [NAMES[x] for x in range(len(NAMES)) if factor[x] == i]
-        factors.append((names[0] if len(names) == 1 else b"(" + b"|".join(names) + b")") + MARKS[mode[i]])
-    return b"<!ELEMENT " + NAMES[parent] + b" " + (b"(" + b",".join(factors) + b")" if count else b"EMPTY") + b">"
+    groups = [[NAMES[x] for x in range(len(NAMES)) if answer.factor[x] == i] for i in range(answer.count)]
+    if answer.text:
+        model = b"(" + b"|".join([b"#PCDATA"] + sum(groups, [])) + (b")*" if groups else b")")
+    else:
+        factors = [(names[0] if len(names) == 1 else b"(" + b"|".join(names) + b")") + MARKS[answer.mode[i]]
+                   for i, names in enumerate(groups)]
+        model = b"(" + b",".join(factors) + b")" if factors else b"EMPTY"
+    return b"<!ELEMENT " + NAMES[answer.parent] + b" " + model + b">"
 
 
 def line(text, answer):
-    number, parent, count, factor, mode = answer
-    rows = [" ".join(str(v) for v in row[:len(NAMES)]) for row in (factor, mode)]
-    return f"{number} {parent} {count} | {rows[0]} | {rows[1]} ".encode() + b"[" + text.replace(b"\n", FEED) + b"]\n"
+    rows = [" ".join(str(v) for v in row[:len(NAMES)]) for row in (answer.factor, answer.mode)]
+    head = f"{answer.number} {answer.parent} {answer.count} {answer.text} | {rows[0]} | {rows[1]} "
+    return head.encode() + b"[" + text.replace(b"\n", FEED) + b"]\n"
 
 
-# The forms of request U1, each text with its house spelling. tests/xmllint_check.py gives these to libxml2.
+# The forms of requests U1 and U5, each text with its house spelling. tests/xmllint_check.py gives these to libxml2.
 FORMS = [
     # one group of one or more names as the whole model
     (b"<!ELEMENT d (a)>", b"<!ELEMENT d (a)>"),
@@ -122,9 +143,22 @@ FORMS = [
     (b"<!ELEMENT\nd\n(\na?\n,\n(\nb\n|\nc\n)*\n)\n>", b"<!ELEMENT d (a?,(b|c)*)>"),
     (b"<!ELEMENT\r\nd\r\n(\r\na?\r\n,\r\n(\r\nb\r\n|\r\nc\r\n)*\r\n)\r\n>", b"<!ELEMENT d (a?,(b|c)*)>"),
     (b"<!ELEMENT d\t(a,\n\t\tb+)>", b"<!ELEMENT d (a,b+)>"),
+    # text alone
+    (b"<!ELEMENT d (#PCDATA)>", b"<!ELEMENT d (#PCDATA)>"),
+    (b"<!ELEMENT d (#PCDATA)*>", b"<!ELEMENT d (#PCDATA)>"),
+    (b"<!ELEMENT d ( #PCDATA )>", b"<!ELEMENT d (#PCDATA)>"),
+    (b"<!ELEMENT\td\n(\r#PCDATA\t)*\n>", b"<!ELEMENT d (#PCDATA)>"),
+    # text and names, in any order
+    (b"<!ELEMENT d (#PCDATA|a)*>", b"<!ELEMENT d (#PCDATA|a)*>"),
+    (b"<!ELEMENT d (#PCDATA|a|b)*>", b"<!ELEMENT d (#PCDATA|a|b)*>"),
+    (b"<!ELEMENT d (#PCDATA|b|a)*>", b"<!ELEMENT d (#PCDATA|a|b)*>"),
+    (b"<!ELEMENT d (#PCDATA|c|a|b)*>", b"<!ELEMENT d (#PCDATA|a|b|c)*>"),
+    (b"<!ELEMENT d ( #PCDATA | a )* >", b"<!ELEMENT d (#PCDATA|a)*>"),
+    (b"<!ELEMENT\nd\t(\r\n#PCDATA\n|\tc\r|\na\t)*\r\n>", b"<!ELEMENT d (#PCDATA|a|c)*>"),
 ]
 
-# Other texts that are read, each with its house spelling: each mode, the parent's own name, names of a group in any order, EMPTY as a name.
+# Other texts that are read, each with its house spelling: each mode, the parent's own name, names of a group in any
+# order, EMPTY as a name.
 READ = [
     (b"<!ELEMENT a EMPTY>", b"<!ELEMENT a EMPTY>"),
     (b"<!ELEMENT EMPTY EMPTY>", b"<!ELEMENT EMPTY EMPTY>"),
@@ -145,6 +179,10 @@ READ = [
     (b"<!ELEMENT a ((c|a)?,EMPTY+,(d|b))>", b"<!ELEMENT a ((a|c)?,EMPTY+,(b|d))>"),
     (b"<!ELEMENT   a   ( ( c | a )? , EMPTY+ , ( d | b ) ) >", b"<!ELEMENT a ((a|c)?,EMPTY+,(b|d))>"),
     (b"<!ELEMENT c (a,b?,(c|EMPTY)+,d*)>", b"<!ELEMENT c (a,b?,(EMPTY|c)+,d*)>"),
+    (b"<!ELEMENT EMPTY (#PCDATA)>", b"<!ELEMENT EMPTY (#PCDATA)>"),
+    (b"<!ELEMENT a (#PCDATA|a)*>", b"<!ELEMENT a (#PCDATA|a)*>"),
+    (b"<!ELEMENT a (#PCDATA|EMPTY)*>", b"<!ELEMENT a (#PCDATA|EMPTY)*>"),
+    (b"<!ELEMENT a (#PCDATA|d|EMPTY|a|c|b)*>", b"<!ELEMENT a (#PCDATA|EMPTY|a|b|c|d)*>"),
 ]
 
 NOT_THE_FORM = [
@@ -205,6 +243,84 @@ NOT_THE_FORM = [
     b"<!ELEMENT d (a)|(b)>",
     b"<!ELEMENT d (a)(b)>",
     b"<!ELEMENT d (a|b)*(c)>",
+    # text with another mark, or names without the star
+    b"<!ELEMENT d (#PCDATA)+>",
+    b"<!ELEMENT d (#PCDATA)?>",
+    b"<!ELEMENT d (#PCDATA)**>",
+    b"<!ELEMENT d (#PCDATA) *>",
+    b"<!ELEMENT d (#PCDATA)\n*>",
+    b"<!ELEMENT d (#PCDATA*)>",
+    b"<!ELEMENT d (#PCDATA|a)>",
+    b"<!ELEMENT d (#PCDATA|a|b)>",
+    b"<!ELEMENT d (#PCDATA|a)+>",
+    b"<!ELEMENT d (#PCDATA|a)?>",
+    b"<!ELEMENT d (#PCDATA|a)**>",
+    b"<!ELEMENT d (#PCDATA|a) *>",
+    b"<!ELEMENT d (#PCDATA|a*)>",
+    # text in another place than the first, in brackets of its own, or twice
+    b"<!ELEMENT d #PCDATA>",
+    b"<!ELEMENT d #PCDATA*>",
+    b"<!ELEMENT d (a|#PCDATA)*>",
+    b"<!ELEMENT d (a|#PCDATA|b)*>",
+    b"<!ELEMENT d (a,#PCDATA)>",
+    b"<!ELEMENT d (#PCDATA,a)>",
+    b"<!ELEMENT d (#PCDATA,a)*>",
+    b"<!ELEMENT d (#PCDATA|a,b)*>",
+    b"<!ELEMENT d (#PCDATA,(a|b)*)>",
+    b"<!ELEMENT d (#PCDATA a)*>",
+    b"<!ELEMENT d ((#PCDATA))>",
+    b"<!ELEMENT d ((#PCDATA)*)>",
+    b"<!ELEMENT d ((#PCDATA))*>",
+    b"<!ELEMENT d ((#PCDATA|a)*)>",
+    b"<!ELEMENT d ((#PCDATA)|a)*>",
+    b"<!ELEMENT d ((#PCDATA),a)>",
+    b"<!ELEMENT d (#PCDATA|(a))*>",
+    b"<!ELEMENT d (#PCDATA|(a|b))*>",
+    b"<!ELEMENT d (#PCDATA|a?)*>",
+    b"<!ELEMENT d (#PCDATA?|a)*>",
+    b"<!ELEMENT d (#PCDATA|#PCDATA)*>",
+    b"<!ELEMENT d (#PCDATA#PCDATA)>",
+    b"<!ELEMENT d (#PCDATA)(a)>",
+    b"<!ELEMENT d (#PCDATA)|a>",
+    b"<!ELEMENT #PCDATA EMPTY>",
+    b"<!ELEMENT #PCDATA (a)>",
+    # not the keyword
+    b"<!ELEMENT d (#PCDATAx)>",
+    b"<!ELEMENT d (#PCDATA-)>",
+    b"<!ELEMENT d (#PCDATAx|a)*>",
+    b"<!ELEMENT d (#PCDAT)>",
+    b"<!ELEMENT d (#pcdata)>",
+    b"<!ELEMENT d (#Pcdata|a)*>",
+    b"<!ELEMENT d (# PCDATA)>",
+    b"<!ELEMENT d (#\nPCDATA|a)*>",
+    b"<!ELEMENT d (#PC DATA)>",
+    b"<!ELEMENT d (##PCDATA)>",
+    b"<!ELEMENT d (a#PCDATA)>",
+    b"<!ELEMENT d (#)>",
+    b"<!ELEMENT d (#a)>",
+    b"<!ELEMENT d (#EMPTY)>",
+    b"<!ELEMENT d (%PCDATA)>",
+    # names and bars that are missing or bad behind #PCDATA
+    b"<!ELEMENT d (#PCDATA|)*>",
+    b"<!ELEMENT d (#PCDATA||a)*>",
+    b"<!ELEMENT d (|#PCDATA)*>",
+    b"<!ELEMENT d (#PCDATA|a|)*>",
+    b"<!ELEMENT d (#PCDATA|1)*>",
+    b"<!ELEMENT d (#PCDATA|a b)*>",
+    b"<!ELEMENT d (#PCDATA|" + 33 * b"x" + b")*>",
+    b"<!ELEMENT d(#PCDATA)>",
+    b"<!ELEMENT d (#PCDATA",
+    b"<!ELEMENT d (#PCDATA|",
+    b"<!ELEMENT d (#PCDATA)",
+    b"<!ELEMENT d (#PCDATA)*",
+    b"<!ELEMENT d (#PCDATA|a",
+    b"<!ELEMENT d (#PCDATA|a)*",
+    b"<!ELEMENT d (#PCDATA>",
+    b"<!ELEMENT d (#PCDATA*>",
+    b"<!ELEMENT d (#PCDATA|a*>",
+    b"<!ELEMENT d (#PCDATA))>",
+    b"<!ELEMENT d (#PCDATA)>\n",
+    b"<!ELEMENT d (#PCDATA|a)*>*",
     # brackets, bars and commas that lack a neighbour
     b"<!ELEMENT d ()>",
     b"<!ELEMENT d ( )>",
@@ -265,7 +381,7 @@ NOT_THE_FORM = [
     b"<!\tELEMENT d (a)?>",
     b"<\n!ELEMENT d (a)?>",
     b"<!ELEMENT d EMP\tTY>",
-    # no white space in XML 1.0: vertical tab, form feed, U+0085 and U+00A0 in UTF-8 and as one byte, U+2028 and U+3000
+    # no white space in XML 1.0: vertical tab, form feed, U+0085 and U+00A0 in UTF-8 and as one byte, U+2028, U+3000
     b"<!ELEMENT\x0bd (a)>",
     b"<!ELEMENT d (a\x0b)>",
     b"<!ELEMENT\x0cd (a)>",
@@ -284,6 +400,9 @@ NOT_THE_FORM = [
     b"<!ELEMENT e (e,e)+>",
     b"<!ELEMENT d (a|a) *>",
     b"<!ELEMENT d (a|a",
+    b"<!ELEMENT d (#PCDATA|e)>",
+    b"<!ELEMENT d (#PCDATA|a|a)>",
+    b"<!ELEMENT e (#PCDATA|a|a)+>",
 ]
 
 UNKNOWN = [
@@ -305,8 +424,20 @@ UNKNOWN = [
     b"<!ELEMENT d (a\n|\te)*>",
     b"<!ELEMENT d (" + 32 * b"x" + b")*>",
     b"<!ELEMENT d ((" + 32 * b"x" + b"),a)>",
+    # beside text; PCDATA alone is a name
+    b"<!ELEMENT e (#PCDATA)>",
+    b"<!ELEMENT e (#PCDATA|a)*>",
+    b"<!ELEMENT d (#PCDATA|e)*>",
+    b"<!ELEMENT d ( #PCDATA | a | e )*>",
+    b"<!ELEMENT d (#PCDATA|PCDATA)*>",
+    b"<!ELEMENT d (PCDATA)>",
+    b"<!ELEMENT PCDATA (#PCDATA)>",
+    b"<!ELEMENT d (#PCDATA|" + 32 * b"x" + b")*>",
     # before 15
     b"<!ELEMENT e (a,a)>",
+    b"<!ELEMENT e (#PCDATA|a|a)*>",
+    b"<!ELEMENT d (#PCDATA|a|a|e)*>",
+    b"<!ELEMENT d (#PCDATA|e|e)*>",
     b"<!ELEMENT e (a|a)>",
     b"<!ELEMENT a (b,b,e)>",
     b"<!ELEMENT a (e,b,b)>",
@@ -329,6 +460,12 @@ TWICE = [
     b"<!ELEMENT d (a|a)?>",
     b"<!ELEMENT d (a\n|\ta)>",
     b"<!ELEMENT d (a|b|a)*>",
+    # beside text
+    b"<!ELEMENT d (#PCDATA|a|a)*>",
+    b"<!ELEMENT d (#PCDATA|a|b|a)*>",
+    b"<!ELEMENT a ( #PCDATA | a\n| a )*>",
+    b"<!ELEMENT a (#PCDATA|a|b|c|d|EMPTY|EMPTY)*>",
+    b"<!ELEMENT a (#PCDATA|" + b"|".join([b"a"] * 300) + b")*>",
     # in two factors
     b"<!ELEMENT a (b,b)>",
     b"<!ELEMENT a ((b|c),d,(EMPTY|b)?)>",
@@ -349,14 +486,18 @@ TWICE = [
 ]
 
 # Into each of these, one byte of white space of each kind is put in each place.
-TIGHT = [b"<!ELEMENT a EMPTY>", b"<!ELEMENT a (b|c)+>", b"<!ELEMENT a ((b)?,(c|d)*,a+)>"]
+TIGHT = [b"<!ELEMENT a EMPTY>", b"<!ELEMENT a (b|c)+>", b"<!ELEMENT a ((b)?,(c|d)*,a+)>", b"<!ELEMENT a (#PCDATA)*>",
+         b"<!ELEMENT a (#PCDATA|c)*>"]
 
-# Each byte stands once where white space must stand, and once where it may stand. The byte 1F cannot be given.
-ANY_BYTE = [(b"<!ELEMENT", b"a (b)>"), (b"<!ELEMENT a (b", b"|c)*>")]
+# Each byte is once where white space must be, once where it may be, and at each end of #PCDATA. The byte 1F cannot be
+# given.
+ANY_BYTE = [(b"<!ELEMENT", b"a (b)>"), (b"<!ELEMENT a (b", b"|c)*>"), (b"<!ELEMENT a (", b"PCDATA)>"),
+            (b"<!ELEMENT a (#PCDATA", b"b)*>")]
 
 
 def some_white(chance, least=0):
-    return bytes(chance.choice(b"    \t\r\n") for _ in range(least + (chance.random() < 0.15) + (chance.random() < 0.05)))
+    size = least + (chance.random() < 0.15) + (chance.random() < 0.05)
+    return bytes(chance.choice(b"    \t\r\n") for _ in range(size))
 
 
 def some_group(chance, names):
@@ -364,8 +505,14 @@ def some_group(chance, names):
     return b"(" + gap() + b"".join((gap() + b"|" + gap() if i else b"") + x for i, x in enumerate(names)) + gap() + b")"
 
 
+def some_mixed(chance, names):
+    gap = lambda: some_white(chance)
+    inside = b"".join(gap() + b"|" + gap() + x for x in names)
+    return b"(" + gap() + b"#PCDATA" + inside + gap() + b")" + (b"*" if names else chance.choice([b"", b"*"]))
+
+
 def some_text(chance):
-    """A text that has the form, with names that the book has, now and then one that it has not, and now and then a name twice."""
+    """A text that has the form, with names of the book, now and then another name, and now and then a name twice."""
     pool = NAMES + ([b"e", b"ab"] if chance.random() < 0.2 else [])
     chance.shuffle(pool)
     used = pool[:chance.randint(1, len(pool))]
@@ -379,6 +526,8 @@ def some_text(chance):
         return head + b"EMPTY" + gap() + b">"
     if chance.random() < 0.2:
         return head + some_group(chance, used[:chance.choice([1, 2, 3, 6])]) + mark() + gap() + b">"
+    if chance.random() < 0.25:
+        return head + some_mixed(chance, used[:chance.choice([0, 1, 2, 3, 6])]) + gap() + b">"
     parts = []
     while used:
         take = min(len(used), chance.choice([1, 1, 2, 3]))
@@ -393,7 +542,7 @@ def damaged(chance, text):
     """The text with one byte removed, put in or replaced, mostly behind `<!ELEMENT`."""
     at = chance.randrange(0 if chance.random() < 0.15 else len(b"<!ELEMENT"), len(text))
     kind = chance.random()
-    put = bytes([chance.choice(b" \t\r\n(),|>?+*ab-1.\x0b\xa0")])
+    put = bytes([chance.choice(b" \t\r\n(),|>?+*#ab-1.\x0b\xa0")])
     if kind < 0.4:
         return text[:at] + text[at + 1:]
     if kind < 0.8:
@@ -435,7 +584,7 @@ def files():
     texts = cases()
     assert not any(FEED in t for t in texts)
     cut = b"<!ELEMENT a (b)>"
-    due = line(cut, (2, 0, 0, [NONE] * PLACES, [0] * PLACES)) + b"".join(line(t, read(t)) for t in texts)
+    due = line(cut, refused(2)) + b"".join(line(t, read(t)) for t in texts)
     return {"stdin": b"".join(t.replace(b"\n", FEED) + b"\n" for t in texts), "stdout": due}
 
 

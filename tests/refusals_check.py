@@ -109,13 +109,18 @@ def wrong_rows(root, place, refusals):
 
 
 def conditions(root):
-    """For each call the numbers that it gives, in the order of the fields of its record."""
-    def fields(record):
+    """For each call the numbers that it gives, in the order of the fields of its record.
+
+    Those of a book rise: a book is checked field by field, so that no list of numbers has the order of its checks.
+    """
+    def numbers(record):
+        found = []
         for _, text in part(root, CONDITIONS, f"pub record {record} ", ""):
             field = re.match(r"  pub \S+ : (?:\(k ≡ ([1-9]\d*)\) ↔|BookConditions )", text)
             if field:
-                yield from [int(field.group(1))] if field.group(1) else fields("BookConditions")
-    return {call: list(fields(record)) for call, record in CALLS.items()}
+                found += [int(field.group(1))] if field.group(1) else numbers("BookConditions")
+        return sorted(found) if record == "BookConditions" else found
+    return {call: numbers(record) for call, record in CALLS.items()}
 
 
 def unknown_records(root):
@@ -127,7 +132,7 @@ def unknown_records(root):
 
 
 def numbers_in(text):
-    """The numbers of a text such as `1 to 7, 8, 9`."""
+    """The numbers of a text such as `1 to 7, 16, 8, 9`."""
     found = re.findall(r"(\d+)(?: to (\d+))?", text)
     return [number for first, last in found for number in range(int(first), int(last or first) + 1)]
 

@@ -17,7 +17,11 @@ import tempfile
 
 import book_cases
 
-SAMPLES = pathlib.Path(__file__).resolve().parent.parent / "samples"
+ROOT = pathlib.Path(__file__).resolve().parent.parent
+sys.path.insert(0, str(ROOT / "tools"))
+import book as tool  # noqa: E402
+
+SAMPLES = ROOT / "samples"
 SEED = 20261116
 BY_CHANCE = 200
 PATIENCE = 60  # seconds after which a program that has not ended counts as hanging
@@ -48,22 +52,25 @@ def benchmark_books(bench):
 
 def word(chance, order):
     """A word over some names: any of them, or in their order with some left out and some repeated."""
-    if chance.random() < 0.3:
+    if order and chance.random() < 0.3:
         return [chance.choice(order) for _ in range(chance.randrange(6))]
     kept = [x for x in order if chance.random() < 0.7]
     return [x for x in kept for _ in range(chance.choice([1, 1, 1, 2]))]
 
 
 def chance_book(chance):
-    """Several parents, each with words over names of its own; the blocks in any order."""
+    """Several parents, each with words over names of its own, some with text; the blocks in any order."""
     n = chance.choice([1, 2, 3, 5, 8, 20, 64])
     names = sorted({bytes(chance.choices(b"abXYZ_", k=3)) + b"%d" % i for i in range(n)})
     blocks = []
     for parent in chance.sample(range(n), chance.randint(0, min(n, 12))):
-        order = chance.sample(range(n), chance.randint(1, min(n, 10)))
-        blocks += [book_cases.block(parent, word(chance, order)) for _ in range(chance.randint(1, 6))]
+        order = chance.sample(range(n), chance.randint(0, min(n, 10)))
+        often = chance.choice([0, 0, 0.5, 1])
+        for _ in range(chance.randint(1, 6)):
+            children = tuple(names[x] for x in word(chance, order))
+            blocks.append((names[parent], int(chance.random() < often), children))
     chance.shuffle(blocks)
-    return book_cases.book([book_cases.name(text) for text in names], blocks)
+    return tool.book_of(blocks, names)
 
 
 def chance_books():
@@ -72,7 +79,7 @@ def chance_books():
         book = bytearray(chance_book(chance))
         yield f"book {i} by chance", bytes(book)
         at = chance.randrange(len(book))
-        book[at] = chance.choice([0, 1, book[at] + 1 & 255, 64, 255])
+        book[at] = chance.choice([0, 1, 2, book[at] + 1 & 255, 64, 255])
         yield f"book {i} by chance, with byte {at} changed", bytes(book)
 
 

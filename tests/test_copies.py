@@ -22,10 +22,11 @@ def named(name):
 
 
 DECLARED = listed(
-    f'(pair "Model" (fields {listed("(tyInt 64)", ROW, letter="t")}))',
+    f'(pair "Chain" (fields {listed("(tyInt 64)", ROW, letter="t")}))',
+    f'(pair "Model" (fields {listed(named("Chain"), BYTE, letter="t")}))',
     f'(pair "State" (fields {listed("(tyInt 64)", "tyBool", letter="t")}))',
     f'(pair "Moved" (variants {listed(listed(named("State"), letter="t"), "tnil", letter="tt")}))',
-    f'(pair "Held" (variants {listed("tnil", listed(BYTE, named("Model"), letter="t"), letter="tt")}))')
+    f'(pair "Held" (variants {listed("tnil", listed(BYTE, named("Chain"), letter="t"), letter="tt")}))')
 
 
 def place(local, *projections):
@@ -69,7 +70,8 @@ class Copies(unittest.TestCase):
         self.assertEqual(checker.findings(program(), {"call": ["step"]}), ([], 1, 2))
 
     def test_a_parameter_a_result_a_local(self):
-        for kind, name in [(ROW, "[u8; 64]"), (named("Model"), "Model"), (named("Held"), "Held")]:
+        for kind, name in [(ROW, "[u8; 64]"), (named("Chain"), "Chain"), (named("Model"), "Model"),
+                           (named("Held"), "Held")]:
             for parameters, kinds, said in [(1, (BYTE, kind), f"step takes {name} by value"),
                                             (0, (kind, BYTE), f"step returns {name} by value"),
                                             (0, (BYTE, kind), f"step has a local of type {name}")]:
@@ -77,8 +79,8 @@ class Copies(unittest.TestCase):
                 self.assertEqual(self.found(step=step), [f"{said} {ROUTE}"])
 
     def test_a_function_that_a_step_calls(self):
-        deep = function("deep", "return", BYTE, named("Model"), parameters=1)
-        self.assertEqual(self.found(deep=deep), ["deep takes Model by value (call > run > step > deep)"])
+        deep = function("deep", "return", BYTE, named("Chain"), parameters=1)
+        self.assertEqual(self.found(deep=deep), ["deep takes Chain by value (call > run > step > deep)"])
 
     def test_a_function_that_calls_itself(self):
         for run, deep in [(call("run"), "return"), (call("deep"), call("run"))]:
@@ -90,14 +92,14 @@ class Copies(unittest.TestCase):
         copy = f"(assign {place(1)} (rvOpd (copy {place(0)})))"
         into_field = f"(assign {place(1, '(field 1)')} (rvOpd (copy {place(0)})))"
         into_variant = f"(assign {place(1, '(variant 1)', '(field 2)')} (rvOpd (copy {place(0)})))"
-        for kind, body, name in [(ROW, copy, "[u8; 64]"), (named("Model"), into_field, "[u8; 64]"),
-                                 (named("Held"), into_variant, "Model"), (named("Model"), call("step", 1), "Model")]:
+        for kind, body, name in [(ROW, copy, "[u8; 64]"), (named("Chain"), into_field, "[u8; 64]"),
+                                 (named("Held"), into_variant, "Chain"), (named("Chain"), call("step", 1), "Chain")]:
             run = function("run", f"(seq {loop(call('step'))} {loop(body)})", "tyBool", kind)
             self.assertEqual(self.found(run=run), [f"a loop of run makes a value of type {name} (call > run)"])
 
     def test_a_value_made_behind_a_reference(self):
         for kind, projections, name in [(LENT, (f"(deref {ROW})",), "[u8; 64]"),
-                                        (named("Model"), (f"(deref {named('Model')})", "(field 1)"), "[u8; 64]")]:
+                                        (named("Chain"), (f"(deref {named('Chain')})", "(field 1)"), "[u8; 64]")]:
             body = f"(assign {place(1, *projections)} (repeat (int 8 0) 64))"
             lent = f"(tyRef erased mut {kind})"
             deep = function("deep", body, "tyBool", lent, parameters=1)
@@ -119,7 +121,7 @@ class Copies(unittest.TestCase):
     def test_a_part_without_an_array(self):
         for projections in [("(field 0)",), (f"(deref {BYTE})",)]:
             body = f"(assign {place(1, *projections)} (rvOpd (int 8 0)))"
-            run = function("run", f"(seq {loop(call('step'))} {loop(body)})", "tyBool", named("Model"))
+            run = function("run", f"(seq {loop(call('step'))} {loop(body)})", "tyBool", named("Chain"))
             self.assertEqual(self.found(run=run), [])
         body = f"(assign {place(1, '(variant 1)', '(field 0)')} (rvOpd (int 8 0)))"
         run = function("run", f"(seq {loop(call('step'))} {loop(body)})", "tyBool", named("Held"))

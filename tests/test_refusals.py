@@ -1,6 +1,7 @@
 #!/usr/bin/env python3
 """Tests of refusals_check.py: it finds a difference of each kind, and says where it is and what should be there."""
 import pathlib
+import re
 import shutil
 import tempfile
 import unittest
@@ -35,13 +36,18 @@ class Refusals(unittest.TestCase):
             shutil.copy(checker.ROOT / file, self.root / file)
 
     def planted(self, file, old, new):
-        """The findings where one text of a file is another, and the number of its line; then it is put back."""
+        """The findings where one text of a file is another, and the number of its line; then it is put back.
+
+        A space of the old text may be the end of a line in a comment of C.
+        """
         text = (self.root / file).read_text()
-        self.assertEqual(text.count(old), 1, f"{old} in {file}")
-        (self.root / file).write_text(text.replace(old, new))
+        places = [m.span() for m in re.finditer(re.escape(old).replace(r"\ ", r"(?: |\n \* )"), text)]
+        self.assertEqual(len(places), 1, f"{old} in {file}")
+        (start, end), = places
+        (self.root / file).write_text(text[:start] + new + text[end:])
         found = checker.findings(self.root)
         (self.root / file).write_text(text)
-        return found, text[:text.index(old)].count("\n") + 1
+        return found, text[:start].count("\n") + 1
 
     def test_nothing_to_find(self):
         self.assertEqual(checker.findings(self.root), [])
@@ -68,20 +74,20 @@ class Refusals(unittest.TestCase):
         self.assertIn('a row is missing in the table\n    should be: 3: "the count', found[1])
 
     def test_a_row_that_is_missing_or_added(self):
-        found, _ = self.planted(checker.TABLE, "numberOf NameTwice = 15\n", "")
-        self.assertIn("a row is missing in the table\n    should be: numberOf NameTwice = 15", found[0])
+        found, _ = self.planted(checker.TABLE, "numberOf BadText = 16\n", "")
+        self.assertIn("a row is missing in the table\n    should be: numberOf BadText = 16", found[0])
         found, line = self.planted("tools/book.py", "    1: ", '    8: "new",\n    1: ')
         self.assertIn(f'tools/book.py:{line}: 8: "new",\n    should be: no such row', found[0])
 
     def test_a_new_refusal(self):
         """One line in each place is asked for."""
-        found, _ = self.planted(checker.LIST, "    NameTwice,\n", "    NameTwice,\n    // 16: it is late.\n    Late,\n")
+        found, _ = self.planted(checker.LIST, "    BadText,\n", "    BadText,\n    // 17: it is late.\n    Late,\n")
         self.assertEqual([one.split("should be: ")[1] for one in found], [
-            "Refusal::Late => 16,", "numberOf Late = 16", "*   16  it is late", '16 => "it is late",',
-            "| 16 | `Late` | it is late |", "| 16 | it is late |"])
+            "Refusal::Late => 17,", "numberOf Late = 17", "*   17  it is late", '17 => "it is late",',
+            "| 17 | `Late` | it is late |", "| 17 | it is late |"])
 
     def test_a_list_out_of_form(self):
-        for old, new in (("// 3: ", "// 4: "), ("// 3: ", "// "), ("    BadName,\n", ""), ("    NameTwice,\n", "")):
+        for old, new in (("// 3: ", "// 4: "), ("// 3: ", "// "), ("    BadName,\n", ""), ("    BadText,\n", "")):
             said = rf"{checker.LIST}:\d+: .*\n    should be: // \d+: text"
             with self.subTest(new=new), self.assertRaisesRegex(SystemExit, said):
                 self.planted(checker.LIST, old, new)
@@ -104,6 +110,13 @@ class Refusals(unittest.TestCase):
         (found,), _ = self.planted(checker.HEADER, "Refusals, in this order: 3, 10, 11.", "")
         self.assertIn("the numbers of accepts_word are missing", found)
 
+    def test_a_number_of_a_book_that_is_left_out(self):
+        """Each call that takes a book gives 16, and so does the program."""
+        (found,), _ = self.planted("docs/REFUSALS.md", "`write_dtd` | 1 to 7, 16, 12 |", "`write_dtd` | 1 to 7, 12 |")
+        self.assertIn("write_dtd: 1 to 7, 12\n    should be: 1, 2, 3, 4, 5, 6, 7, 16, 12", found)
+        (found,), _ = self.planted("tools/book.py", '    16: "a text byte in the book is above 1",\n', "")
+        self.assertIn('a row is missing in the table\n    should be: 16: "a text byte in the book is above 1",', found)
+
     def test_other_calls_of_a_number(self):
         calls = "| `model_of_parent`, `write_from_sample` |"
         (found,), line = self.planted("docs/FORMAT.md", calls, "| `model_of_parent` |")
@@ -118,7 +131,8 @@ class Refusals(unittest.TestCase):
     def test_a_new_condition_of_a_book(self):
         """Its text is asked for in the tool, too."""
         field = "  pub seven : (k ≡ 7)"
-        found, _ = self.planted(checker.CONDITIONS, field, f"  pub eight : (k ≡ 8) ↔ Stops bytes BadParent\n{field}")
+        planted = f"  pub eight : (k ≡ 8) ↔ Stops bytes BadParent\n{field}"
+        found, _ = self.planted(checker.CONDITIONS, field, planted)
         self.assertIn('should be: 8: "the parent asked for', found[0])
         self.assertTrue(found[0].startswith("tools/book.py:"))
 

@@ -9,22 +9,33 @@
 A file that begins with '<' is an XML document; any other file holds lines:
 
   entry: member contribution total    a block: a parent and its children in order
-  total:                              a block without children
-  + note                              names that the book holds though no block does
-  # text                              a comment; empty lines count for nothing
+  note: #PCDATA em ref                a block with text: #PCDATA comes first behind the colon
+  total: #PCDATA                      a block with text and without children
+  batch-end:                          a block without text and children
+  + memo                              names that the book holds though no block does
+  # words                             a comment; empty lines count for nothing
 
-A line ends in LF, CR LF or CR.
+A line that begins with the word #PCDATA is no comment, and is refused. A line ends in LF, CR LF or CR.
 
-Of an XML document each element is a block: its name, and the names of its child elements in order. Attributes, text, comments,
-processing instructions and the document type declaration have no place in a book and are left out; `make` says so where a DTD
-made from the book then does not allow them. Names stand as they are spelled in the document, so a name with a namespace prefix
-breaks the rule for names. Blocks stand in the order of their opening tags, one for each element; --distinct keeps equal blocks
-once, which changes no model.
+Of an XML document each element is a block: its name, whether it has text, and the names of its child elements in order.
+It has text where character data other than white space is directly in it. White space is text only where no block of
+that name has a child, in all the files: a DTD says EMPTY of an element without text and children, and EMPTY allows not
+even a space, but white space around children is always allowed. A CDATA section, though it be empty, and white space
+that is written as a character reference, such as &#32;, are text too: they are allowed only where text is. An entity
+counts as its replacement text does in its place, in which a character reference is left only if it was declared as
+&#38;#32;. So white space that comes through another entity is white space.
+
+Attributes, comments, processing instructions and the document type declaration have no place in a book and are left
+out. `make` says so where a DTD made from the book then does not allow them. It also says where text is in fewer than
+half of the blocks of a name with children, since it may be a slip. Names are taken as they are spelled in the
+document, so a name with a namespace prefix breaks the rule for names. Blocks come in the order of their opening tags,
+one for each element; --distinct keeps equal blocks once, which changes no model.
 
 Exit status: 0, or 1 where a file or a book is bad; the reason is then on standard error and no book is written.
 """
 import argparse
 import collections
+import re
 import sys
 import xml.parsers.expat
 
@@ -47,7 +58,11 @@ REASONS = {
     5: "a name in the book is not above the name before it",
     6: "a parent or child number in the book is not below the count of names",
     7: "the book has bytes left over after its last block",
+    16: "a text byte in the book is above 1",
 }
+
+# The word that says in a line, as in a declaration, that there is text.
+PCDATA = b"#PCDATA"
 
 
 class Bad(Exception):
@@ -55,10 +70,11 @@ class Bad(Exception):
 
 
 class Refused(Exception):
-    """A refused book: paper 01's number, and the place in the book with what stands there."""
+    """A refused book: its number, and the place in the book with what is there."""
 
     def __init__(self, number, place, detail):
-        super().__init__(f"refused {number}: {REASONS[number]} ({detail}, byte {place})")
+        again = "; a book from before there were text bytes has to be made again" if number == 16 else ""
+        super().__init__(f"refused {number}: {REASONS[number]} ({detail}, byte {place}){again}")
         self.number = number
 
 
@@ -91,28 +107,48 @@ def name_fault(name):
     return None
 
 
-def checked(name, where):
+def checked(name, where, advice=""):
     fault = name_fault(name)
     if fault:
-        raise Bad(f"{where}: the name {shown(name)} {fault}")
+        raise Bad(f"{where}: the name {shown(name)} {fault}{advice}")
     return name
 
 
-# A book is made of blocks, each (where, parent, children), and of names that no block may hold
+# What a file gives are blocks (parent, content, children). Content is the greatest of these that is in the element:
+# comments or processing instructions; references to entities; white space as it is; CDATA sections, and white space
+# written as character references; text. A book is made of blocks (parent, text, children), and of names that no block
+# may have.
+NOTHING, REMARK, REFERENCE, BLANK, MARKED, TEXT = range(6)
 
 
-def checked_block(where, parent, children):
+def checked_block(where, parent, content, children):
     if len(children) > CHILDREN:
         raise Bad(f"{where}: {shown(parent)} has {len(children)} children; a block has at most {CHILDREN}")
-    return parent, tuple(children)
+    return parent, content, tuple(children)
+
+
+def with_children(blocks):
+    """The names of the elements that have a child in some block."""
+    return {parent for parent, _, children in blocks if children}
+
+
+def with_text(blocks, holders):
+    """The blocks with a text byte in place of their content; `holders` are the names of elements with children."""
+    def text(parent, content):
+        return int(content > BLANK or content > REMARK and parent not in holders)
+    return [(parent, text(parent, content), children) for parent, content, children in blocks]
+
+
+def size_of(blocks):
+    return sum(3 + len(children) for _, _, children in blocks)
 
 
 def book_of(blocks, more_names=(), distinct=False):
-    """The bytes of the book with these blocks, each a parent and its children."""
+    """The bytes of the book with these blocks, each a parent, a text byte and children."""
     if distinct:
         blocks = list(dict.fromkeys(blocks))
     names = set(more_names)
-    for parent, children in blocks:
+    for parent, _, children in blocks:
         names.add(parent)
         names.update(children)
     names = sorted(names)
@@ -125,56 +161,79 @@ def book_of(blocks, more_names=(), distinct=False):
     out = bytearray(len(names).to_bytes(2, "little"))
     for name in names:
         out += bytes([len(name)]) + name
-    size = len(out) + 2 + sum(2 + len(children) for _, children in blocks)
-    if size > BOOK_BYTES:
-        raise Bad(f"the book would have {size:,} bytes, and at most {BOOK_BYTES:,} fit" + ("" if distinct else
-                  f"; with --distinct, which keeps equal blocks once, it would have {distinct_size(len(out), blocks):,}"))
+    head = len(out) + 2
+    if head + size_of(blocks) > BOOK_BYTES:
+        raise Bad(f"the book would have {head + size_of(blocks):,} bytes, and at most {BOOK_BYTES:,} fit"
+                  + ("" if distinct else "; with --distinct, which keeps equal blocks once, it would have "
+                     f"{head + size_of(set(blocks)):,}"))
     out += len(blocks).to_bytes(2, "little")
-    for parent, children in blocks:
-        out += bytes([number[parent], len(children)])
+    for parent, text, children in blocks:
+        out += bytes([number[parent], text, len(children)])
         out += bytes(number[child] for child in children)
     return bytes(out)
-
-
-def distinct_size(head, blocks):
-    return head + 2 + sum(2 + len(children) for _, children in set(blocks))
 
 
 # Lines
 
 
+WITH_TEXT = "a block with text is written as 'note: #PCDATA em ref'"
+
+
+def advice_on(word):
+    """What to say of a word that is no name, where it looks like text or like a comment."""
+    if PCDATA in word.upper():
+        return f"; {WITH_TEXT}"
+    return "; a comment has a line of its own" if b"#" in word else ""
+
+
+def checked_names(words, where):
+    """The names in a part of a line that has no place for #PCDATA."""
+    if PCDATA in words:
+        raise Bad(f"{where}: #PCDATA is not in its place; {WITH_TEXT}, with #PCDATA once, right behind ':'")
+    return [checked(word, where, advice_on(word)) for word in words]
+
+
+def block_of_line(line, where):
+    parent, colon, behind = line.partition(b":")
+    if not colon:
+        raise Bad(f"{where}: no ':' behind the parent; a block is written as 'entry: member contribution total'; "
+                  + WITH_TEXT)
+    parent, children = parent.strip(), behind.split()
+    if not parent:
+        raise Bad(f"{where}: no parent before ':'")
+    checked_names(parent.split(), where)
+    text = children[:1] == [PCDATA]
+    children = checked_names(children[text:], where)
+    return checked_block(where, checked(parent, where), TEXT if text else NOTHING, children)
+
+
 def blocks_of_lines(data, file):
-    """The blocks and the further names of a file of lines."""
-    blocks, more = [], []
+    """The blocks of a file of lines, the place of each, and the further names."""
+    blocks, places, more = [], [], []
     if data[:2] in UTF_16 or b"\0" in data:
         raise Bad(f"{file}: neither an XML document nor lines of text in UTF-8: it is UTF-16 or no text")
     for at, line in enumerate(data.splitlines(), 1):
         where = f"{file}, line {at}"
         line = line.strip()
-        if not line or line.startswith(b"#"):
+        # A line that begins with the word #PCDATA is no comment, but a block that was written wrongly.
+        if not line or line.startswith(b"#") and not re.match(rb"#PCDATA(?![^\s:])", line):
             continue
         if line.startswith(b"+"):
-            more += [checked(name, where) for name in line[1:].split()]
-            continue
-        parent, colon, children = line.partition(b":")
-        if not colon:
-            raise Bad(f"{where}: no ':' behind the parent; a block is written as 'entry: member contribution total'")
-        parent = parent.strip()
-        if not parent:
-            raise Bad(f"{where}: no parent before ':'")
-        children = [checked(name, where) for name in children.split()]
-        blocks.append(checked_block(where, checked(parent, where), children))
-    return blocks, more
+            more += checked_names(line[1:].split(), where)
+        else:
+            blocks.append(block_of_line(line, where))
+            places.append(where)
+    return blocks, places, more
 
 
 def lines_of(names, blocks):
     """A book as lines: its blocks in order, then the names that none of them holds."""
     out = []
     used = set()
-    for parent, children in blocks:
+    for parent, text, children in blocks:
         used.add(parent)
         used.update(children)
-        out.append(b" ".join([names[parent] + b":"] + [names[child] for child in children]))
+        out.append(b" ".join([names[parent] + b":"] + [PCDATA] * text + [names[child] for child in children]))
     left = [name for number, name in enumerate(names) if number not in used]
     if left:
         out.append(b" ".join([b"+"] + left))
@@ -183,103 +242,154 @@ def lines_of(names, blocks):
 
 # XML documents
 
-# What elements have beside child elements. Of the first three an element counts once, for the greatest that stands in it.
-BLANK, CDATA, TEXT, ATTRIBUTES = range(4)
-LEFT_OUT = {
-    TEXT: ("text", "a book has no place for text, and a DTD made from this one allows none"),
-    CDATA: ("CDATA sections", "a book has no place for them, and a DTD made from this one allows none, also where they hold no text"),
-    BLANK: ("white space, comments or processing instructions", "a DTD made from this book says EMPTY, which allows none of them"),
-    ATTRIBUTES: ("attributes", "a book has no place for attributes, and a DTD made from this one declares none"),
-}
-
 
 class Document:
     """Walks one document; `blocks` then has a block for each element, in the order of opening tags."""
 
     def __init__(self, file):
         self.file = file
+        self.entities = {}  # the replacement text of each entity that is declared; None if it is in another file
+        self.reading = []  # the names of the entities that are being read
+        self.inner = None  # the parser of the document, or of the innermost of these entities
+        self.data = b""  # what `inner` reads
         self.blocks = []
         self.open = []  # the places in `blocks` of the elements that are open
-        self.lines = []  # the line of each block's opening tag
-        self.content = {}  # the greatest of BLANK, CDATA and TEXT that stands in the block at a place, where one does
+        self.tags = []  # the line of each block's opening tag
         self.attributes = []  # the names of the elements that have attributes
+        self.standalone = False  # whether the document says standalone="yes"
         parser = xml.parsers.expat.ParserCreate()
+        parser.XmlDeclHandler = self.declaration
+        parser.EntityDeclHandler = self.entity
         parser.StartElementHandler = self.start
         parser.EndElementHandler = self.end
         parser.CharacterDataHandler = self.characters
-        parser.StartCdataSectionHandler = lambda: self.holds(CDATA)
-        parser.CommentHandler = lambda _text: self.holds(BLANK)
-        parser.ProcessingInstructionHandler = lambda _target, _text: self.holds(BLANK)
+        parser.StartCdataSectionHandler = lambda: self.holds(MARKED)
+        parser.CommentHandler = lambda _text: self.holds(REMARK)
+        parser.ProcessingInstructionHandler = lambda _target, _text: self.holds(REMARK)
         parser.ExternalEntityRefHandler = self.external
-        parser.SkippedEntityHandler = self.skipped
+        # With a default handler the parser skips entities, and `reference` reads them.
+        parser.DefaultHandler = lambda _data: None
+        parser.SkippedEntityHandler = self.reference
         self.parser = parser
 
     def where(self, line=None):
         return f"{self.file}, line {self.parser.CurrentLineNumber if line is None else line}"
 
+    def declaration(self, _version, _encoding, standalone):
+        self.standalone = standalone == 1
+
+    def entity(self, name, is_parameter, text, *_elsewhere):
+        if not is_parameter:
+            self.entities[name] = text
+
     def start(self, name, attributes):
         name = checked(name.encode(), self.where())
         if self.open:
-            self.blocks[self.open[-1]][1].append(name)
+            self.blocks[self.open[-1]][2].append(name)
         if attributes:
             self.attributes.append(name)
         self.open.append(len(self.blocks))
-        self.blocks.append((name, []))
-        self.lines.append(self.parser.CurrentLineNumber)
+        self.blocks.append((name, NOTHING, []))
+        self.tags.append(self.parser.CurrentLineNumber)
 
     def end(self, _name):
         place = self.open.pop()
-        parent, children = self.blocks[place]
-        self.blocks[place] = checked_block(self.where(self.lines[place]), parent, children)
+        self.blocks[place] = checked_block(self.where(self.tags[place]), *self.blocks[place])
 
-    def holds(self, kind):
+    def holds(self, content):
         if self.open:
-            place = self.open[-1]
-            self.content[place] = max(kind, self.content.get(place, kind))
+            parent, before, children = self.blocks[self.open[-1]]
+            self.blocks[self.open[-1]] = parent, max(before, content), children
 
     def characters(self, data):
-        self.holds(TEXT if data.strip(" \t\r\n") else BLANK)
+        offset = self.inner.CurrentByteIndex
+        referred = self.data[offset:offset + 2].strip(b"\0").startswith(b"&")
+        self.holds(TEXT if data.strip(" \t\r\n") else MARKED if referred else BLANK)
 
     def external(self, _context, _base, system, _public):
-        raise Bad(f"{self.where()}: a reference to an entity in another file ({system}); put its text in its place first")
+        raise Bad(f"{self.where()}: a reference to an entity in another file ({system}); "
+                  "put its text in its place first")
 
-    def skipped(self, name, is_parameter):
-        if not is_parameter:
+    def reference(self, name, _is_parameter):
+        """Reads the entity as if it were in a file of its own, so that character references in it can be told."""
+        if name not in self.entities:
             raise Bad(f"{self.where()}: a reference to the entity '{name}', of which no declaration was read; "
                       "it may stand in another file, or behind a reference to one")
+        if name in self.reading:
+            raise Bad(f"{self.where()}: not a well-formed XML document: the entity '{name}' holds itself")
+        self.holds(REFERENCE)
+        outer = self.inner, self.data
+        parser = self.inner.ExternalEntityParserCreate("")
+        parser.XmlDeclHandler = None
+        self.reading.append(name)
+        self.parse(parser, b"<?xml encoding='utf-8'?>" + self.entities[name].encode())
+        self.reading.pop()
+        self.inner, self.data = outer
+
+    def parse(self, parser, data):
+        self.inner, self.data = parser, data
+        try:
+            parser.Parse(data, True)
+        except xml.parsers.expat.ExpatError as e:
+            raise Bad(f"{self.where()}: not a well-formed XML document: {xml.parsers.expat.ErrorString(e.code)}")
+        except (LookupError, ValueError, RecursionError) as e:
+            raise Bad(f"{self.where()}: not a readable XML document: {e}")
 
     def read(self, data):
-        try:
-            self.parser.Parse(data, True)
-        except xml.parsers.expat.ExpatError as e:
-            raise Bad(f"{self.file}, line {e.lineno}: not a well-formed XML document: {xml.parsers.expat.ErrorString(e.code)}")
-        except (LookupError, ValueError) as e:
-            raise Bad(f"{self.where()}: not a readable XML document: {e}")
+        self.parse(self.parser, data)
         return self
 
 
-def note_left_out(documents, blocks, say):
-    """What the book of these blocks leaves out, where a DTD made from it does not allow it."""
-    with_children = {parent for parent, children in blocks if children}
-    found = {kind: collections.Counter() for kind in LEFT_OUT}
-    for document in documents:
-        found[ATTRIBUTES].update(document.attributes)
-        for place, kind in document.content.items():
-            name = document.blocks[place][0]
-            # Around children, and in their place where they may be missing, white space and comments are allowed.
-            if kind != BLANK or name not in with_children:
-                found[kind][name] += 1
-    for kind, (what, effect) in LEFT_OUT.items():
-        if found[kind]:
-            held = ", ".join(f"{name.decode()} ({n})" for name, n in sorted(found[kind].items()))
-            say(f"note: {what} left out of {held}: {effect}")
+def notes_of(documents, blocks):
+    """What `make` says where a DTD made from these blocks does not allow a document, or only because it allows text."""
+    holders = with_children(blocks)
+    greatest = {}
+    for parent, content, _ in blocks:
+        greatest[parent] = max(content, greatest.get(parent, NOTHING))
+
+    def having(kind, children, some):
+        """The parents of blocks with this content, where no block of that name has more."""
+        return [p for p, content, _ in some if content == greatest[p] == kind and (p in holders) == children]
+    alone = [block for document in documents if document.standalone for block in document.blocks]
+    for what, parents, effect in (
+        ("CDATA sections, or white space written as character references, taken for text in",
+         having(MARKED, True, blocks),
+         "they are allowed only where text is, so a DTD made from this book allows text there; "
+         "write white space as it is, or nothing, if it should not"),
+        ("comments or processing instructions left out of", having(REMARK, False, blocks),
+         "a DTD made from this book says EMPTY, which allows none of them; remove them"),
+        ('white space around children in a document with standalone="yes" in', having(BLANK, True, alone),
+         "a DTD in another file does not allow it there; drop standalone"),
+        ("attributes left out of", [name for document in documents for name in document.attributes],
+         "a book has no place for attributes, and a DTD made from this one declares none; "
+         "strip them first where a file has to be valid"),
+    ):
+        held = ", ".join(f"{name.decode()} ({n})" for name, n in sorted(collections.Counter(parents).items()))
+        if held:
+            yield f"note: {what} {held}: {effect}"
+
+
+def slips_of(blocks, places):
+    """What `make` says where a few blocks with text, at these places, make a model with names a mixed one."""
+    holders = with_children(blocks)
+    count = collections.Counter(parent for parent, _, _ in blocks)
+    texts = {}
+    for (parent, content, _), place in zip(blocks, places):
+        if content > BLANK and parent in holders:
+            texts.setdefault(parent, []).append((content, place))
+    for parent, found in sorted(texts.items()):
+        # Where there are CDATA sections and references alone, `notes_of` says more.
+        if max(content for content, _ in found) == TEXT and 2 * len(found) < count[parent]:
+            yield (f"note: text in {len(found)} of {count[parent]} blocks of {parent.decode()}, the first in "
+                   f"{found[0][1]}: a DTD made from this book allows its children in any order and number, with text "
+                   "among them; remove the text if it is a slip")
 
 
 # Books
 
 
 def read_book(data):
-    """The names and the blocks (as numbers) of a book, or Refused with paper 01's number."""
+    """The names and the blocks (as numbers) of a book, or Refused."""
     if len(data) > BOOK_BYTES:
         raise Refused(1, BOOK_BYTES, f"{len(data):,} bytes")
     at = 0
@@ -311,12 +421,15 @@ def read_book(data):
         parent = take(1, f"the parent of block {i}")[0]
         if parent >= count:
             raise Refused(6, at - 1, f"block {i} has parent {parent} of {count} names")
+        text = take(1, f"the text byte of block {i}")[0]
+        if text > 1:
+            raise Refused(16, at - 1, f"that of block {i} is {text}")
         size = take(1, f"the child count of block {i}")[0]
         children = take(size, f"the child list of block {i}")
         for k, child in enumerate(children):
             if child >= count:
                 raise Refused(6, at - size + k, f"block {i} has child {child} of {count} names")
-        blocks.append((parent, tuple(children)))
+        blocks.append((parent, text, tuple(children)))
     if at < len(data):
         raise Refused(7, at, f"{len(data) - at} of them")
     return names, blocks
@@ -346,21 +459,25 @@ def is_xml(data):
 
 
 def make(files, distinct, say):
-    blocks, more, documents = [], [], []
+    blocks, places, more, documents = [], [], [], []
     for file in files:
         data, called = contents(file)
         if is_xml(data):
             document = Document(called).read(data)
             documents.append(document)
             blocks += document.blocks
+            places += map(document.where, document.tags)
         else:
-            found, names = blocks_of_lines(data.removeprefix(b"\xef\xbb\xbf"), called)
+            found, lines, names = blocks_of_lines(data.removeprefix(b"\xef\xbb\xbf"), called)
             if not found and not names:
-                raise Bad(f"{called}: holds no block: neither an XML document nor a line such as 'entry: member total'")
+                raise Bad(f"{called}: holds no block: neither an XML document nor a line such as "
+                          "'entry: member total'")
             blocks += found
+            places += lines
             more += names
-    book = book_of(blocks, more, distinct)
-    note_left_out(documents, blocks, say)
+    book = book_of(with_text(blocks, with_children(blocks)), more, distinct)
+    for note in (*notes_of(documents, blocks), *slips_of(blocks, places)):
+        say(note)
     return book
 
 
@@ -382,11 +499,13 @@ def write_out(data):
 
 
 def main(arguments=None):
-    parser = argparse.ArgumentParser(prog="book.py", description=__doc__, formatter_class=argparse.RawDescriptionHelpFormatter)
+    parser = argparse.ArgumentParser(
+        prog="book.py", description=__doc__, formatter_class=argparse.RawDescriptionHelpFormatter)
     commands = parser.add_subparsers(dest="command", required=True)
     maker = commands.add_parser("make", help="a book from XML documents or from lines")
     maker.add_argument("--distinct", action="store_true", help="keep equal blocks once")
-    maker.add_argument("-o", dest="out", metavar="BOOK", default="-", help="the book's file; standard output if none is given")
+    maker.add_argument(
+        "-o", dest="out", metavar="BOOK", default="-", help="the book's file; standard output if none is given")
     maker.add_argument("files", nargs="+", metavar="FILE")
     shower = commands.add_parser("show", help="a book as lines")
     shower.add_argument("book", nargs="?", default="-", metavar="BOOK")

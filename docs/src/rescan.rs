@@ -2,8 +2,8 @@
 //
 // This program is only for comparison. Request U2 of paper 02 asks for the facts of all parents in one reading of the
 // book, measured against a simple program that rescans for each parent: this one. `docs/BENCHMARK.md` has the figures.
-// It follows paper 01 sentence by sentence, with tables of yes and no. The book is checked once; then each parent takes
-// one scan of the blocks, one chain and one line.
+// It follows paper 01 and request U5 of paper 02 sentence by sentence, with tables of yes and no. The book is checked
+// once; then each parent takes one scan of the blocks, one chain if it has no text, and one line.
 //
 //     rustc -O docs/src/rescan.rs -o target/rescan
 //     target/rescan < samples/feed.book
@@ -72,18 +72,21 @@ fn take_names<'a>(left: &mut &'a [u8], count: usize) -> Result<Vec<&'a [u8]>, Re
     Ok(names)
 }
 
-/// Takes one block: its parent and its word.
-fn take_block<'a>(left: &mut &'a [u8], names: usize) -> Result<(usize, &'a [u8]), Refusal> {
+/// Takes one block and checks it: its parent, its text byte and its word.
+fn take_block(left: &mut &[u8], names: usize) -> Result<(), Refusal> {
     let parent = take(left, 1)?[0] as usize;
     if parent >= names {
         return Err(6);
+    }
+    if take(left, 1)?[0] > 1 {
+        return Err(16);
     }
     let size = take(left, 1)?[0] as usize;
     let word = take(left, size)?;
     if word.iter().any(|&child| child as usize >= names) {
         return Err(6);
     }
-    Ok((parent, word))
+    Ok(())
 }
 
 /// Checks a whole book.
@@ -111,6 +114,8 @@ fn check(bytes: &[u8]) -> Result<Book<'_>, Refusal> {
 
 /// The follow facts of one parent.
 struct Facts {
+    /// Whether some block has text.
+    text: bool,
     /// Whether some word is empty.
     empty: bool,
     start: Row,
@@ -122,16 +127,17 @@ struct Facts {
 /// The facts of a parent, by a scan of all blocks of a checked book; None if no block has it.
 fn scan(book: &Book, parent: usize) -> Option<Facts> {
     let no = [false; MOST_NAMES];
-    let mut facts = Facts { empty: false, start: no, end: no, follow: [no; MOST_NAMES] };
+    let mut facts = Facts { text: false, empty: false, start: no, end: no, follow: [no; MOST_NAMES] };
     let mut found = false;
     let mut left = book.blocks;
-    while let [here, size, rest @ ..] = left {
+    while let [here, text, size, rest @ ..] = left {
         let (word, after) = rest.split_at(*size as usize);
         left = after;
         if *here as usize != parent {
             continue;
         }
         found = true;
+        facts.text |= *text == 1;
         if let (Some(&first), Some(&last)) = (word.first(), word.last()) {
             facts.start[first as usize] = true;
             facts.end[last as usize] = true;
@@ -228,7 +234,25 @@ fn chain(facts: &Facts) -> Vec<Factor> {
     factors
 }
 
-/// Adds the declaration of a parent and a line feed.
+/// The names that are in some word.
+fn occurring(facts: &Facts) -> Vec<usize> {
+    let occurs = |a: &usize| facts.start[*a] || facts.follow.iter().any(|row| row[*a]);
+    (0..MOST_NAMES).filter(occurs).collect()
+}
+
+/// Adds the declaration of a parent that has text, and a line feed.
+fn print_with_text(names: &[&[u8]], parent: usize, held: &[usize], out: &mut Vec<u8>) {
+    out.extend(b"<!ELEMENT ");
+    out.extend(names[parent]);
+    out.extend(b" (#PCDATA");
+    for &a in held {
+        out.push(b'|');
+        out.extend(names[a]);
+    }
+    out.extend(if held.is_empty() { &b")>\n"[..] } else { b")*>\n" });
+}
+
+/// Adds the declaration of a parent without text, and a line feed.
 fn print(names: &[&[u8]], parent: usize, chain: &[Factor], out: &mut Vec<u8>) {
     out.extend(b"<!ELEMENT ");
     out.extend(names[parent]);
@@ -258,8 +282,10 @@ pub fn rescan(bytes: &[u8]) -> Vec<u8> {
     };
     let mut out = Vec::new();
     for parent in 0..book.names.len() {
-        if let Some(facts) = scan(&book, parent) {
-            print(&book.names, parent, &chain(&facts), &mut out);
+        match scan(&book, parent) {
+            Some(facts) if facts.text => print_with_text(&book.names, parent, &occurring(&facts), &mut out),
+            Some(facts) => print(&book.names, parent, &chain(&facts), &mut out),
+            None => {}
         }
     }
     out

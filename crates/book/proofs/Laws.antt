@@ -45,7 +45,7 @@ pub record BookTold (s : List ℕ) (b : Book) : Type 0 where
   pub few-names : length (b .names) ≤ places
   -- the names keep the rule and rise strictly
   pub rising : Rising [] (b .names)
-  -- every parent and every child number is below N
+  -- every parent and every child number is below N, and every text byte is 0 or 1
   pub within : BlocksBelow (length (b .names)) (b .blocks)
   -- the names stand behind the count N
   pub after-names : List ℕ
@@ -180,7 +180,7 @@ module _ (s : List ℕ) (l : Layout) (laid : LaidOut s l) where
   pub names-rising : Rising [] (namesIn s)
   names-rising = rw names-in (laid-told .rising)
 
-  -- every parent and every child is below N
+  -- every parent and every child is below N, and every text byte is 0 or 1
   pub blocks-within : BlocksBelow (l .names) (blocksIn s)
   blocks-within = rw (name-count, names-in, blocks-in) (laid-told .within)
 

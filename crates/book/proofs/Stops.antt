@@ -11,7 +11,7 @@ use lib.Dec.{ltb}
 use lib.ListN.{length}
 use borrow.Author.Tests.{lt-ltb, le-ltb, ltb-true, ltb-false, not-true, not-false}
 use Rattle.refusal.specs.declared.Refusal.{Refusal}
-use Rattle.refusal.specs.declared.Refusal.the-variants.{BookTooLong, BytesMissing, BadNameCount, BadName, NameNotAbove, NumberNotBelow, BytesLeftOver}
+use Rattle.refusal.specs.declared.Refusal.the-variants.{BookTooLong, BytesMissing, BadNameCount, BadName, NameNotAbove, NumberNotBelow, BytesLeftOver, BadText}
 use Rattle.refusal.specs.Table.{ofBook}
 use Rattle.refusal.specs.Answer.{Answer, given, refused, onward, refuseIf}
 use Rattle.refusal.proofs.Answers.{onward-given, check-given, given-same, given-refused, onward-refused, check-refused}
@@ -20,13 +20,13 @@ use Rattle.nameset.proofs.Count.{count-bounds, bounds-count, count-bad}
 use Rattle.book.specs.Field.{Field, field, countSize, countAt, countOf}
 use Rattle.book.specs.Book.{Block, Book, longestBook, nameOf, namesOf, blockOf, blocksOf, nameSection, blockSection, bookOf, IsBook}
 use Rattle.book.specs.Bytes.{blocksBytes}
-use Rattle.book.specs.Stops.{lastOf, BlocksBelow, NamesRead, AtName, AtSection, BlocksRead, AtBlock, AtEnd, Whole, Missing, BadCount, Stops, too-long, missing-bytes, bad-count, bad-name, low-name, bad-block, left-over}
+use Rattle.book.specs.Stops.{lastOf, BlocksBelow, NamesRead, AtName, AtSection, BlocksRead, AtBlock, AtEnd, Whole, Missing, BadCount, Stops, too-long, missing-bytes, bad-count, bad-name, low-name, bad-block, bad-text, left-over}
 use Rattle.book.proofs.Counts.{count-missing, count-given}
 use Rattle.book.proofs.Told.{blocks-told}
 use Rattle.book.proofs.Sections.{count-told, NameSectionTold, name-section-told, block-section-told}
 use Rattle.book.proofs.FieldStops.{count-stop}
 use Rattle.book.proofs.NameStops.{NameStop, missing, bad, low, name-stop, name-missing, name-bad, name-low, NamesStop, names-stop, names-refused, names-given}
-use Rattle.book.proofs.BlockStops.{BlockStop, cut, over, block-stop, block-missing, block-bad, BlocksStop, blocks-stop, blocks-refused, blocks-given}
+use Rattle.book.proofs.BlockStops.{BlockStop, cut, over, marked, block-stop, block-missing, block-text, block-bad, BlocksStop, blocks-stop, blocks-refused, blocks-given}
 
 -- ---- the whole book, what a refusal tells
 
@@ -56,6 +56,7 @@ module _ (s : List ℕ) (r : Refusal) where
   at-block : (rest : List ℕ) → AtBlock s rest → BlockStop (countAt s 0) rest r → Stops s r
   at-block rest a (cut h q) = subst (Stops s) q (missing-bytes (inr (inr (inr (rest, a, h)))))
   at-block rest a (over h q) = subst (Stops s) q (bad-block a h)
+  at-block rest a (marked h q) = subst (Stops s) q (bad-text a h)
 
   in-names : length s ≤ longestBook → nameSection s ≡ refused r → Stops s r
   unfolding nameSection
@@ -200,6 +201,7 @@ module _ (s : List ℕ) where
   stops-refused BadName (bad-name {last} {rest} a h) = name-refused last rest a BadName (name-bad last rest h)
   stops-refused NameNotAbove (low-name {last} {rest} a h) = name-refused last rest a NameNotAbove (name-low last rest h)
   stops-refused NumberNotBelow (bad-block {rest} a h) = block-refused rest a NumberNotBelow (block-bad (countAt s 0) rest h)
+  stops-refused BadText (bad-text {rest} a h) = block-refused rest a BadText (block-text (countAt s 0) rest h)
   stops-refused BytesLeftOver (left-over {rest} a l) = left-over-refused rest a l
 
 -- Bytes are refused by a number exactly where its condition holds.
@@ -254,4 +256,5 @@ book-stops s r e = own r (refused-stops s r e)
     own BadName (bad-name a h) = refl
     own NameNotAbove (low-name a h) = refl
     own NumberNotBelow (bad-block a h) = refl
+    own BadText (bad-text a h) = refl
     own BytesLeftOver (left-over a h) = refl

@@ -1,6 +1,6 @@
 -- What is known of the parts of a book that was read: which bytes they are, and which rules they keep.
 -- Assumes nothing.
-use Prim.Native.Nat.{ℕ, zero, suc, _+_, _<_}
+use Prim.Native.Nat.{ℕ, zero, suc, _+_, _≤_, _<_}
 use mathlib.Core.Path.{_≡_, refl, sym, _∙_, ap, subst}
 use mathlib.Core.Bool.{true, not}
 use mathlib.Core.List.{List, [], _∷_, _++_}
@@ -8,7 +8,7 @@ use lib.Dec.{ltb}
 use lib.ListN.{length, take, drop, take-append-drop}
 use lib.Seq.{length-take-le}
 use borrow.Author.Tests.{ltb-true, ltb-false, not-false}
-use Rattle.refusal.specs.declared.Refusal.the-variants.{BytesMissing, BadName, NameNotAbove, NumberNotBelow}
+use Rattle.refusal.specs.declared.Refusal.the-variants.{BytesMissing, BadName, NameNotAbove, NumberNotBelow, BadText}
 use Rattle.refusal.specs.Answer.{Answer, given, onward, refuseIf}
 use Rattle.refusal.proofs.Answers.{onward-given, check-given, given-same, given-refused}
 use Rattle.name.specs.Rule.{goodLength, goodBytes}
@@ -103,46 +103,62 @@ names-told (suc n) before s f e = more (λ b t g. names-told n b t g) (onward-gi
 -- ---- blocks
 
 -- a block whose children were taken, of a parent that is below n
-abbrev pub made : ℕ → Field (List ℕ) → Field Block
-made parent word = field (record { parent = parent; word = word .value }) (word .rest)
+abbrev pub made : ℕ → ℕ → Field (List ℕ) → Field Block
+made parent text word = field (record { parent = parent; text = text; word = word .value }) (word .rest)
 
-abbrev pub taken : ℕ → ℕ → Field (List ℕ) → Answer (Field Block)
-taken n parent word = refuseIf (not (allBelow n (word .value))) NumberNotBelow (given (made parent word))
+abbrev pub taken : ℕ → ℕ → ℕ → Field (List ℕ) → Answer (Field Block)
+taken n parent text word = refuseIf (not (allBelow n (word .value))) NumberNotBelow (given (made parent text word))
+
+-- the same from the child count on, and from the text byte on
+abbrev pub counted : ℕ → ℕ → ℕ → List ℕ → Answer (Field Block)
+counted n parent text bytes = onward (byteOf bytes) (λ size. onward (bytesOf (size .value) (size .rest)) (taken n parent text))
+
+abbrev pub texted : ℕ → ℕ → Field ℕ → Answer (Field Block)
+texted n parent text = refuseIf (ltb 1 (text .value)) BadText (counted n parent (text .value) (text .rest))
 
 -- a block that was read over n names
 pub record BlockTold (n : ℕ) (s : List ℕ) (f : Field Block) : Type 0 where
   pub bytes : s ≡ blockBytes (f .value) (f .rest)
   pub parent : f .value .parent < n
+  pub text : f .value .text ≤ 1
   pub children : allBelow n (f .value .word) ≡ true
 
 pub block-told : (n : ℕ) (s : List ℕ) (f : Field Block) → blockOf n s ≡ given f → BlockTold n s f
 unfolding blockOf blockBytes
 block-told n s f e = started (onward-given (byteOf s) _ f e)
   where
-    ended : (p k : Field ℕ) (w : Field (List ℕ)) → byteOf s ≡ given p → p .value < n → byteOf (p .rest) ≡ given k →
-        bytesOf (k .value) (k .rest) ≡ given w → taken n (p .value) w ≡ given f → BlockTold n s f
-    ended p k w hp below hk hw e =
-        let t = bytes-told (k .value) (k .rest) w hw in
+    ended : (p t k : Field ℕ) (w : Field (List ℕ)) → s ≡ p .value ∷ (t .value ∷ (k .value ∷ k .rest)) → p .value < n → t .value ≤ 1 →
+        bytesOf (k .value) (k .rest) ≡ given w → taken n (p .value) (t .value) w ≡ given f → BlockTold n s f
+    ended p t k w head below low hw e =
+        let u = bytes-told (k .value) (k .rest) w hw in
         let c = check-given (not (allBelow n (w .value))) NumberNotBelow _ f e in
-        subst (BlockTold n s) (given-same (made (p .value) w) f (c .1))
+        subst (BlockTold n s) (given-same (made (p .value) (t .value) w) f (c .1))
         (record {
-          bytes = byte-told s p hp ∙ ap (λ (r : List ℕ). p .value ∷ r) (byte-told (p .rest) k hk ∙ rw (t .0, t .1) refl);
+          bytes = head ∙ rw (u .0, u .1) refl;
           parent = below;
+          text = low;
           children = not-false _ (c .0);
         })
 
-    counted : (p : Field ℕ) → byteOf s ≡ given p → p .value < n →
-        ((k : Field ℕ) × (byteOf (p .rest) ≡ given k) × (onward (bytesOf (k .value) (k .rest)) (taken n (p .value)) ≡ given f)) → BlockTold n s f
-    counted p hp below (k, hk, e) =
+    sized : (p t : Field ℕ) → s ≡ p .value ∷ (t .value ∷ t .rest) → p .value < n → t .value ≤ 1 →
+        ((k : Field ℕ) × (byteOf (t .rest) ≡ given k) × (onward (bytesOf (k .value) (k .rest)) (taken n (p .value) (t .value)) ≡ given f)) → BlockTold n s f
+    sized p t head below low (k, hk, e) =
         let o = onward-given (bytesOf (k .value) (k .rest)) _ f e in
-        ended p k (o .0) hp below hk (o .1) (o .2)
+        ended p t k (o .0) (head ∙ ap (λ (r : List ℕ). p .value ∷ (t .value ∷ r)) (byte-told (t .rest) k hk)) below low (o .1) (o .2)
+
+    marked : (p : Field ℕ) → s ≡ p .value ∷ p .rest → p .value < n →
+        ((t : Field ℕ) × (byteOf (p .rest) ≡ given t) × (texted n (p .value) t ≡ given f)) → BlockTold n s f
+    marked p head below (t, ht, e) =
+        let c = check-given (ltb 1 (t .value)) BadText _ f e in
+        sized p t (head ∙ ap (λ (r : List ℕ). p .value ∷ r) (byte-told (p .rest) t ht)) below (ltb-false 1 (t .value) (c .0))
+        (onward-given (byteOf (t .rest)) _ f (c .1))
 
     started : ((p : Field ℕ) × (byteOf s ≡ given p)
-        × (refuseIf (not (ltb (p .value) n)) NumberNotBelow (onward (byteOf (p .rest)) (λ k. onward (bytesOf (k .value) (k .rest)) (taken n (p .value)))) ≡ given f)) →
+        × (refuseIf (not (ltb (p .value) n)) NumberNotBelow (onward (byteOf (p .rest)) (texted n (p .value))) ≡ given f)) →
         BlockTold n s f
     started (p, hp, e) =
         let c = check-given (not (ltb (p .value) n)) NumberNotBelow _ f e in
-        counted p hp (ltb-true (p .value) n (not-false _ (c .0))) (onward-given (byteOf (p .rest)) _ f (c .1))
+        marked p (byte-told s p hp) (ltb-true (p .value) n (not-false _ (c .0))) (onward-given (byteOf (p .rest)) _ f (c .1))
 
 pub record BlocksTold (n m : ℕ) (s : List ℕ) (f : Field (List Block)) : Type 0 where
   pub bytes : s ≡ blocksBytes (f .value) (f .rest)
@@ -166,5 +182,5 @@ blocks-told n (suc m) s f e = more (λ t g. blocks-told n m t g) (onward-given (
         (record {
           bytes = t .bytes ∙ ap (blockBytes (b .value)) (u .bytes);
           many = ap suc (u .many);
-          within = (t .parent, t .children, u .within);
+          within = (t .parent, t .text, t .children, u .within);
         })

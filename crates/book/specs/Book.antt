@@ -1,6 +1,6 @@
--- To be believed: which book a list of bytes is (paper 01, "The book" and rows 1 to 7 of "Where a call stops"). Read
--- from `bookOf`, at the end, inwards: the checks of a definition apply from top to bottom, and the first that applies
--- is the answer.
+-- To be believed: which book a list of bytes is (paper 01, "The book" and rows 1 to 7 of "Where a call stops"; paper
+-- 02, U5: the text byte and 16). Read from `bookOf`, at the end, inwards: the checks of a definition apply from top to
+-- bottom, and the first that applies is the answer.
 -- Assumes nothing.
 use Prim.Native.Nat.{ℕ, zero, suc}
 use mathlib.Core.Path.{_≡_}
@@ -8,16 +8,17 @@ use mathlib.Core.Bool.{Bool, true, _&&_, not}
 use mathlib.Core.List.{List, [], _∷_}
 use lib.Dec.{ltb}
 use lib.ListN.{length}
-use Rattle.refusal.specs.declared.Refusal.the-variants.{BookTooLong, BadNameCount, BadName, NameNotAbove, NumberNotBelow, BytesLeftOver}
+use Rattle.refusal.specs.declared.Refusal.the-variants.{BookTooLong, BadNameCount, BadName, NameNotAbove, NumberNotBelow, BytesLeftOver, BadText}
 use Rattle.refusal.specs.Answer.{Answer, given, onward, refuseIf, valueOr}
 use Rattle.nameset.specs.Places.{goodCount}
 use Rattle.name.specs.Rule.{goodLength, goodBytes}
 use Rattle.name_order.specs.Order.{rises}
 use Rattle.book.specs.Field.{Field, field, byteOf, bytesOf, countOf}
 
--- a parent number and its child list, a word
+-- a parent number; 1 where the block has text, 0 where not; and the child list, a word
 pub record Block : Type 0 where
   pub parent : ℕ
+  pub text : ℕ
   pub word : List ℕ
 
 -- the names, by rising number, and the blocks in their order
@@ -53,15 +54,18 @@ namesOf (suc n) before bytes =
     onward (namesOf n (first .value) (first .rest)) (λ others.
     given (field (first .value ∷ others .value) (others .rest))))
 
--- One block over n names: a parent, a child count, then that many children; "6: number not below N".
+-- One block over n names: a parent, a text byte, a child count, then that many children; "6: number not below N"; "16,
+-- a text byte above 1, checked after the parent number and before the child count".
 unfoldable pub blockOf : ℕ → List ℕ → Answer (Field Block)
 blockOf n bytes =
     onward (byteOf bytes) (λ parent.
     refuseIf (not (ltb (parent .value) n)) NumberNotBelow
-    (onward (byteOf (parent .rest)) (λ size.
+    (onward (byteOf (parent .rest)) (λ text.
+    refuseIf (ltb 1 (text .value)) BadText
+    (onward (byteOf (text .rest)) (λ size.
     onward (bytesOf (size .value) (size .rest)) (λ word.
     refuseIf (not (allBelow n (word .value))) NumberNotBelow
-    (given (field (record { parent = parent .value; word = word .value }) (word .rest)))))))
+    (given (field (record { parent = parent .value; text = text .value; word = word .value }) (word .rest)))))))))
 
 -- m blocks over n names
 unfoldable pub blocksOf : ℕ → ℕ → List ℕ → Answer (Field (List Block))

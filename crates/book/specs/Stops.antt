@@ -1,6 +1,6 @@
--- To be believed: which bytes are refused by which number, rows 1 to 7 of paper 01's "Where a call stops", and which
--- are a book. Stated of the bytes, without the function that reads; `book-refused` and `book-whole` in
--- proofs/Stops.antt say that `bookOf` agrees. Read from `Stops`, at the end, upwards.
+-- To be believed: which bytes are refused by which number, rows 1 to 7 of paper 01's "Where a call stops" and 16 of
+-- paper 02, U5, and which are a book. Stated of the bytes, without the function that reads; `book-refused` and
+-- `book-whole` in proofs/Stops.antt say that `bookOf` agrees. Read from `Stops`, at the end, upwards.
 -- Assumes nothing.
 use Prim.Native.Nat.{ℕ, _≤_, _<_}
 use mathlib.Core.Path.{_≡_}
@@ -9,7 +9,7 @@ use mathlib.Core.List.{List, [], _∷_}
 use mathlib.Core.Logic.{_⊎_}
 use lib.ListN.{length, drop}
 use Rattle.refusal.specs.declared.Refusal.{Refusal}
-use Rattle.refusal.specs.declared.Refusal.the-variants.{BookTooLong, BytesMissing, BadNameCount, BadName, NameNotAbove, NumberNotBelow, BytesLeftOver}
+use Rattle.refusal.specs.declared.Refusal.the-variants.{BookTooLong, BytesMissing, BadNameCount, BadName, NameNotAbove, NumberNotBelow, BytesLeftOver, BadText}
 use Rattle.nameset.specs.Places.{places, OutOfRange}
 use Rattle.name.specs.Rule.{goodLength, goodBytes}
 use Rattle.name_order.specs.Order.{rises}
@@ -30,10 +30,10 @@ unfoldable pub lastOf : List ℕ → List (List ℕ) → List ℕ
 lastOf before [] = before
 lastOf before (x ∷ xs) = lastOf x xs
 
--- blocks over n names
+-- blocks over n names, each with a text byte of 0 or 1
 abbrev pub BlocksBelow : ℕ → List Block → Type 0
 BlocksBelow n [] = Unit {0}
-BlocksBelow n (b ∷ bs) = (b .parent < n) × (allBelow n (b .word) ≡ true) × BlocksBelow n bs
+BlocksBelow n (b ∷ bs) = (b .parent < n) × (b .text ≤ 1) × (allBelow n (b .word) ≡ true) × BlocksBelow n bs
 
 -- The count N is good and these names stand behind it, in order; `rest` follows them. N is `countAt s 0`.
 pub record NamesRead (s : List ℕ) (names : List (List ℕ)) (rest : List ℕ) : Type 0 where
@@ -105,15 +105,21 @@ NameBad rest = ((size : ℕ) × (more : List ℕ) × (rest ≡ size ∷ more) ×
 abbrev pub NameLow : List ℕ → List ℕ → Type 0
 NameLow last rest = (x more : List ℕ) × (rest ≡ nameBytes x more) × (goodLength (length x) ≡ true) × (goodBytes x ≡ true) × (rises last x ≡ false)
 
--- The parent is missing; or it is below n, and the child count is missing; or there are fewer children than it says.
+-- The parent is missing; or it is below n, and the text byte is missing; or that is 0 or 1, and the child count is
+-- missing; or there are fewer children than it says.
 abbrev pub BlockMissing : ℕ → List ℕ → Type 0
 BlockMissing n rest = (rest ≡ []) ⊎ (((p : ℕ) × (rest ≡ p ∷ []) × (p < n))
-    ⊎ ((p size : ℕ) × (more : List ℕ) × (rest ≡ p ∷ size ∷ more) × (p < n) × (length more < size)))
+    ⊎ (((p text : ℕ) × (rest ≡ p ∷ text ∷ []) × (p < n) × (text ≤ 1))
+    ⊎ ((p text size : ℕ) × (more : List ℕ) × (rest ≡ p ∷ text ∷ size ∷ more) × (p < n) × (text ≤ 1) × (length more < size))))
 
--- The parent is not below n; or the block is there, and has a child that is not.
+-- The parent is below n, and the text byte is above 1.
+abbrev pub BlockText : ℕ → List ℕ → Type 0
+BlockText n rest = (p text : ℕ) × (more : List ℕ) × (rest ≡ p ∷ text ∷ more) × (p < n) × (1 < text)
+
+-- The parent is not below n; or the block is there, its text byte is 0 or 1, and it has a child that is not below n.
 abbrev pub BlockBad : ℕ → List ℕ → Type 0
 BlockBad n rest = ((p : ℕ) × (more : List ℕ) × (rest ≡ p ∷ more) × (n ≤ p))
-    ⊎ ((b : Block) × (more : List ℕ) × (rest ≡ blockBytes b more) × (b .parent < n) × (allBelow n (b .word) ≡ false))
+    ⊎ ((b : Block) × (more : List ℕ) × (rest ≡ blockBytes b more) × (b .parent < n) × (b .text ≤ 1) × (allBelow n (b .word) ≡ false))
 
 -- ---- the rows
 
@@ -140,5 +146,7 @@ pub data Stops (s : List ℕ) : Refusal → Type 0 where
   low-name : {last rest : List ℕ} → AtName s last rest → NameLow last rest → Stops s NameNotAbove
   -- 6: "number not below N"
   bad-block : {rest : List ℕ} → AtBlock s rest → BlockBad (countAt s 0) rest → Stops s NumberNotBelow
+  -- 16: "a text byte above 1"
+  bad-text : {rest : List ℕ} → AtBlock s rest → BlockText (countAt s 0) rest → Stops s BadText
   -- 7: "bytes left over"
   left-over : {rest : List ℕ} → AtEnd s rest → 0 < length rest → Stops s BytesLeftOver

@@ -10,11 +10,12 @@ use lib.ListN.{length}
 use Rattle.refusal.specs.Answer.{Answer, given, onward}
 use Rattle.book.specs.Book.{Book, bookOf}
 
--- What is checked of a whole book that was read: nothing, since all refusals of a book, 1 to 7, come while it is read.
+-- What is checked of a whole book that was read: nothing, since all refusals of a book, 1 to 7, 16, come while it is
+-- read.
 unfoldable pub checkedBook : Book → Answer Book
 checkedBook b = given b
 
--- The book as the calls take it: read (1 to 7), then checked.
+-- The book as the calls take it: read (1 to 7, 16), then checked.
 unfoldable pub takenBook : List ℕ → Answer Book
 takenBook bytes = onward (bookOf bytes) checkedBook
 

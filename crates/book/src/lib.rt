@@ -2,10 +2,12 @@
 use nameset::PLACES;
 use refusal::Outcome;
 
-// The bytes of a block before its children, and where among them the number of the children stands.
-pub const HEAD_SIZE: usize = 2;
+// The bytes of a block before its children, and where among them the text byte and the number of the children stand.
+pub const HEAD_SIZE: usize = 3;
 
-pub const CHILD_COUNT_AT: usize = 1;
+pub const TEXT_AT: usize = 1;
+
+pub const CHILD_COUNT_AT: usize = 2;
 
 // Where the parts of a book stand.
 pub struct Layout {

@@ -50,7 +50,7 @@ from-below n zero s = tt
 from-below n (suc m) s = go (λ t. from-below n m t) (blockOf n s) refl
   where
     go : ((t : List ℕ) → BlocksBelow n (blocksFrom n m t)) → (a : Answer (Field Block)) → blockOf n s ≡ a → BlocksBelow n (withOthers a (blocksFrom n m))
-    go again (given b) e = let t = block-told n s b e in (t .parent, t .children, again (b .rest))
+    go again (given b) e = let t = block-told n s b e in (t .parent, t .text, t .children, again (b .rest))
     go again (refused r) e = tt
 
 -- ---- one step

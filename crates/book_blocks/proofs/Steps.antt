@@ -10,7 +10,7 @@ use Rattle.refusal.specs.declared.Refusal.{Refusal}
 use Rattle.refusal.specs.Answer.{Answer, given, refused}
 use Rattle.book.specs.Field.{Field}
 use Rattle.book.specs.Book.{Block, allBelow, blockOf}
-use Rattle.book.specs.Bytes.{headSize, blocksBytes}
+use Rattle.book.specs.Bytes.{headSize, textAt, blocksBytes}
 use Rattle.book.proofs.Told.{block-told}
 use Rattle.book.proofs.Placed.{block-placed}
 use Rattle.book_blocks.specs.declared.BlockStep.the-variants.{Block as BlockIs, Stopped as BlockStopped}
@@ -23,8 +23,9 @@ pub record BlockRead (n : ℕ) (s : List ℕ) (at k : ℕ) : Type 0 where
   pub size : length (block .value .word) ≡ k
   pub fits : at + headSize + k ≤ length s
   pub rest : drop (at + headSize + k) s ≡ block .rest
-  -- its parent and its word, as the bytes have them
+  -- its parent, its text byte and its word, as the bytes have them
   pub parent : getD s at 0 ≡ block .value .parent
+  pub text : getD s (at + textAt) 0 ≡ block .value .text
   pub word : take k (drop (at + headSize) s) ≡ block .value .word
   pub below : block .value .parent < n
   pub children : allBelow n (block .value .word) ≡ true
@@ -45,6 +46,7 @@ block-read n s at k e = go (blockOf n (drop at s)) refl e
           fits = rw (← z) (p .fits);
           rest = rw (← z) (p .rest);
           parent = p .parent;
+          text = p .text;
           word = rw (← z) (p .word);
           below = t .parent;
           children = t .children;

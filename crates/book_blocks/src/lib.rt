@@ -1,6 +1,7 @@
 // The blocks of a book, checked one after the other.
 use book::CHILD_COUNT_AT;
 use book::HEAD_SIZE;
+use book::TEXT_AT;
 use book_bytes::all_below;
 use book_bytes::part;
 use book_bytes::wide;
@@ -34,7 +35,14 @@ pub fn block_at(bytes: &[u8], n: usize, at: usize) -> BlockStep
     if n <= wide(bytes[at]) {
         return BlockStep::Stopped(Refusal::NumberNotBelow);
     }
+    let text = at + TEXT_AT;
     let count = at + CHILD_COUNT_AT;
+    if bytes.len() <= text {
+        return BlockStep::Stopped(Refusal::BytesMissing);
+    }
+    if 1 < bytes[text] {
+        return BlockStep::Stopped(Refusal::BadText);
+    }
     if bytes.len() <= count {
         return BlockStep::Stopped(Refusal::BytesMissing);
     }

@@ -49,7 +49,7 @@ fn mode(fixed: bool, plain: u8, optional: u8) -> u8
 }
 
 // The record with the names of the set as one factor, if there are any.
-fn with_any(m: Chain, names: NameSet, mode: u8) -> Chain
+pub fn with_any(m: Chain, names: NameSet, mode: u8) -> Chain
     requires { ⌜ m .count + cond (anyBelow places (member names)) 1 0 ≤ places ⌝ }
     ensures { λ r. ⌜ r ≡ withAny places (member names) mode m ⌝ }
 {

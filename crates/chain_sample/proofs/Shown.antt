@@ -14,20 +14,23 @@ use Rattle.nameset.specs.Places.{places}
 use Rattle.nameset.specs.declared.NameSet.{NameSet}
 use Rattle.nameset.specs.Rows.{IsRows, rowAt}
 use Rattle.nameset.specs.Promise.{Emptiness}
+use Rattle.model.specs.declared.Chain.{Chain}
+use Rattle.model.specs.Record.{modelWith}
 use Rattle.model.specs.Accept.{Names}
 use Rattle.follow.specs.declared.Facts.{Facts}
 use Rattle.follow.specs.Follow.{Follow, someWord, beginsWith, isEmpty, followOf}
 use Rattle.follow.specs.View.{viewOf, factsWith}
 use Rattle.follow.specs.Sample.{Over}
 use Rattle.follow.proofs.Laws.{facts-shown}
-use Rattle.follow_row.specs.Row.{rowHead, rowSize, factsIn, OfWords}
+use Rattle.follow_row.specs.Row.{rowHead, textPlace, rowSize, factsIn, textIn, OfWords}
 use Rattle.chain_levels.specs.Below.{anyBelow}
 use Rattle.chain_levels.specs.Chain.{chainOf}
 use Rattle.chain_levels.proofs.Tests.{or-is, some-is, refuted, both-ways}
 use Rattle.chain_peel.specs.Shown.{Shown}
 use Rattle.chain_peel.proofs.Words.{shown-words}
 use Rattle.chain_factors.proofs.Sets.{some-set}
-use Rattle.chain_sample.specs.Sample.{chainOfWords, showWord}
+use Rattle.chain_mixed.specs.Mixed.{mixedChain, modelOf}
+use Rattle.chain_sample.specs.Sample.{modelOfWords, showWord}
 
 -- ---- whether the facts show a word
 
@@ -51,6 +54,16 @@ words-show size n (w ∷ ws) few over = (λ e. absurd (both-ways _ (shown w (ove
         or-is (someWord isEmpty ws) (anyBelow size (λ a. eqb a x || someWord (beginsWith a) ws)) .1
         (inr (some-is size (λ a. eqb a x || someWord (beginsWith a) ws) .1 (x, omega (arith, few, h .0), or-is (eqb x x) (someWord (beginsWith x) ws) .1 (inl (eq-eqb x x refl)))))
 
+-- ---- with text and without
+
+pub with-text : (f : Follow) (row : List ℕ) (c : Chain) → getD row textPlace 0 ≡ 1 → c ≡ mixedChain places f → modelWith c 1 ≡ modelOf places f (textIn row)
+unfolding textIn modelOf
+with-text f row c e h = rw (eq-eqb (getD row textPlace 0) 1 e) (ap (λ (d : Chain). modelWith d 1) h)
+
+pub without-text : (f : Follow) (row : List ℕ) (c : Chain) → ¬ (getD row textPlace 0 ≡ 1) → c ≡ chainOf places f → modelWith c 0 ≡ modelOf places f (textIn row)
+unfolding textIn modelOf
+without-text f row c d h = rw (ne-eqb (getD row textPlace 0) 1 d) (ap (λ (e : Chain). modelWith e 0) h)
+
 -- ---- what the chain asks
 
 -- the part behind the head, as the code takes it
@@ -70,10 +83,10 @@ module _ (n : ℕ) (row : List ℕ) (few : n ≤ places) (kept : OfWords n row) 
   pub view-is : viewOf n (factsIn row) ≡ followOf n (kept .words)
   view-is = ap (viewOf n) (kept .facts) ∙ facts-shown n (kept .words) few (kept .over)
 
-  -- The chain of a row is that of the words whose facts it keeps.
-  pub chain-is : chainOf places (viewOf n (factsIn row)) ≡ chainOfWords places n (kept .words)
-  unfolding chainOfWords
-  chain-is = ap (λ (f : Follow). chainOf places f) view-is
+  -- The model of a row is that of the words whose facts it keeps.
+  pub model-is : (b : Bool) → modelOf places (viewOf n (factsIn row)) b ≡ modelOfWords places n (kept .words) b
+  unfolding modelOfWords
+  model-is b = ap (λ (f : Follow). modelOf places f b) view-is
 
   pub shows-is : (showWord places (viewOf n (factsIn row)) ≡ false) ↔ (kept .words ≡ [])
   shows-is = subst (λ (f : Follow). (showWord places f ≡ false) ↔ (kept .words ≡ [])) (sym view-is) (words-show places n (kept .words) few (kept .over))

@@ -7,7 +7,7 @@ use mathlib.Core.Path.{_≡_}
 use mathlib.Core.Bool.{Bool}
 use mathlib.Core.List.{List}
 use Rattle.refusal.specs.Answer.{outcomeNumber}
-use Rattle.model.specs.declared.Chain.{Chain}
+use Rattle.model.specs.declared.Model.{Model}
 use Rattle.declaration_writing.specs.declared.Written.{Written}
 use Rattle.declaration_writing.specs.Write.{WritesDeclaration}
 use Rattle.declaration_reading.specs.declared.Declaration.{Declaration}
@@ -52,14 +52,14 @@ textReply x = record { refusal = outcomeNumber (x .outcome); parent = x .parent;
 abbrev pub RepliesModel : List ℕ → ℕ → ModelReply → Type 0
 RepliesModel bytes parent r = (x : Inferred) × InfersModel bytes parent x × (r ≡ modelReply x)
 
-abbrev pub RepliesWord : ℕ → Chain → List ℕ → Verdict → Type 0
+abbrev pub RepliesWord : ℕ → Model → List ℕ → Verdict → Type 0
 RepliesWord n m w r = (x : Acceptance) × AcceptsWord n m w x × (r ≡ verdict x)
 
 -- The buffer held `before` and then holds `after`.
-abbrev pub RepliesWithin : ℕ → Chain → Chain → InclusionReply → List ℕ → List ℕ → Type 0
+abbrev pub RepliesWithin : ℕ → Model → Model → InclusionReply → List ℕ → List ℕ → Type 0
 RepliesWithin n first second r before after = (x : Inclusion) × ComparesModels n first second x before after × (r ≡ inclusionReply x)
 
-abbrev pub RepliesWritten : List ℕ → ℕ → Chain → LengthReply → List ℕ → List ℕ → Type 0
+abbrev pub RepliesWritten : List ℕ → ℕ → Model → LengthReply → List ℕ → List ℕ → Type 0
 RepliesWritten bytes parent m r before after = (x : Written) × WritesDeclaration bytes parent m x before after × (r ≡ lengthReply x)
 
 abbrev pub RepliesSample : List ℕ → ℕ → LengthReply → List ℕ → List ℕ → Type 0

@@ -3,7 +3,7 @@
 use declaration_writing::Written;
 use intake::Acceptance;
 use intake::Inclusion;
-use model::Chain;
+use model::Model;
 ghost use mathlib.Core.Path.{_≡_};
 ghost use Rattle.curlewsong.specs.Reply.{verdict, inclusionOf, inclusionReply, lengthReply, RepliesModel, RepliesWord, RepliesWithin, RepliesWritten, RepliesSample, RepliesDtd, RepliesText};
 
@@ -11,7 +11,7 @@ ghost use Rattle.curlewsong.specs.Reply.{verdict, inclusionOf, inclusion
 #[repr(C)]
 pub struct ModelReply {
     pub refusal: u8,
-    pub model: Chain,
+    pub model: Model,
 }
 
 // A yes or no, or no and why.
@@ -41,7 +41,7 @@ pub struct LengthReply {
 pub struct TextReply {
     pub refusal: u8,
     pub parent: usize,
-    pub model: Chain,
+    pub model: Model,
 }
 
 fn verdict_of(answer: Acceptance) -> Verdict
@@ -93,7 +93,7 @@ fn length_of(answer: Written) -> LengthReply
     }
 }
 
-// The model of a parent from its blocks: 1 to 7, 8, 9.
+// The model of a parent from its blocks: 1 to 7, 16, 8, 9.
 #[no_mangle]
 pub extern "C" fn curlewsong_model_of_parent(book: &[u8], parent: usize) -> ModelReply
     ensures { λ r. ⌜ RepliesModel (now (book .entry)) parent r ⌝ }
@@ -109,7 +109,7 @@ pub extern "C" fn curlewsong_model_of_parent(book: &[u8], parent: usize) -> Mode
 
 // Whether a model over so many names accepts a word: 3, 10, 11.
 #[no_mangle]
-pub extern "C" fn curlewsong_accepts_word(names: usize, model: Chain, word: &[u8]) -> Verdict
+pub extern "C" fn curlewsong_accepts_word(names: usize, model: Model, word: &[u8]) -> Verdict
     ensures { λ r. ⌜ RepliesWord names model (now (word .entry)) r ⌝ }
 {
     verdict_of(intake::accepts_word(names, model, word))
@@ -119,8 +119,8 @@ pub extern "C" fn curlewsong_accepts_word(names: usize, model: Chain, word: &[u8
 #[no_mangle]
 pub extern "C" fn curlewsong_within(
     names: usize,
-    first: Chain,
-    second: Chain,
+    first: Model,
+    second: Model,
     word: &mut [u8],
 ) -> InclusionReply
     ensures { λ r. ⌜ RepliesWithin names first second r (now (word .entry)) (now (word .exit)) ⌝ }
@@ -128,12 +128,12 @@ pub extern "C" fn curlewsong_within(
     inclusion_of(intake::within(names, first, second, word))
 }
 
-// Writes the declaration of a parent with a model: 1 to 7, 8, 10, 12.
+// Writes the declaration of a parent with a model: 1 to 7, 16, 8, 10, 12.
 #[no_mangle]
 pub extern "C" fn curlewsong_write_declaration(
     book: &[u8],
     parent: usize,
-    model: Chain,
+    model: Model,
     buffer: &mut [u8],
 ) -> LengthReply
     ensures { λ r. ⌜ RepliesWritten (now (book .entry)) parent model r (now (buffer .entry)) (now (buffer .exit)) ⌝ }
@@ -141,7 +141,7 @@ pub extern "C" fn curlewsong_write_declaration(
     length_of(intake::write_declaration(book, parent, model, buffer))
 }
 
-// Writes the declaration of a parent with the model from its blocks: 1 to 7, 8, 9, 12.
+// Writes the declaration of a parent with the model from its blocks: 1 to 7, 16, 8, 9, 12.
 #[no_mangle]
 pub extern "C" fn curlewsong_write_from_sample(
     book: &[u8],
@@ -153,7 +153,7 @@ pub extern "C" fn curlewsong_write_from_sample(
     length_of(intake::write_from_sample(book, parent, buffer))
 }
 
-// Writes the declarations of all parents with a block: 1 to 7, 12.
+// Writes the declarations of all parents with a block: 1 to 7, 16, 12.
 #[no_mangle]
 pub extern "C" fn curlewsong_write_dtd(book: &[u8], buffer: &mut [u8]) -> LengthReply
     ensures { λ r. ⌜ RepliesDtd (now (book .entry)) r (now (buffer .entry)) (now (buffer .exit)) ⌝ }
@@ -161,7 +161,7 @@ pub extern "C" fn curlewsong_write_dtd(book: &[u8], buffer: &mut [u8]) -> Length
     length_of(intake::write_dtd(book, buffer))
 }
 
-// Reads a declaration: 1 to 7, 13, 14, 15.
+// Reads a declaration: 1 to 7, 16, 13, 14, 15.
 #[no_mangle]
 pub extern "C" fn curlewsong_read_declaration(book: &[u8], text: &[u8]) -> TextReply
     ensures { λ r. ⌜ RepliesText (now (book .entry)) (now (text .entry)) r ⌝ }

@@ -114,10 +114,10 @@ module _ (m : Chain) (n i : ℕ) (s : NameSet) (holds : NamesOf m n i s) where
       rw (e, rising-members (suc k) r (omega arith))
 
   -- its names, as they are put, are the factor's
-  pub names-of-set : (names : List (List ℕ)) (many : Bool) → setText names n s many false ≡ namesText names m i many false 0 n
+  pub names-of-set : (names : List (List ℕ)) (many some : Bool) → setText names n s many some ≡ namesText names m i many some 0 n
   unfolding setText
-  names-of-set names many =
-      ap (λ (xs : List ℕ). leads many false (namesAt names xs)) (rising-members 0 n (omega arith)) ∙ sym (names-leads names m i many false 0 n)
+  names-of-set names many some =
+      ap (λ (xs : List ℕ). leads many some (namesAt names xs)) (rising-members 0 n (omega arith)) ∙ sym (names-leads names m i many some 0 n)
 
   -- it has more than one where the factor has
   pub many-is : Sized s → (t : NameSet) (b : Bool) → t ≡ rest s → b ≡ isEmpty t → not b ≡ manyIn n m i

@@ -66,7 +66,7 @@ module _ (names : List (List ℕ)) (n : ℕ) (m : Chain) (i : ℕ) (s : NameSet)
     (d : List ℕ) (at : ℕ) (fits : at + length (partText names n m i) ≤ length d) where
   begun : Left d at (partText names n m i) d at (setText names n s many false ++ (shown (closeByte many) ++ shown (modeByte (modeOf m i))))
   unfolding partText
-  begun = rw (names-of-set m n i s holds names many, is) (left-start d at (partText names n m i))
+  begun = rw (names-of-set m n i s holds names many false, is) (left-start d at (partText names n m i))
 
   pub inner-room : at + length (setText names n s many false) ≤ length d
   inner-room = left-room d at (partText names n m i) d at (setText names n s many false) (shown (closeByte many) ++ shown (modeByte (modeOf m i))) begun fits

@@ -10,9 +10,10 @@ use lib.ListN.{length}
 use Rattle.nameset.specs.declared.NameSet.{NameSet}
 use Rattle.nameset.specs.Set.{member}
 use Rattle.model.specs.declared.Chain.{Chain}
+use Rattle.model.specs.declared.Model.{Model}
 use Rattle.model.specs.Record.{factorOf, modeOf}
 use Rattle.declaration_spelling.specs.Token.{markByte}
-use Rattle.declaration_spelling.specs.House.{members, nameAt, namesAt, opening, emptyWord}
+use Rattle.declaration_spelling.specs.House.{members, nameAt, namesAt, opening, emptyWord, pcdataWord}
 use Rattle.byte_buffer.specs.Put.{shown}
 
 -- Before a name of a factor: nothing where it is the only one, `(` before the first, `|` before each other.
@@ -40,7 +41,7 @@ beforeByte (suc i) = 44
 unfoldable pub memberText : Bool → ℕ → List ℕ → List ℕ
 memberText here lead name = cond here (shown lead ++ name) []
 
--- The names of factor i among the r numbers from k on; `some` says whether one stands before them.
+-- The names of factor i among the r numbers from k on; `some` says whether one, or `#PCDATA`, stands before them.
 unfoldable pub namesText : List (List ℕ) → Chain → ℕ → Bool → Bool → ℕ → ℕ → List ℕ
 namesText names m i many some k zero = []
 namesText names m i many some k (suc r) =
@@ -55,7 +56,7 @@ rising s k (suc r) = cond (member s k) (k ∷ rising s (suc k) r) (rising s (suc
 abbrev pub MembersBelow : ℕ → NameSet → Type 0
 MembersBelow n s = (x : ℕ) → member s x ≡ true → x < n
 
--- Names, each behind its lead; `some` says whether one stands before them.
+-- Names, each behind its lead; `some` says whether one, or `#PCDATA`, stands before them.
 unfoldable pub leads : Bool → Bool → List (List ℕ) → List ℕ
 leads many some [] = []
 leads many some (x ∷ xs) = shown (leadByte many some) ++ (x ++ leads many true xs)
@@ -79,10 +80,22 @@ unfoldable pub factorsText : List (List ℕ) → ℕ → Chain → ℕ → ℕ �
 factorsText names n m i zero = []
 factorsText names n m i (suc r) = shown (beforeByte i) ++ (partText names n m i ++ factorsText names n m (suc i) r)
 
--- The model.
-unfoldable pub modelText : List (List ℕ) → ℕ → Chain → List ℕ
-modelText names n m = cond (eqb (m .count) 0) emptyWord (factorsText names n m 0 (m .count) ++ shown 41)
+-- A model without text.
+unfoldable pub bodyPart : List (List ℕ) → ℕ → Chain → List ℕ
+bodyPart names n m = cond (eqb (m .count) 0) emptyWord (factorsText names n m 0 (m .count) ++ shown 41)
+
+-- Behind `(#PCDATA` of a model with text: `)`, or the names of factor 0, each behind `|`, and `)*`.
+unfoldable pub mixedEnd : List (List ℕ) → ℕ → Chain → List ℕ
+mixedEnd names n m = cond (eqb (m .count) 0) (shown 41) (namesText names m 0 true true 0 n ++ (41 ∷ 42 ∷ []))
+
+-- A model with text.
+unfoldable pub mixedPart : List (List ℕ) → ℕ → Chain → List ℕ
+mixedPart names n m = (40 ∷ pcdataWord) ++ mixedEnd names n m
+
+-- The model, by its text byte.
+unfoldable pub contentPart : List (List ℕ) → ℕ → Model → List ℕ
+contentPart names n m = cond (eqb (m .text) 0) (bodyPart names n (m .chain)) (mixedPart names n (m .chain))
 
 -- The declaration, over n names.
-unfoldable pub textOf : List (List ℕ) → ℕ → ℕ → Chain → List ℕ
-textOf names n p m = (opening ++ (32 ∷ [])) ++ (nameAt names p ++ (shown 32 ++ (modelText names n m ++ shown 62)))
+unfoldable pub textOf : List (List ℕ) → ℕ → ℕ → Model → List ℕ
+textOf names n p m = (opening ++ (32 ∷ [])) ++ (nameAt names p ++ (shown 32 ++ (contentPart names n m ++ shown 62)))

@@ -63,26 +63,27 @@ pub fn put_name(buffer: &mut [u8], at: usize, bytes: &[u8], layout: Layout, x: u
     put_all(buffer, at, book_access::name_bytes(bytes, layout, x))
 }
 
-// The names of a set, rising, each behind its lead.
-fn put_names(
+// The names of a set, rising, each behind its lead; `some` says whether a name or `#PCDATA` stands before them.
+pub fn put_names(
     buffer: &mut [u8],
     at: usize,
     bytes: &[u8],
     layout: Layout,
     names: NameSet,
     many: bool,
+    some: bool,
 ) -> usize
-    requires { ⌜ LaidOut (now bytes) layout × (at + length (setText (namesIn (now bytes)) (layout .names) names many false) ≤ length (now buffer)) × MembersBelow (layout .names) names ⌝ }
-    ensures { λ r. ⌜ Put (now (buffer .entry)) at (setText (namesIn (now (bytes .entry))) (layout .names) names many false) r (now (buffer .exit)) ⌝ }
+    requires { ⌜ LaidOut (now bytes) layout × (at + length (setText (namesIn (now bytes)) (layout .names) names many some) ≤ length (now buffer)) × MembersBelow (layout .names) names ⌝ }
+    ensures { λ r. ⌜ Put (now (buffer .entry)) at (setText (namesIn (now (bytes .entry))) (layout .names) names many some) r (now (buffer .exit)) ⌝ }
 {
     let mut to = at;
-    let mut some = false;
+    let mut later = some;
     let mut left = names;
     while !left.is_empty() {
         let x = left.first();
-        to = put_some(buffer, to, lead(many, some));
+        to = put_some(buffer, to, lead(many, later));
         to = put_name(buffer, to, bytes, layout, x);
-        some = true;
+        later = true;
         left = left.rest();
     }
     to
@@ -102,7 +103,7 @@ pub fn put_factor(
     ensures { λ r. ⌜ Put (now (buffer .entry)) at (partText (namesIn (now (bytes .entry))) (layout .names) m i) r (now (buffer .exit)) ⌝ }
 {
     let many = !names.rest().is_empty();
-    let named = put_names(buffer, at, bytes, layout, names, many);
+    let named = put_names(buffer, at, bytes, layout, names, many, false);
     let closed = put_some(buffer, named, closing(many));
     put_some(buffer, closed, mark(mode_of(m, i)))
 }

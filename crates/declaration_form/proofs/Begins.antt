@@ -15,9 +15,9 @@ use lib.ListN.{length, getD, take, drop, length-drop, drop-of-length-le}
 use lib.Seq.{drop-cons, length-take-le}
 use borrow.Author.Tests.{eq-eqb, ne-eqb}
 use Rattle.declaration_spelling.specs.Token.{word}
-use Rattle.declaration_spelling.specs.House.{emptyWord}
+use Rattle.declaration_spelling.specs.House.{emptyWord, pcdataWord}
 use Rattle.declaration_spelling.specs.Cut.{same, strip}
-use Rattle.declaration_spelling.specs.Kind.{wordKind, emptyKind, tokenKind}
+use Rattle.declaration_spelling.specs.Kind.{wordKind, emptyKind, pcdataKind, tokenKind}
 use Rattle.declaration_spelling.proofs.Tests.{true-or-false, and-is, same-is}
 use Rattle.declaration_form.specs.Step.{begins}
 
@@ -62,17 +62,29 @@ module _ (s : List ℕ) (from to : ℕ) (h : from ≤ to) (k : to ≤ length s) 
   fit : to - from ≤ length (drop from s)
   fit = let e = length-drop from s in omega arith
 
-  -- a word of another length is not `EMPTY`
-  pub not-empty-word : (to - from ≡ 5 → ⊥) → wordKind ≡ tokenKind (word (take (to - from) (drop from s)))
-  unfolding emptyWord tokenKind
-  not-empty-word n = rw (other-size (to - from) (drop from s) emptyWord fit n)
+  -- a word of another length is another one
+  pub not-there : (v : List ℕ) → (to - from ≡ length v → ⊥) → false ≡ same (take (to - from) (drop from s)) v
+  not-there v n = sym (other-size (to - from) (drop from s) v fit n)
 
-  pub empty-word : to - from ≡ 5 → (b : Bool) → b ≡ begins emptyWord (drop from s) → cond b emptyKind wordKind ≡ tokenKind (word (take (to - from) (drop from s)))
-  unfolding emptyWord tokenKind
-  empty-word e b q =
-      let l : 5 ≤ length (drop from s) = (let z = fit in omega arith) in
-      let p : same (take 5 (drop from s)) emptyWord ≡ begins emptyWord (drop from s) = same-front emptyWord (drop from s) l in
-      rw (e, p, q)
+  pub there : (v : List ℕ) → to - from ≡ length v → (b : Bool) → b ≡ begins v (drop from s) → b ≡ same (take (to - from) (drop from s)) v
+  there v e b q =
+      let l : length v ≤ length (drop from s) = (let z = fit in omega arith) in
+      rw e (q ∙ sym (same-front v (drop from s) l))
+
+-- the kind of a word, by what it is
+module _ (w : List ℕ) (a : Bool) (p : a ≡ same w emptyWord) where
+  pub kind-empty : a ≡ true → emptyKind ≡ tokenKind (word w)
+  unfolding tokenKind
+  kind-empty e = rw (← p, e)
+
+  module _ (n : a ≡ false) (b : Bool) (q : b ≡ same w pcdataWord) where
+    pub kind-text : b ≡ true → pcdataKind ≡ tokenKind (word w)
+    unfolding tokenKind
+    kind-text e = rw (← p, n, ← q, e)
+
+    pub kind-word : b ≡ false → wordKind ≡ tokenKind (word w)
+    unfolding tokenKind
+    kind-word e = rw (← p, n, ← q, e)
 
 -- ---- the loop
 

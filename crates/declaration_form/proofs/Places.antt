@@ -10,12 +10,11 @@ use lib.Dec.{eqb}
 use lib.ListN.{length, getD, take, drop, drop-of-length-le}
 use lib.Seq.{drop-cons}
 use borrow.Author.Tests.{lt-ltb}
-use Rattle.name.specs.Rule.{isName}
 use Rattle.declaration_spelling.specs.Token.{Token}
 use Rattle.declaration_spelling.specs.House.{opening}
 use Rattle.declaration_spelling.specs.Cut.{Cut, atFront, cut}
 use Rattle.declaration_spelling.specs.Kind.{wordKind, tokenKind}
-use Rattle.declaration_walk.specs.Walk.{State, beforeParent, nowhere, step, numberOf, walk, isWord, kindFits, passes, accepts, acceptsRest, hasForm}
+use Rattle.declaration_walk.specs.Walk.{State, beforeParent, nowhere, step, numberOf, walk, isWord, kindFits, passes, mayStand, accepts, acceptsRest, hasForm}
 use Rattle.declaration_walk.proofs.Formed.{accepts-lost}
 use Rattle.declaration_bytes.specs.Unread.{nextOf}
 use Rattle.declaration_scan.specs.declared.Piece.{Piece}
@@ -31,7 +30,7 @@ use Rattle.declaration_form.proofs.Tokens.{here-word, here-on}
 -- a test that fails leads nowhere
 advanced : (state : State) (bw gap : Bool) (t : Token) (c : Cut) → accepts state bw gap (atFront t c .pieces) ≡ accepts (advance state bw gap t) (isWord t) (c .gap) (c .pieces)
 unfolding atFront accepts advance
-advanced state bw gap t c = go (kindFits bw gap (tokenKind t)) (passes isName t)
+advanced state bw gap t c = go (kindFits bw gap (tokenKind t)) (passes mayStand t)
   where
     go : (f g : Bool) → (f && (g && accepts (step state (tokenKind t)) (isWord t) (c .gap) (c .pieces))) ≡ accepts (cond (f && g) (step state (tokenKind t)) nowhere) (isWord t) (c .gap) (c .pieces)
     go true true = refl
@@ -58,7 +57,7 @@ piece-on s at p e h =
 
 module _ (s : List ℕ) (at : ℕ) (state : State) (bw : Bool) where
   -- behind the last token
-  pub walk-done : length s ≤ at → acceptsFrom s state bw at ≡ eqb (numberOf state) 13
+  pub walk-done : length s ≤ at → acceptsFrom s state bw at ≡ eqb (numberOf state) 18
   unfolding acceptsFrom accepts walk numberOf cut
   walk-done h = rw (drop-of-length-le s h)
 

@@ -9,12 +9,11 @@ use lib.Dec.{eqb}
 use lib.ListN.{length, getD, take, drop}
 use lib.Seq.{drop-cons}
 use Rattle.name.specs.Class.{between}
-use Rattle.name.specs.Rule.{isName}
 use Rattle.declaration_spelling.specs.Token.{Token, word}
-use Rattle.declaration_spelling.specs.House.{emptyWord}
+use Rattle.declaration_spelling.specs.House.{emptyWord, pcdataWord}
 use Rattle.declaration_spelling.specs.Cut.{same}
-use Rattle.declaration_spelling.specs.Kind.{wordKind, emptyKind, starKind, markKind, tokenKind}
-use Rattle.declaration_walk.specs.Walk.{isWord, kindFits, passes}
+use Rattle.declaration_spelling.specs.Kind.{wordKind, emptyKind, pcdataKind, starKind, markKind, tokenKind}
+use Rattle.declaration_walk.specs.Walk.{isWord, kindFits, passes, mayStand}
 use Rattle.declaration_bytes.specs.Unread.{nextOf}
 use Rattle.declaration_scan.specs.Kind.{kindOf}
 use Rattle.declaration_scan.specs.Piece.{tokenLength, wordEnd}
@@ -26,14 +25,15 @@ use Rattle.declaration_form.specs.Step.{tokenAt}
 abbrev Fits : ℕ → Token → List ℕ → Type 0
 Fits k t w = (bw gap : Bool) → kindFits bw gap k ≡ kindFits bw gap (tokenKind t)
 
--- white space before `EMPTY` is that before any word
+-- white space before `EMPTY` and `#PCDATA` is that before any word
 word-fits : (w : List ℕ) → Fits wordKind (word w) w
 unfolding kindFits between tokenKind
-word-fits w bw gap = go (same w emptyWord)
+word-fits w bw gap = go (same w emptyWord) (same w pcdataWord)
   where
-    go : (b : Bool) → kindFits bw gap wordKind ≡ kindFits bw gap (cond b emptyKind wordKind)
-    go true = refl
-    go false = refl
+    go : (a b : Bool) → kindFits bw gap wordKind ≡ kindFits bw gap (cond a emptyKind (cond b pcdataKind wordKind))
+    go true b = refl
+    go false true = refl
+    go false false = refl
 
 each-fits : EachKind Fits
 unfolding tokenKind markKind
@@ -60,7 +60,7 @@ each-bytes : EachKind Bytes
 each-bytes w b = (λ e. refl, λ e. cc, λ e. cc, λ e. cc, λ e. cc, λ e. cc, λ e. cc, λ e. cc, λ e. cc, λ e. cc)
 
 abbrev Signed : ℕ → Token → List ℕ → Type 0
-Signed k t w = (k ≡ wordKind → ⊥) → (k ≡ tokenKind t) × (passes isName t ≡ true)
+Signed k t w = (k ≡ wordKind → ⊥) → (k ≡ tokenKind t) × (passes mayStand t ≡ true)
 
 each-signed : EachKind Signed
 unfolding tokenKind markKind passes
@@ -102,7 +102,7 @@ module _ (s : List ℕ) (kind from to : ℕ) (is : kind ≡ kindOf (nextOf (drop
   pub here-bytes : kind ≡ wordKind → tokenAt s from ≡ word (take (to - from) (drop from s))
   here-bytes = here Bytes each-bytes
 
-  pub here-sign : (kind ≡ wordKind → ⊥) → (kind ≡ tokenKind (tokenAt s from)) × (passes isName (tokenAt s from) ≡ true)
+  pub here-sign : (kind ≡ wordKind → ⊥) → (kind ≡ tokenKind (tokenAt s from)) × (passes mayStand (tokenAt s from) ≡ true)
   here-sign = here Signed each-signed
 
   -- a token has a byte

@@ -7,11 +7,10 @@ use mathlib.Core.Bool.{Bool, true, false, cond, _&&_}
 use mathlib.Core.List.{List, [], _∷_}
 use lib.Dec.{eqb}
 use lib.ListN.{length, take, drop}
-use Rattle.name.specs.Rule.{isName}
 use Rattle.declaration_spelling.specs.Token.{Token}
 use Rattle.declaration_spelling.specs.Cut.{cut}
 use Rattle.declaration_spelling.specs.Kind.{tokenKind}
-use Rattle.declaration_walk.specs.Walk.{State, nowhere, step, kindFits, passes, accepts}
+use Rattle.declaration_walk.specs.Walk.{State, nowhere, step, kindFits, passes, mayStand, accepts}
 use Rattle.declaration_bytes.specs.Unread.{nextOf}
 use Rattle.declaration_scan.specs.declared.Piece.{Piece}
 use Rattle.declaration_scan.specs.Kind.{kindOf}
@@ -27,9 +26,9 @@ begins (a ∷ as′) (b ∷ bs) = eqb a b && begins as′ bs
 unfoldable pub tokenAt : List ℕ → ℕ → Token
 tokenAt text from = tokenOf (take (tokenLength (drop from text)) (drop from text))
 
--- The state behind a token: nowhere if its white space does not fit or a word breaks the rule for names.
+-- The state behind a token: nowhere if its white space does not fit or a word is neither `#PCDATA` nor a name.
 unfoldable pub advance : State → Bool → Bool → Token → State
-advance state behindWord gap t = cond (kindFits behindWord gap (tokenKind t) && passes isName t) (step state (tokenKind t)) nowhere
+advance state behindWord gap t = cond (kindFits behindWord gap (tokenKind t) && passes mayStand t) (step state (tokenKind t)) nowhere
 
 -- A piece of the text: its kind and its end are those of the token where it begins.
 abbrev pub Stands : List ℕ → Piece → Type 0

@@ -1,5 +1,6 @@
 // Whether a text has the form of a declaration: one walk along its tokens.
 use declaration_scan::EMPTY;
+use declaration_scan::PCDATA;
 use declaration_scan::Piece;
 use declaration_scan::WORD;
 use declaration_states::BEFORE_PARENT;
@@ -15,8 +16,9 @@ ghost use Prim.Native.Nat.{_-_, _≤_, _<_};
 ghost use lib.ListN.{length, take, drop};
 ghost use Rattle.name.specs.Class.{classTable};
 ghost use Rattle.declaration_spelling.specs.Token.{word};
-ghost use Rattle.declaration_spelling.specs.Kind.{emptyKind, tokenKind};
-ghost use Rattle.declaration_walk.specs.Walk.{beforeParent, lastState, stateOf, hasForm};
+ghost use Rattle.declaration_spelling.specs.Cut.{same};
+ghost use Rattle.declaration_spelling.specs.Kind.{pcdataKind, tokenKind};
+ghost use Rattle.declaration_walk.specs.Walk.{beforeParent, lastState, stateOf, mayStand, hasForm};
 ghost use Rattle.declaration_states.specs.Table.{table};
 ghost use Rattle.declaration_form.specs.Step.{begins, tokenAt, advance, Stands, acceptsFrom};
 
@@ -38,19 +40,40 @@ fn begins_at(text: &[u8], at: usize, bytes: &[u8]) -> bool
     true
 }
 
-// The kind of a word.
-fn word_kind(text: &[u8], from: usize, to: usize) -> u8
+// Whether these bytes stand from one place up to another.
+fn stands_at(text: &[u8], from: usize, to: usize, bytes: &[u8]) -> bool
     requires { ⌜ (from ≤ to) × (to ≤ length (now text)) ⌝ }
-    ensures { λ r. ⌜ (r ≡ tokenKind (word (take (to - from) (drop from (now (text .entry)))))) × (r ≤ emptyKind) ⌝ }
+    ensures { λ r. ⌜ r ≡ same (take (to - from) (drop from (now (text .entry)))) (now (bytes .entry)) ⌝ }
 {
-    if to - from != 5 {
-        return WORD;
+    if to - from != bytes.len() {
+        return false;
     }
-    if begins_at(text, from, b"EMPTY") {
-        EMPTY
-    } else {
-        WORD
+    begins_at(text, from, bytes)
+}
+
+// The kind of a word.
+pub fn word_kind(text: &[u8], from: usize, to: usize) -> u8
+    requires { ⌜ (from ≤ to) × (to ≤ length (now text)) ⌝ }
+    ensures { λ r. ⌜ (r ≡ tokenKind (word (take (to - from) (drop from (now (text .entry)))))) × (r ≤ pcdataKind) ⌝ }
+{
+    if stands_at(text, from, to, b"EMPTY") {
+        return EMPTY;
     }
+    if stands_at(text, from, to, b"#PCDATA") {
+        return PCDATA;
+    }
+    WORD
+}
+
+// Whether a word of this kind is `#PCDATA` or a name, by the table of classes.
+fn may_stand(classes: &[u8; 256], text: &[u8], from: usize, to: usize, kind: u8) -> bool
+    requires { ⌜ (now classes ≡ classTable) × (from ≤ to) × (to ≤ length (now text)) × (kind ≡ tokenKind (word (take (to - from) (drop from (now text))))) ⌝ }
+    ensures { λ r. ⌜ r ≡ mayStand (take (to - from) (drop from (now (text .entry)))) ⌝ }
+{
+    if kind == PCDATA {
+        return true;
+    }
+    good_word(classes, text, from, to)
 }
 
 // The state behind a token, by the table of states and that of classes.
@@ -73,10 +96,11 @@ fn step(
     }
     let from = piece.from;
     let to = piece.to;
-    if !good_word(classes, text, from, to) {
+    let kind = word_kind(text, from, to);
+    if !may_stand(classes, text, from, to, kind) {
         return NOWHERE;
     }
-    next_state(states, state, word_kind(text, from, to))
+    next_state(states, state, kind)
 }
 
 // Whether the walk from a place on, before the parent and behind a word, ends behind `>` and at the end of the text.

@@ -15,9 +15,10 @@ use lib.Seq.{drop-cons}
 use borrow.Author.Tests.{ne-eqb, lt-ltb}
 use Rattle.refusal.specs.declared.Refusal.the-variants.{NotADeclaration, UnknownName}
 use Rattle.refusal.specs.Answer.{Answer, refused, refuseIf}
-use Rattle.declaration_spelling.specs.Token.{isSpace, Token}
-use Rattle.declaration_spelling.specs.Cut.{Cut, atFront, cut, tokens}
-use Rattle.declaration_spelling.specs.Kind.{otherKind, wordKind, commaKind}
+use Rattle.declaration_spelling.specs.Token.{isSpace, Token, word}
+use Rattle.declaration_spelling.specs.House.{emptyWord, pcdataWord}
+use Rattle.declaration_spelling.specs.Cut.{same, Cut, atFront, cut, tokens}
+use Rattle.declaration_spelling.specs.Kind.{otherKind, wordKind, emptyKind, pcdataKind, commaKind, barKind, markKind, tokenKind}
 use Rattle.declaration_spelling.specs.Read.{known, numberFor, Declared}
 use Rattle.declaration_walk.specs.Walk.{isWord, passes, allPass}
 use Rattle.declaration_bytes.specs.Unread.{nextOf, runOf}
@@ -26,8 +27,8 @@ use Rattle.declaration_scan.specs.Piece.{tokenLength, wordEnd, spaceEnd, pieceA
 use Rattle.declaration_scan.proofs.Signs.{end-kind}
 use Rattle.declaration_scan.proofs.Pieces.{piece-over, piece-first}
 use Rattle.declaration_scan.proofs.ByKind.{EachKind, front, token-some, by-kind}
-use Rattle.declaration_walk.specs.Gather.{knownTokens, Rows, isFree, withName, nextFactor, withMode, takeToken, andThen, gatherFrom, beginsWithWord, contentAnswer, tokensAnswer}
-use Rattle.declaration_reading.specs.Place.{tokensAt, partOf, knownKind, kindMode, takeKind, freeAt, freeKind, factorAfter, modeAfter, indexAfter}
+use Rattle.declaration_walk.specs.Gather.{knownTokens, Rows, isFree, withName, nextFactor, withMode, takeToken, andThen, gatherFrom, beginsWithWord, beginsWith, contentAnswer, tokensAnswer}
+use Rattle.declaration_reading.specs.Place.{tokensAt, partOf, knownKind, textKind, kindMode, takeKind, freeAt, freeKind, factorAfter, modeAfter, indexAfter}
 
 -- nothing is left, or a token and what stands behind it
 abbrev Next : List ℕ → ℕ → Type 0
@@ -137,6 +138,59 @@ word-next s at = go (next-is s at)
     go : Next s at → beginsWithWord (tokensAt s at) ≡ eqb (pieceAt s at .kind) wordKind
     go (inl (k, e, f)) = rw (k, e)
     go (inr (b, bs, k, e, f)) = rw (k, e) (token-kind isWord (λ kind w. eqb kind wordKind) word-agrees b bs)
+
+text-agrees : Agree (λ t. eqb (tokenKind t) pcdataKind) textKind
+unfolding textKind tokenKind markKind
+text-agrees w b = (refl, refl, refl, refl, refl, refl, refl, refl, refl, refl)
+
+text-end : (w : List ℕ) → false ≡ textKind otherKind w
+unfolding textKind
+text-end w = refl
+
+pub text-next : (s : List ℕ) (at : ℕ) → beginsWith pcdataKind (tokensAt s at) ≡ textKind (pieceAt s at .kind) (partOf s (pieceAt s at .from) (pieceAt s at .to))
+unfolding beginsWith
+text-next s at = go (next-is s at)
+  where
+    go : Next s at → beginsWith pcdataKind (tokensAt s at) ≡ textKind (pieceAt s at .kind) (partOf s (pieceAt s at .from) (pieceAt s at .to))
+    go (inl (k, e, f)) = rw (k, e) (text-end (partOf s (pieceAt s at .from) (pieceAt s at .to)))
+    go (inr (b, bs, k, e, f)) = rw (k, e, f) (token-kind (λ t. eqb (tokenKind t) pcdataKind) textKind text-agrees b bs)
+
+-- no word is a bar
+word-no-bar : (w : List ℕ) → eqb (tokenKind (word w)) barKind ≡ false
+unfolding tokenKind
+word-no-bar w = go (same w emptyWord) (same w pcdataWord)
+  where
+    go : (a b : Bool) → eqb (cond a emptyKind (cond b pcdataKind wordKind)) barKind ≡ false
+    go true b = refl
+    go false true = refl
+    go false false = refl
+
+bar-agrees : Agree (λ t. eqb (tokenKind t) barKind) (λ kind w. eqb kind barKind)
+unfolding tokenKind markKind
+bar-agrees w b = (word-no-bar w, refl, refl, refl, refl, refl, refl, refl, refl, refl)
+
+pub bar-next : (s : List ℕ) (at : ℕ) → beginsWith barKind (tokensAt s at) ≡ eqb (pieceAt s at .kind) barKind
+unfolding beginsWith
+bar-next s at = go (next-is s at)
+  where
+    go : Next s at → beginsWith barKind (tokensAt s at) ≡ eqb (pieceAt s at .kind) barKind
+    go (inl (k, e, f)) = rw (k, e)
+    go (inr (b, bs, k, e, f)) = rw (k, e) (token-kind (λ t. eqb (tokenKind t) barKind) (λ kind w. eqb kind barKind) bar-agrees b bs)
+
+-- the tokens behind the first, and behind the second
+pub one-on : (s : List ℕ) (at : ℕ) → drop 1 (tokensAt s at) ≡ tokensAt s (pieceAt s at .to)
+one-on s at = go (next-is s at)
+  where
+    go : Next s at → drop 1 (tokensAt s at) ≡ tokensAt s (pieceAt s at .to)
+    go (inl (k, e, f)) = rw (e, f)
+    go (inr (b, bs, k, e, f)) = rw e
+
+pub two-on : (s : List ℕ) (at : ℕ) → drop 2 (tokensAt s at) ≡ drop 1 (tokensAt s (pieceAt s at .to))
+two-on s at = go (next-is s at)
+  where
+    go : Next s at → drop 2 (tokensAt s at) ≡ drop 1 (tokensAt s (pieceAt s at .to))
+    go (inl (k, e, f)) = rw (e, f)
+    go (inr (b, bs, k, e, f)) = rw e
 
 -- the answer by the first token of a declaration, its parent, and the tokens behind it
 abbrev answerBy : ℕ → List (List ℕ) → List Token → ℕ → List ℕ → Answer Declared

@@ -13,8 +13,8 @@ use lib.ListN.{length, getD, set, take, drop, replicate, length-set}
 use borrow.Author.Tests.{ne-eqb, eqb-true, ltb-true}
 use Rattle.refusal.specs.declared.Refusal.{Refusal}
 use Rattle.refusal.specs.declared.Refusal.the-variants.{NotADeclaration, UnknownName}
-use Rattle.refusal.specs.declared.Outcome.the-variants.{Done, Refused}
-use Rattle.refusal.specs.Answer.{refused, refuseIf}
+use Rattle.refusal.specs.declared.Outcome.the-variants.{Refused}
+use Rattle.refusal.specs.Answer.{given, refused, refuseIf}
 use Rattle.nameset.specs.Places.{places}
 use Rattle.book.specs.declared.Layout.{Layout}
 use Rattle.book.specs.declared.Found.{Found}
@@ -22,19 +22,21 @@ use Rattle.book.specs.declared.Found.the-variants.{At, Nothing}
 use Rattle.book.specs.Book.{namesIn}
 use Rattle.book.specs.Access.{LaidOut, numberIn}
 use Rattle.model.specs.declared.Chain.{Chain}
-use Rattle.model.specs.Record.{noFactor, emptyChain}
+use Rattle.model.specs.declared.Model.{Model}
+use Rattle.model.specs.Record.{noFactor, modelWith, emptyChain, emptyModel}
 use Rattle.declaration_scan.specs.declared.Piece.{Piece}
 use Rattle.declaration_scan.specs.Piece.{pieceAt}
-use Rattle.declaration_spelling.specs.Kind.{wordKind, commaKind}
-use Rattle.declaration_spelling.specs.Read.{known, numberFor}
+use Rattle.declaration_spelling.specs.Kind.{wordKind, pcdataKind, commaKind, barKind, tokenKind}
+use Rattle.declaration_spelling.specs.Token.{word}
+use Rattle.declaration_spelling.specs.Read.{known, numberFor, declared}
 use Rattle.declaration_spelling.proofs.Names.{number-is}
 use Rattle.declaration_spelling.proofs.Books.{few}
 use Rattle.declaration_walk.specs.Walk.{allPass}
-use Rattle.declaration_walk.specs.Gather.{knownTokens, Rows, startRows, andThen, gatherFrom, modelOf, factorsAnswer, beginsWithWord, contentAnswer, tokensAnswer}
+use Rattle.declaration_walk.specs.Gather.{knownTokens, Rows, startRows, andThen, gatherFrom, modelOf, factorsAnswer, beginsWithWord, beginsWith, mixedAnswer, contentAnswer, tokensAnswer}
 use Rattle.declaration_reading.specs.declared.Declaration.{Declaration}
-use Rattle.declaration_reading.specs.Place.{tokensAt, partOf, knownKind, numberAt, kindMode, takeKind, freeAt, freeKind, factorAfter, modeAfter, indexAfter}
+use Rattle.declaration_reading.specs.Place.{tokensAt, partOf, knownKind, numberAt, textKind, kindMode, takeKind, freeAt, freeKind, factorAfter, modeAfter, indexAfter}
 use Rattle.declaration_reading.specs.Read.{parentDue, modelDue, declarationOf, twiceOrUnknown}
-use Rattle.declaration_reading.proofs.Places.{tokens-over, piece-order, piece-onward, known-next, take-next, word-next, answer-next, take-rows}
+use Rattle.declaration_reading.proofs.Places.{tokens-over, piece-order, piece-onward, known-next, take-next, word-next, text-next, bar-next, one-on, two-on, answer-next, take-rows}
 
 -- ---- names by the book
 
@@ -215,38 +217,77 @@ unfolding left gatherFrom
 left-over names s i index factor mode h = rw (tokens-over s i h)
 
 -- what the walk has come to at i: the words passed are known, and the rows are filled
-module _ (names : List (List ℕ)) (s : List ℕ) (at parent i index : ℕ) (factor mode : List ℕ) (knowns : knownTokens names (tokensAt s at) ≡ knownTokens names (tokensAt s i))
+module _ (names : List (List ℕ)) (s : List ℕ) (at parent mixed i index : ℕ) (factor mode : List ℕ) (knowns : knownTokens names (tokensAt s at) ≡ knownTokens names (tokensAt s i))
     (inv : gatherFrom places names (tokensAt s at) (startRows places) ≡ left names s i index factor mode) where
-  pub factors-done : length s ≤ i → record { outcome = Done; parent = parent; model = record { count = index + 1; factor = factor; mode = mode } } ≡ declarationOf (factorsAnswer places names parent (tokensAt s at))
-  unfolding factorsAnswer declarationOf parentDue modelDue modelOf
-  factors-done h = rw (knowns ∙ sym (known-over names s i h), inv ∙ left-over names s i index factor mode h, add-one) refl
+  pub factors-done : length s ≤ i → (r : Declaration) → r ≡ declarationOf (given (declared parent (modelWith record { count = index + 1; factor = factor; mode = mode } mixed)))
+      → r ≡ declarationOf (factorsAnswer places names parent mixed (tokensAt s at))
+  unfolding factorsAnswer modelOf
+  factors-done h r q = rw (knowns ∙ sym (known-over names s i h), inv ∙ left-over names s i index factor mode h, ← add-one) q
 
-  pub factors-unknown : (r : Declaration) → false ≡ knownTokens names (tokensAt s i) → r ≡ declarationOf (refused UnknownName) → r ≡ declarationOf (factorsAnswer places names parent (tokensAt s at))
+  pub factors-unknown : (r : Declaration) → false ≡ knownTokens names (tokensAt s i) → r ≡ declarationOf (refused UnknownName) → r ≡ declarationOf (factorsAnswer places names parent mixed (tokensAt s at))
   unfolding factorsAnswer
   factors-unknown r e q = rw (knowns ∙ sym e) q
 
-  pub factors-twice : (r : Declaration) (b : Bool) → knownTokens names (tokensAt s i) ≡ b → left names s i index factor mode ≡ none → r ≡ declarationOf (refused (twiceOrUnknown b)) → r ≡ declarationOf (factorsAnswer places names parent (tokensAt s at))
+  pub factors-twice : (r : Declaration) (b : Bool) → knownTokens names (tokensAt s i) ≡ b → left names s i index factor mode ≡ none → r ≡ declarationOf (refused (twiceOrUnknown b)) → r ≡ declarationOf (factorsAnswer places names parent mixed (tokensAt s at))
   unfolding factorsAnswer twiceOrUnknown
   factors-twice r true e n q = rw (knowns ∙ e, inv ∙ n) q
   factors-twice r false e n q = rw (knowns ∙ e) q
 
 -- ---- the model
 
-pub refused-is : (f : Refusal) (m : Chain) → m ≡ emptyChain places → record { outcome = Refused f; parent = 0; model = m } ≡ declarationOf (refused f)
+pub refused-is : (f : Refusal) (m : Model) → m ≡ emptyModel places → record { outcome = Refused f; parent = 0; model = m } ≡ declarationOf (refused f)
 unfolding declarationOf parentDue modelDue
 refused-is f m e = rw e
 
+-- `#PCDATA`, by the kind of a piece and by the kind of its word
+pub text-sign : (kind : ℕ) (w : List ℕ) → (kind ≡ wordKind → ⊥) → false ≡ textKind kind w
+unfolding textKind
+text-sign kind w d = rw (ne-eqb kind wordKind d)
+
+pub text-word : (kind k : ℕ) (s : List ℕ) (from to : ℕ) → kind ≡ wordKind → k ≡ tokenKind (word (take (to - from) (drop from s))) → eqb k pcdataKind ≡ textKind kind (partOf s from to)
+unfolding textKind partOf
+text-word kind k s from to e q = rw (e, q)
+
 module _ (names : List (List ℕ)) (s : List ℕ) (at parent : ℕ) (p : Piece) (is : p ≡ pieceAt s at) where
+  bar-at : beginsWith barKind (tokensAt s at) ≡ eqb (p .kind) barKind
+  bar-at = rw is (bar-next s at)
+
+  -- behind `(#PCDATA`
+  pub mixed-names : p .kind ≡ barKind → (r : Declaration) → r ≡ declarationOf (factorsAnswer places names parent 1 (tokensAt s at)) → r ≡ declarationOf (mixedAnswer places names parent (tokensAt s at))
+  unfolding mixedAnswer
+  mixed-names e r q = rw (bar-at, e) q
+
+  pub mixed-none : (p .kind ≡ barKind → ⊥) → (c : Chain) → c ≡ emptyChain places → (r : Declaration) → r ≡ declarationOf (given (declared parent (modelWith c 1))) → r ≡ declarationOf (mixedAnswer places names parent (tokensAt s at))
+  unfolding mixedAnswer
+  mixed-none d c e r q = rw (bar-at, ne-eqb (p .kind) barKind d, ← e) q
+
   word-at : beginsWithWord (tokensAt s at) ≡ eqb (p .kind) wordKind
   word-at = rw is (word-next s at)
 
-  pub model-empty : (m : Chain) → p .kind ≡ wordKind → m ≡ emptyChain places → record { outcome = Done; parent = parent; model = m } ≡ declarationOf (contentAnswer places names parent (tokensAt s at))
-  unfolding contentAnswer declarationOf parentDue modelDue
-  model-empty m e q = rw (word-at, e, q) refl
-
-  pub model-factors : (p .kind ≡ wordKind → ⊥) → (r : Declaration) → r ≡ declarationOf (factorsAnswer places names parent (tokensAt s at)) → r ≡ declarationOf (contentAnswer places names parent (tokensAt s at))
+  pub model-empty : p .kind ≡ wordKind → (c : Chain) → c ≡ emptyChain places → (r : Declaration) → r ≡ declarationOf (given (declared parent (modelWith c 0))) → r ≡ declarationOf (contentAnswer places names parent (tokensAt s at))
   unfolding contentAnswer
-  model-factors d r q = rw (word-at, ne-eqb (p .kind) wordKind d) q
+  model-empty e c z r q = rw (word-at, e, ← z) q
+
+  -- the piece behind the bracket
+  module _ (d : p .kind ≡ wordKind → ⊥) (f : Piece) (first : f ≡ pieceAt s (p .to)) (b : Bool) (told : b ≡ textKind (f .kind) (partOf s (f .from) (f .to))) where
+    behind-one : drop 1 (tokensAt s at) ≡ tokensAt s (p .to)
+    behind-one = rw is (one-on s at)
+
+    behind-two : drop 2 (tokensAt s at) ≡ tokensAt s (f .to)
+    behind-two =
+        let e : drop 2 (tokensAt s at) ≡ drop 1 (tokensAt s (p .to)) = rw is (two-on s at) in
+        e ∙ (rw first (one-on s (p .to)))
+
+    text-at : beginsWith pcdataKind (drop 1 (tokensAt s at)) ≡ b
+    text-at = ap (beginsWith pcdataKind) behind-one ∙ (rw (told, first) (text-next s (p .to)))
+
+    pub model-text : b ≡ true → (r : Declaration) → r ≡ declarationOf (mixedAnswer places names parent (tokensAt s (f .to))) → r ≡ declarationOf (contentAnswer places names parent (tokensAt s at))
+    unfolding contentAnswer
+    model-text e r q = rw (word-at, ne-eqb (p .kind) wordKind d, text-at, e, behind-two) q
+
+    pub model-factors : b ≡ false → (r : Declaration) → r ≡ declarationOf (factorsAnswer places names parent 0 (tokensAt s at)) → r ≡ declarationOf (contentAnswer places names parent (tokensAt s at))
+    unfolding contentAnswer
+    model-factors e r q = rw (word-at, ne-eqb (p .kind) wordKind d, text-at, e) q
 
 -- ---- the parent
 

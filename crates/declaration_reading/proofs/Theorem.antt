@@ -19,9 +19,9 @@ use Rattle.book.specs.Book.{Book}
 use Rattle.book.specs.Taken.{takenBook, TakenAs}
 use Rattle.book.proofs.Taken.{taken-law, good-parent}
 use Rattle.book.proofs.Onward.{book-given, book-later, book-first, book-or-later}
-use Rattle.model.specs.declared.Chain.{Chain}
-use Rattle.model.specs.Record.{IsChain, emptyChain}
-use Rattle.model.proofs.ChainLaw.{chain-law}
+use Rattle.model.specs.declared.Model.{Model}
+use Rattle.model.specs.Record.{IsModel, emptyModel}
+use Rattle.model.proofs.ModelLaw.{model-law}
 use Rattle.declaration_spelling.specs.House.{declaration}
 use Rattle.declaration_spelling.specs.Length.{longestDeclaration}
 use Rattle.declaration_spelling.specs.Spelled.{Spelled}
@@ -66,7 +66,7 @@ module _ (s text : List ℕ) where
       let h = book-later s next f l in
       (λ e. let (b, q, g) = h .0 e in (b, q, law (b .names) (good b q) .0 g), λ (b, q, c). h .1 (b, q, law (b .names) (good b q) .1 c))
 
-  -- 1 to 7: the bytes are not taken, for this reason.
+  -- 1 to 7, 16: the bytes are not taken, for this reason.
   pub text-book-refused : (f : Refusal) → ofBook f ≡ true → (readAnswer s text ≡ refused f) ↔ (takenBook s ≡ refused f)
   unfolding readAnswer next
   text-book-refused f l = book-first s next f l (λ b q e. text-late f (Text.refused-only places (b .names) (good b q) text f e))
@@ -91,23 +91,23 @@ module _ (s text : List ℕ) where
       by-book NameTwice refl (λ names. (d : Form) × HasForm text d × ((x : List ℕ) → List·Memᴰ x (formNames d) → List·Memᴰ x names) × Twice (modelNames (d .factors)))
       (λ names G. Text.refused-15 places names G text)
 
-  -- No refusal but 1 to 7, 13, 14 and 15 is given.
+  -- No refusal but 1 to 7, 16, 13, 14 and 15 is given.
   pub refused-only : (f : Refusal) → readAnswer s text ≡ refused f → (ofBook f ≡ true) ⊎ OfText f
   unfolding readAnswer next
   refused-only f e = ⊎-elim inl (λ (b, q, h). inr (Text.refused-only places (b .names) (good b q) text f h)) (book-or-later s next f e)
 
 -- ---- demand 2, declarations
 
--- a chain of a parent that the book has is written
-written-for : (s : List ℕ) (b : Book) → TakenAs s b → (p : ℕ) (m : Chain) (room : ℕ) → p < length (b .names) → IsChain places (length (b .names)) m → longestDeclaration ≤ room →
+-- a model of a parent that the book has is written
+written-for : (s : List ℕ) (b : Book) → TakenAs s b → (p : ℕ) (m : Model) (room : ℕ) → p < length (b .names) → IsModel places (length (b .names)) m → longestDeclaration ≤ room →
     writeAnswer s p m room ≡ given (declaration (b .names) p m)
 unfolding writeAnswer writeIn fitted
 written-for s b q p m room l c h =
     let k = declaration-short s b (taken-law s b .0 q) p m l c in
-    rw (q, good-parent b p .1 l, chain-law places (length (b .names)) m .1 c, le-ltb room (length (declaration (b .names) p m)) (omega arith))
+    rw (q, good-parent b p .1 l, model-law places (length (b .names)) m .1 c, le-ltb room (length (declaration (b .names) p m)) (omega arith))
 
 module _ (s text : List ℕ) (r : Declaration) (call : ReadsDeclaration s text r) where
-  answered : (p : ℕ) (m : Chain) → Reads r p m → readAnswer s text ≡ given (declared p m)
+  answered : (p : ℕ) (m : Model) → Reads r p m → readAnswer s text ≡ given (declared p m)
   unfolding parentDue modelDue
   answered p m (o, a, b) =
       let (d, e) = outcome-given (readAnswer s text) .0 (sym (call .outcome) ∙ o) in
@@ -115,12 +115,12 @@ module _ (s text : List ℕ) (r : Declaration) (call : ReadsDeclaration s text r
       let y : d .model ≡ m = sym (call .model ∙ ap modelDue e) ∙ b in
       e ∙ (λ i. given (declared (x i) (y i)))
 
-  answers : (p : ℕ) (m : Chain) → readAnswer s text ≡ given (declared p m) → Reads r p m
+  answers : (p : ℕ) (m : Model) → readAnswer s text ≡ given (declared p m) → Reads r p m
   unfolding parentDue modelDue
   answers p m e = (call .outcome ∙ ap outcomeOf e, call .parent ∙ ap parentDue e, call .model ∙ ap modelDue e)
 
   -- A text is read exactly when it is a spelling of the declaration that is then written for what was read.
-  pub read-exactly : (p : ℕ) (m : Chain) → Reads r p m ↔ ((b : Book) × TakenAs s b × Spelled places (b .names) text p m)
+  pub read-exactly : (p : ℕ) (m : Model) → Reads r p m ↔ ((b : Book) × TakenAs s b × Spelled places (b .names) text p m)
   unfolding readAnswer next
   read-exactly p m =
       let h = book-given s (next s text) (declared p m) in (
@@ -133,23 +133,23 @@ module _ (s text : List ℕ) (r : Declaration) (call : ReadsDeclaration s text r
       (b : Book) × TakenAs s b × (writeAnswer s (r .parent) (r .model) room ≡ given (declaration (b .names) (r .parent) (r .model)))
   read-writes room l o =
       let (b, q, S) = read-exactly (r .parent) (r .model) .0 (o, refl, refl) in
-      (b, q, written-for s b q (r .parent) (r .model) room (S .parent) (S .chain) l)
+      (b, q, written-for s b q (r .parent) (r .model) room (S .parent) (S .model) l)
 
   -- A refused call answers parent 0 and the empty model.
-  pub refused-due : (f : Refusal) → r .outcome ≡ Refused f → (r .parent ≡ 0) × (r .model ≡ emptyChain places)
+  pub refused-due : (f : Refusal) → r .outcome ≡ Refused f → (r .parent ≡ 0) × (r .model ≡ emptyModel places)
   unfolding parentDue modelDue
   refused-due f o =
       let e = outcome-refused (readAnswer s text) f .0 (sym (call .outcome) ∙ o) in
       (call .parent ∙ ap parentDue e, call .model ∙ ap modelDue e)
 
 -- What was written reads back as the same parent and record.
-pub read-written : (s : List ℕ) (p : ℕ) (m : Chain) (room : ℕ) (text : List ℕ) → writeAnswer s p m room ≡ given text → (r : Declaration) → ReadsDeclaration s text r → Reads r p m
+pub read-written : (s : List ℕ) (p : ℕ) (m : Model) (room : ℕ) (text : List ℕ) → writeAnswer s p m room ≡ given text → (r : Declaration) → ReadsDeclaration s text r → Reads r p m
 unfolding readAnswer next
 read-written s p m room text e r call =
     let g = text-given s p m room text e in
     let b = g .book in
     let back : textAnswer places (b .names) text ≡ given (declared p m) =
-    ap (textAnswer places (b .names)) (g .same) ∙ Spelling.read-written places (b .names) (good s text b (g .read)) p m (g .below) (g .chain) in
+    ap (textAnswer places (b .names)) (g .same) ∙ Spelling.read-written places (b .names) (good s text b (g .read)) p m (g .below) (g .model) in
     answers s text r call p m (book-given s (next s text) (declared p m) .1 (b, g .read, back))
 
 -- Reading, writing and reading again changes nothing.

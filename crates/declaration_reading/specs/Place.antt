@@ -1,18 +1,18 @@
 -- A means: the traversal of crate `declaration_walk` that fills the record, by places of the text: the tokens from a
 -- place on, and what a token is by its kind and its bytes. The functions of this crate promise it; `known-next`,
--- `take-next` and `answer-next` in proofs/Places.antt join it to that traversal.
+-- `take-next`, `text-next` and `answer-next` in proofs/Places.antt join it to that traversal.
 -- Assumes nothing.
 use Prim.Native.Nat.{ℕ, zero, suc, _-_}
-use mathlib.Core.Bool.{Bool, true, cond}
+use mathlib.Core.Bool.{Bool, true, false, cond}
 use mathlib.Core.List.{List}
 use mathlib.Core.Option.{Option, some}
 use lib.Dec.{eqb}
 use lib.ListN.{getD, set, take, drop}
 use Rattle.nameset.specs.Places.{places}
 use Rattle.model.specs.Record.{noFactor}
-use Rattle.declaration_spelling.specs.Token.{Token}
+use Rattle.declaration_spelling.specs.Token.{Token, word}
 use Rattle.declaration_spelling.specs.Cut.{cut, tokens}
-use Rattle.declaration_spelling.specs.Kind.{wordKind, commaKind, questionKind, plusKind, starKind}
+use Rattle.declaration_spelling.specs.Kind.{wordKind, pcdataKind, commaKind, questionKind, plusKind, starKind, tokenKind}
 use Rattle.declaration_spelling.specs.Read.{known, numberFor}
 use Rattle.declaration_walk.specs.Gather.{Rows, withName, nextFactor, withMode}
 
@@ -31,6 +31,10 @@ knownKind names kind bytes = cond (eqb kind wordKind) (known names bytes) true
 -- The number of a word by the book, `places` where it is no name of it; 0 for what is no word.
 unfoldable pub numberAt : List (List ℕ) → ℕ → List ℕ → ℕ
 numberAt names kind bytes = cond (eqb kind wordKind) (cond (known names bytes) (numberFor names bytes) places) 0
+
+-- The word `#PCDATA`.
+unfoldable pub textKind : ℕ → List ℕ → Bool
+textKind kind bytes = cond (eqb kind wordKind) (eqb (tokenKind (word bytes)) pcdataKind) false
 
 -- The mode that a mark stands for, 0 for what is no mark.
 unfoldable pub kindMode : ℕ → ℕ

@@ -1,6 +1,6 @@
--- A means: what the call that reads a declaration answers: 1 to 7, 13, 14, 15, in this order, else the parent and the
--- record. `read-refusals` and `read-exactly` in crates/demands/proofs/Demands.antt say what that is. To be believed is
--- `Reads`.
+-- A means: what the call that reads a declaration answers: 1 to 7, 16, then 13, 14, 15, in this order, else the parent
+-- and the record. `read-refusals` and `read-exactly` in crates/demands/proofs/Demands.antt say what that is. To be
+-- believed is `Reads`.
 -- Assumes nothing.
 use Prim.Native.Nat.{ℕ}
 use mathlib.Core.Path.{_≡_}
@@ -13,7 +13,7 @@ use Rattle.refusal.specs.Table.{stoppedBy}
 use Rattle.refusal.specs.Answer.{Answer, given, refused, onward, outcomeOf}
 use Rattle.nameset.specs.Places.{places}
 use Rattle.book.specs.Taken.{takenBook}
-use Rattle.model.specs.declared.Chain.{Chain}
+use Rattle.model.specs.declared.Model.{Model}
 use Rattle.model.specs.Record.{dueModel}
 use Rattle.declaration_spelling.specs.Read.{Declared}
 use Rattle.declaration_walk.specs.Gather.{textAnswer}
@@ -29,7 +29,7 @@ parentDue (given d) = d .parent
 parentDue (refused r) = stoppedBy r .parent
 
 -- The record, "a model due is the empty model".
-unfoldable pub modelDue : Answer Declared → Chain
+unfoldable pub modelDue : Answer Declared → Model
 modelDue (given d) = d .model
 modelDue (refused r) = dueModel
 
@@ -42,7 +42,7 @@ unfoldable pub twiceOrUnknown : Bool → Refusal
 twiceOrUnknown known = cond known NameTwice UnknownName
 
 -- The call was not refused, and this is the parent and the record that it answered.
-abbrev pub Reads : Declaration → ℕ → Chain → Type 0
+abbrev pub Reads : Declaration → ℕ → Model → Type 0
 Reads r p m = (r .outcome ≡ Done) × (r .parent ≡ p) × (r .model ≡ m)
 
 -- The whole promise of the call that reads a declaration.

@@ -1,8 +1,12 @@
 // Reading one declaration.
 use book::Found;
 use book::Layout;
+use declaration_scan::BAR;
+use declaration_scan::PCDATA;
+use declaration_scan::Piece;
 use declaration_scan::WORD;
 use model::Chain;
+use model::Model;
 use model::NO_FACTOR;
 use nameset::PLACES;
 use refusal::Outcome;
@@ -10,12 +14,14 @@ use refusal::Refusal;
 ghost use mathlib.Core.Path.{_≡_};
 ghost use Prim.Native.Nat.{_≤_};
 ghost use lib.ListN.{length};
-ghost use Rattle.refusal.specs.Answer.{refused};
+ghost use Rattle.refusal.specs.Answer.{given, refused};
 ghost use Rattle.nameset.specs.Places.{places};
 ghost use Rattle.book.specs.Book.{namesIn};
 ghost use Rattle.book.specs.Access.{LaidOut};
-ghost use Rattle.declaration_walk.specs.Gather.{knownTokens, factorsAnswer, contentAnswer, tokensAnswer};
-ghost use Rattle.declaration_reading.specs.Place.{tokensAt};
+ghost use Rattle.model.specs.Record.{modelWith};
+ghost use Rattle.declaration_spelling.specs.Read.{declared};
+ghost use Rattle.declaration_walk.specs.Gather.{knownTokens, factorsAnswer, mixedAnswer, contentAnswer, tokensAnswer};
+ghost use Rattle.declaration_reading.specs.Place.{tokensAt, partOf, textKind};
 ghost use Rattle.declaration_reading.specs.Read.{declarationOf, twiceOrUnknown, ReadsDeclaration};
 
 mod lookup; // lookup.rt: names of a text by the book
@@ -28,7 +34,7 @@ const OPENING: usize = 9;
 pub struct Declaration {
     pub outcome: Outcome,
     pub parent: usize,
-    pub model: Chain,
+    pub model: Model,
 }
 
 // The answer of a refused call.
@@ -38,7 +44,18 @@ fn refused(refusal: Refusal) -> Declaration
     Declaration {
         outcome: Outcome::Refused(refusal),
         parent: 0,
-        model: Chain::empty(),
+        model: Model::empty(),
+    }
+}
+
+// The answer of a call that reads this chain, with this text byte.
+fn given(parent: usize, chain: Chain, mixed: u8) -> Declaration
+    ensures { λ r. ⌜ r ≡ declarationOf (given (declared parent (modelWith chain mixed))) ⌝ }
+{
+    Declaration {
+        outcome: Outcome::Done,
+        parent,
+        model: Model { chain, text: mixed },
     }
 }
 
@@ -54,10 +71,17 @@ fn twice(bytes: &[u8], layout: Layout, text: &[u8], at: usize) -> Declaration
     }
 }
 
-// The factors from a place on: one token after the other, into the rows of the record.
-fn read_factors(bytes: &[u8], layout: Layout, text: &[u8], at: usize, parent: usize) -> Declaration
+// The factors from a place on: one token after the other, into the rows of the record. `mixed` is its text byte.
+fn read_factors(
+    bytes: &[u8],
+    layout: Layout,
+    text: &[u8],
+    at: usize,
+    parent: usize,
+    mixed: u8,
+) -> Declaration
     requires { ⌜ LaidOut (now bytes) layout × (at ≤ length (now text)) ⌝ }
-    ensures { λ r. ⌜ r ≡ declarationOf (factorsAnswer places (namesIn (now (bytes .entry))) parent (tokensAt (now (text .entry)) at)) ⌝ }
+    ensures { λ r. ⌜ r ≡ declarationOf (factorsAnswer places (namesIn (now (bytes .entry))) parent mixed (tokensAt (now (text .entry)) at)) ⌝ }
 {
     let mut factor = [NO_FACTOR; PLACES];
     let mut mode = [0u8; PLACES];
@@ -77,31 +101,51 @@ fn read_factors(bytes: &[u8], layout: Layout, text: &[u8], at: usize, parent: us
         }
         i = piece.to;
     }
-    Declaration {
-        outcome: Outcome::Done,
-        parent,
-        model: Chain {
-            count: index + 1,
-            factor,
-            mode,
-        },
-    }
+    let chain = Chain {
+        count: index + 1,
+        factor,
+        mode,
+    };
+    given(parent, chain, mixed)
 }
 
-// The model from a place on: `EMPTY`, or factors.
+// Whether a piece is `#PCDATA`.
+fn is_text(text: &[u8], piece: Piece) -> bool
+    requires { ⌜ (piece .from ≤ piece .to) × (piece .to ≤ length (now text)) ⌝ }
+    ensures { λ r. ⌜ r ≡ textKind (piece .kind) (partOf (now (text .entry)) (piece .from) (piece .to)) ⌝ }
+{
+    if piece.kind != WORD {
+        return false;
+    }
+    declaration_form::word_kind(text, piece.from, piece.to) == PCDATA
+}
+
+// The model from the place behind `(#PCDATA` on: with names, or without.
+fn read_mixed(bytes: &[u8], layout: Layout, text: &[u8], at: usize, parent: usize) -> Declaration
+    requires { ⌜ LaidOut (now bytes) layout × (at ≤ length (now text)) ⌝ }
+    ensures { λ r. ⌜ r ≡ declarationOf (mixedAnswer places (namesIn (now (bytes .entry))) parent (tokensAt (now (text .entry)) at)) ⌝ }
+{
+    let piece = declaration_cursor::piece_at(text, at);
+    if piece.kind == BAR {
+        return read_factors(bytes, layout, text, at, parent, 1);
+    }
+    given(parent, Chain::empty(), 1)
+}
+
+// The model from a place on: `EMPTY`, with text, or factors without.
 fn read_model(bytes: &[u8], layout: Layout, text: &[u8], at: usize, parent: usize) -> Declaration
     requires { ⌜ LaidOut (now bytes) layout × (at ≤ length (now text)) ⌝ }
     ensures { λ r. ⌜ r ≡ declarationOf (contentAnswer places (namesIn (now (bytes .entry))) parent (tokensAt (now (text .entry)) at)) ⌝ }
 {
     let piece = declaration_cursor::piece_at(text, at);
     if piece.kind == WORD {
-        return Declaration {
-            outcome: Outcome::Done,
-            parent,
-            model: Chain::empty(),
-        };
+        return given(parent, Chain::empty(), 0);
     }
-    read_factors(bytes, layout, text, at, parent)
+    let first = declaration_cursor::piece_at(text, piece.to);
+    if is_text(text, first) {
+        return read_mixed(bytes, layout, text, first.to, parent);
+    }
+    read_factors(bytes, layout, text, at, parent, 0)
 }
 
 // The parent and the model from a place on. In a text that has the form of a declaration a word stands there; without

@@ -18,7 +18,8 @@ signKind next =
     (cond (eqb next 43) plusKind
     (cond (eqb next 42) starKind otherKind)))))))
 
--- The kind of the token that begins with a byte. Of a word it does not say whether it is `EMPTY`.
+-- The kind of the token that begins with a byte. Of a word it does not say whether it is `EMPTY` or
+-- `#PCDATA`.
 unfoldable pub kindOf : ℕ → ℕ
 unfolding signKind
 kindOf next = cond (wordByte next) wordKind (signKind next)

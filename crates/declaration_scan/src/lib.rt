@@ -9,29 +9,31 @@ ghost use Rattle.declaration_bytes.specs.Unread.{endOfText, nextOf, runOf};
 ghost use Rattle.declaration_scan.specs.Kind.{signKind};
 ghost use Rattle.declaration_scan.specs.Piece.{wordEnd, pieceFrom};
 
-// The kinds of tokens: a byte that is none, or the end of the text; a word, and the word `EMPTY`; ( ) , | > and the
-// marks ? + *. A piece does not say of a word whether it is `EMPTY`.
+// The kinds of tokens: a byte that is none, or the end of the text; a word, and the words `EMPTY` and `#PCDATA`;
+// ( ) , | > and the marks ? + *. A piece does not say of a word whether it is `EMPTY` or `#PCDATA`.
 pub const OTHER: u8 = 0;
 
 pub const WORD: u8 = 1;
 
 pub const EMPTY: u8 = 2;
 
-pub const LPAR: u8 = 3;
+pub const PCDATA: u8 = 3;
 
-pub const RPAR: u8 = 4;
+pub const LPAR: u8 = 4;
 
-pub const COMMA: u8 = 5;
+pub const RPAR: u8 = 5;
 
-pub const BAR: u8 = 6;
+pub const COMMA: u8 = 6;
 
-pub const END: u8 = 7;
+pub const BAR: u8 = 7;
 
-pub const QUESTION: u8 = 8;
+pub const END: u8 = 8;
 
-pub const PLUS: u8 = 9;
+pub const QUESTION: u8 = 9;
 
-pub const STAR: u8 = 10;
+pub const PLUS: u8 = 10;
+
+pub const STAR: u8 = 11;
 
 // A token of the text: whether white space stands before it, its kind, and the places where it begins and ends.
 pub struct Piece {

@@ -11,8 +11,8 @@ use Rattle.book.specs.Book.{Book, IsBook, namesIn}
 use Rattle.book.specs.Layout.{layoutOf}
 use Rattle.book.specs.Access.{LaidOut}
 use Rattle.book.proofs.Laws.{name-count, few-names, names-rising, name-good, one-number}
-use Rattle.model.specs.declared.Chain.{Chain}
-use Rattle.model.specs.Record.{IsChain}
+use Rattle.model.specs.declared.Model.{Model}
+use Rattle.model.specs.Record.{IsModel}
 use Rattle.declaration_spelling.specs.House.{nameAt, declaration}
 use Rattle.declaration_spelling.specs.Length.{longestDeclaration}
 use Rattle.declaration_spelling.proofs.Names.{GoodNames}
@@ -33,7 +33,7 @@ module _ (s : List ℕ) (l : Layout) (laid : LaidOut s l) where
   }
 
   -- a declaration has at most 2,253 bytes
-  pub book-longest : (p : ℕ) (m : Chain) → p < length (namesIn s) → IsChain places (length (namesIn s)) m → length (declaration (namesIn s) p m) ≤ longestDeclaration
+  pub book-longest : (p : ℕ) (m : Model) → p < length (namesIn s) → IsModel places (length (namesIn s)) m → length (declaration (namesIn s) p m) ≤ longestDeclaration
   book-longest p m h c = longest-declaration (namesIn s) p m few (book-names .good) h c
 
 -- The same by the book's own names.
@@ -49,5 +49,5 @@ module _ (s : List ℕ) (b : Book) (is : IsBook s b) where
   good-names = subst (GoodNames places) names-are (book-names s (layoutOf b) laid)
 
   -- a declaration has at most 2,253 bytes
-  pub declaration-short : (p : ℕ) (m : Chain) → p < length (b .names) → IsChain places (length (b .names)) m → length (declaration (b .names) p m) ≤ longestDeclaration
+  pub declaration-short : (p : ℕ) (m : Model) → p < length (b .names) → IsModel places (length (b .names)) m → length (declaration (b .names) p m) ≤ longestDeclaration
   declaration-short p m h c = longest-declaration (b .names) p m (good-names .few) (good-names .good) h c

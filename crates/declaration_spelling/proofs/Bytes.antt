@@ -13,7 +13,7 @@ use Rattle.name.specs.Rule.{goodLength, allLater, goodBytes, isName}
 use Rattle.name.specs.Word.{wordByte}
 use Rattle.name.proofs.Words.{name-bytes, name-size, NoWord, space-no-word, no-word}
 use Rattle.declaration_spelling.specs.Token.{isSpace, All}
-use Rattle.declaration_spelling.specs.House.{emptyWord}
+use Rattle.declaration_spelling.specs.House.{emptyWord, pcdataWord}
 
 all-of : (test : ℕ → Bool) (bs : List ℕ) → ((k : ℕ) → k < length bs → test (getD bs k 0) ≡ true) → All test bs
 all-of test [] f = tt
@@ -70,3 +70,12 @@ empty-name = refl
 
 pub empty-word : Word emptyWord
 empty-word = name-word emptyWord empty-name
+
+-- `#PCDATA` is a word and no name
+pub pcdata-word : Word pcdataWord
+unfolding pcdataWord wordByte laterByte startByte between
+pcdata-word = (35, 80 ∷ 67 ∷ 68 ∷ 65 ∷ 84 ∷ 65 ∷ [], refl, (refl, (refl, (refl, (refl, (refl, (refl, (refl, tt))))))))
+
+pub pcdata-no-name : isName pcdataWord ≡ false
+unfolding isName goodLength goodBytes allLater pcdataWord laterByte startByte between
+pcdata-no-name = refl

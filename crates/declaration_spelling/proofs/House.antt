@@ -1,7 +1,7 @@
 -- House spelling is a spelling.
 -- Assumes nothing.
 use Prim.Native.Nat.{ℕ, zero, suc, _+_, _≤_, _<_}
-use mathlib.Core.Path.{_≡_, refl, sym, _∙_, ap}
+use mathlib.Core.Path.{_≡_, refl, sym, _∙_, ap, subst}
 use mathlib.Core.Bool.{Bool, true, false, cond, false≢true}
 use mathlib.Core.List.{List, [], _∷_, _++_}
 use mathlib.Core.Logic.{_⊎_, inl, inr}
@@ -11,12 +11,13 @@ use lib.Dec.{eqb}
 use lib.ListN.{length}
 use borrow.Author.Tests.{eq-eqb, ne-eqb}
 use Rattle.model.specs.declared.Chain.{Chain}
-use Rattle.model.specs.Record.{factorOf, IsChain}
+use Rattle.model.specs.declared.Model.{Model}
+use Rattle.model.specs.Record.{factorOf, IsChain, IsModel}
 use Rattle.declaration_spelling.specs.Token.{Token, word, lpar, rpar, comma, end, mark, markByte, spell, behind, room, Fits, Spells}
-use Rattle.declaration_spelling.specs.House.{Factor, members, factorsFrom, factorsOf, nameAt, named, emptyWord, markText, barsText, groupText, factorText, othersText, bodyText, houseText, declaration}
-use Rattle.declaration_spelling.specs.Spelled.{markTokens, barsTokens, IsFactor, AreLater, IsModel, SpelledBy, times, Reordered, Spelled}
+use Rattle.declaration_spelling.specs.House.{Factor, members, factorsFrom, factorsOf, nameAt, named, emptyWord, pcdataWord, markText, barsText, groupText, factorText, othersText, bodyText, mixedText, contentText, houseText, declaration}
+use Rattle.declaration_spelling.specs.Spelled.{markTokens, barsTokens, IsFactor, AreLater, IsPlain, IsMixed, IsContent, SpelledBy, times, Reordered, Spelled}
 use Rattle.declaration_spelling.proofs.Bytes.{space-is}
-use Rattle.declaration_spelling.proofs.Shape.{Full, Small, full-named, small-named}
+use Rattle.declaration_spelling.proofs.Shape.{Full, Small, Goes, order-goes, full-named, small-named, goes-named}
 use Rattle.declaration_spelling.proofs.Numbers.{order-full, order-small}
 
 -- whatever stands before, the text spells the tokens
@@ -61,7 +62,7 @@ others-spelled (f ∷ fs) ((x, xs, e), u) s =
     let (us, F, g) = factor-spelled f (f .names) x xs refl e (s .0) after (othersText fs) h in
     (comma ∷ us, (us, after, refl, F, L), λ t. ([], factorText f (othersText fs), refl, tt, tt, g comma tt))
 
-body-spelled : (w : List ℕ) (fs : List (Factor (List ℕ))) → Full fs → Small fs → (ts : List Token) × IsModel fs ts × Spells (word w) ts (32 ∷ bodyText fs)
+body-spelled : (w : List ℕ) (fs : List (Factor (List ℕ))) → Full fs → Small fs → (ts : List Token) × IsPlain fs ts × Spells (word w) ts (32 ∷ bodyText fs)
 unfolding bodyText factorText spell room behind
 body-spelled w [] u s = (word emptyWord ∷ end ∷ [], refl, (32 ∷ [], 62 ∷ [], refl, (space-is, tt), (32, [], refl), ([], [], refl, tt, tt, refl)))
 body-spelled w (f ∷ fs) ((x, xs, e), u) s =
@@ -69,16 +70,43 @@ body-spelled w (f ∷ fs) ((x, xs, e), u) s =
     let (us, F, g) = factor-spelled f (f .names) x xs refl e (s .0) after (othersText fs) h in
     (lpar ∷ us, inl (us, after, refl, F, L), (32 ∷ [], factorText f (othersText fs), refl, (space-is, tt), (32, [], refl), g lpar tt))
 
-head-spelled : (w : List ℕ) (fs : List (Factor (List ℕ))) → Full fs → Small fs → SpelledBy w fs (houseText w fs)
+-- `(#PCDATA` and what stands behind it, behind a word and a space
+text-spelled : (w : List ℕ) (ts : List Token) (k : List ℕ) → Anyhow ts k → Spells (word w) (lpar ∷ word pcdataWord ∷ ts) (32 ∷ 40 ∷ (pcdataWord ++ k))
+unfolding spell room behind
+text-spelled w ts k h = (32 ∷ [], pcdataWord ++ k, refl, (space-is, tt), (32, [], refl), ([], k, refl, tt, tt, h (word pcdataWord)))
+
+mixed-spelled : (w : List ℕ) (fs : List (Factor (List ℕ))) → Full fs → Goes 1 fs → (ts : List Token) × IsMixed fs ts × Spells (word w) ts (32 ∷ mixedText fs)
+unfolding mixedText spell room behind markByte
+mixed-spelled w [] u g = (
+  lpar ∷ word pcdataWord ∷ rpar ∷ end ∷ [],
+  inl refl,
+  text-spelled w (rpar ∷ end ∷ []) (41 ∷ 62 ∷ []) (λ t. ([], 62 ∷ [], refl, tt, tt, ([], [], refl, tt, tt, refl))),
+)
+mixed-spelled w (f ∷ fs) ((x, xs, e), u) (q, star) = (
+  lpar ∷ word pcdataWord ∷ barsTokens (x ∷ xs) (mark 2 ∷ end ∷ []),
+  (q, star, (x, xs, e, refl)),
+  subst (λ (ns : List (List ℕ)). Spells (word w) (lpar ∷ word pcdataWord ∷ barsTokens (x ∷ xs) (mark 2 ∷ end ∷ [])) (32 ∷ 40 ∷ (pcdataWord ++ barsText ns (42 ∷ 62 ∷ [])))) (sym e)
+      (text-spelled w (barsTokens (x ∷ xs) (mark 2 ∷ end ∷ [])) (barsText (x ∷ xs) (42 ∷ 62 ∷ []))
+      (bars-spelled (x ∷ xs) (mark 2 ∷ end ∷ []) (42 ∷ 62 ∷ []) (λ t. ([], 62 ∷ [], refl, tt, refl, ([], [], refl, tt, tt, refl))))),
+)
+
+content-spelled : (w : List ℕ) (t : ℕ) (fs : List (Factor (List ℕ))) → Full fs → Small fs → Goes t fs
+    → (ts : List Token) × IsContent t fs ts × Spells (word w) ts (32 ∷ contentText t fs)
+unfolding contentText
+content-spelled w zero fs u s g = body-spelled w fs u s
+content-spelled w (suc zero) fs u s g = mixed-spelled w fs u g
+content-spelled w (suc (suc t)) fs u s g = absurd g
+
+head-spelled : (w : List ℕ) (t : ℕ) (fs : List (Factor (List ℕ))) → Full fs → Small fs → Goes t fs → SpelledBy w t fs (houseText w t fs)
 unfolding houseText spell room behind
-head-spelled w fs u s =
-    let (ts, M, h) = body-spelled w fs u s in
+head-spelled w t fs u s g =
+    let (ts, M, h) = content-spelled w t fs u s g in
     record {
-      rest = 32 ∷ (w ++ (32 ∷ bodyText fs));
+      rest = 32 ∷ (w ++ (32 ∷ contentText t fs));
       opens = refl;
       tokens = ts;
       model = M;
-      spaced = (32 ∷ [], 32 ∷ bodyText fs, refl, (space-is, tt), (32, [], refl), h);
+      spaced = (32 ∷ [], 32 ∷ contentText t fs, refl, (space-is, tt), (32, [], refl), h);
     }
 
 -- the members of a factor are its names, each once
@@ -132,17 +160,21 @@ module _ (size n : ℕ) (fits : size ≤ 255) (m : Chain) (c : IsChain size n m)
   house-order zero i e = omega arith
   house-order (suc r) i e = (omega arith, refl, λ x. members-all i x (omega arith), house-order r (suc i) (omega arith))
 
--- the house spelling of a chain is a spelling of it
-pub house-spelled : (size : ℕ) (names : List (List ℕ)) (p : ℕ) (m : Chain) → size ≤ 255 → p < length names → IsChain size (length names) m → Spelled size names (declaration names p m) p m
+-- the house spelling of a model is a spelling of it
+pub house-spelled : (size : ℕ) (names : List (List ℕ)) (p : ℕ) (m : Model) → size ≤ 255 → p < length names → IsModel size (length names) m → Spelled size names (declaration names p m) p m
 unfolding declaration factorsOf
-house-spelled size names p m fits l c =
+house-spelled size names p m fits l is =
     let n = length names in
-    let fs = factorsFrom m n 0 (m .count) in
-    let o = house-order size n fits m c (m .count) 0 (omega arith) in
+    let c = m .chain in
+    let fs = factorsFrom c n 0 (c .count) in
+    let o = house-order size n fits c (is .chain) (c .count) 0 (omega arith) in
+    let full = full-named names fs (order-full size n fits c (is .chain) 0 fs o) in
+    let small = small-named names fs (order-small size n fits c (is .chain) 0 fs o) in
+    let goes = goes-named names (m .text) fs (order-goes c (m .text) fs o (is .text)) in
     record {
       parent = l;
-      chain = c;
+      model = is;
       factors = fs;
       order = o;
-      spelled = head-spelled (nameAt names p) (named names fs) (full-named names fs (order-full size n fits m c 0 fs o)) (small-named names fs (order-small size n fits m c 0 fs o));
+      spelled = head-spelled (nameAt names p) (m .text) (named names fs) full small goes;
     }

@@ -11,9 +11,10 @@ use borrow.Author.Tests.{eq-eqb, ne-eqb}
 use Rattle.nameset.specs.Places.{places}
 use Rattle.name.specs.Rule.{isName}
 use Rattle.model.specs.declared.Chain.{Chain}
-use Rattle.model.specs.Record.{factorOf, IsChain}
-use Rattle.declaration_spelling.specs.House.{Factor, members, factorsFrom, factorsOf, nameAt, namesAt, named, opening, emptyWord, markText, barsText, groupText, factorText, othersText, bodyText, houseText, declaration}
-use Rattle.declaration_spelling.specs.Length.{longestDeclaration, markLength, namesLength, groupLength, factorsLength, bodyLength, declarationLength}
+use Rattle.model.specs.declared.Model.{Model}
+use Rattle.model.specs.Record.{factorOf, IsModel}
+use Rattle.declaration_spelling.specs.House.{Factor, members, factorsFrom, factorsOf, nameAt, namesAt, named, opening, emptyWord, pcdataWord, markText, barsText, groupText, factorText, othersText, bodyText, mixedText, contentText, houseText, declaration}
+use Rattle.declaration_spelling.specs.Length.{longestDeclaration, markLength, namesLength, groupLength, factorsLength, bodyLength, mixedLength, contentLength, declarationLength}
 use Rattle.name.proofs.Words.{name-size}
 use Rattle.declaration_spelling.proofs.Names.{Below, AllBelow}
 use Rattle.declaration_spelling.proofs.Shape.{Full}
@@ -52,13 +53,19 @@ unfolding bodyText bodyLength factorsLength emptyWord
 body-length [] = refl
 body-length (f ∷ fs) = omega (arith, factor-length f (othersText fs), others-length fs)
 
-house-length : (parent : List ℕ) (fs : List (Factor (List ℕ))) → length (houseText parent fs) ≡ 11 + length parent + bodyLength fs
-unfolding houseText opening
-house-length parent fs = omega (arith, length-append parent (32 ∷ bodyText fs), body-length fs)
+content-length : (t : ℕ) (fs : List (Factor (List ℕ))) → length (contentText t fs) ≡ contentLength t fs
+unfolding contentText contentLength mixedText mixedLength pcdataWord
+content-length zero fs = body-length fs
+content-length (suc t) [] = refl
+content-length (suc t) (f ∷ fs) = omega (arith, bars-length (f .names) (42 ∷ 62 ∷ []))
 
-pub declaration-length : (names : List (List ℕ)) (p : ℕ) (m : Chain) → length (declaration names p m) ≡ declarationLength names p m
+house-length : (parent : List ℕ) (t : ℕ) (fs : List (Factor (List ℕ))) → length (houseText parent t fs) ≡ 11 + length parent + contentLength t fs
+unfolding houseText opening
+house-length parent t fs = omega (arith, length-append parent (32 ∷ contentText t fs), content-length t fs)
+
+pub declaration-length : (names : List (List ℕ)) (p : ℕ) (m : Model) → length (declaration names p m) ≡ declarationLength names p m
 unfolding declaration declarationLength
-declaration-length names p m = house-length (nameAt names p) (named names (factorsOf m (length names)))
+declaration-length names p m = house-length (nameAt names p) (m .text) (named names (factorsOf (m .chain) (length names)))
 
 -- ---- the bound
 
@@ -143,16 +150,30 @@ unfolding bodyLength
 body-bound [] h = omega arith
 body-bound (f ∷ fs) h = omega arith
 
+-- with text: the names of the first factor, each with its `|`, in at most 33 bytes
+mixed-bound : (names : List (List ℕ)) → ((x : ℕ) → x < length names → isName (nameAt names x) ≡ true) → (fs : List (Factor ℕ)) → AllBelow (length names) fs
+    → countNames fs ≤ 64 → mixedLength (named names fs) ≤ 2123
+unfolding mixedLength named countNames
+mixed-bound names good [] b few = omega arith
+mixed-bound names good (f ∷ fs) (b, bs) few = omega (arith, names-bound names good (f .names) b)
+
+content-bound : (t : ℕ) (fs : List (Factor (List ℕ))) → bodyLength fs ≤ 2210 → mixedLength fs ≤ 2123 → contentLength t fs ≤ 2210
+unfolding contentLength
+content-bound zero fs body mixed = body
+content-bound (suc t) fs body mixed = omega arith
+
 -- "The longest has 2,253 bytes."
-pub longest-declaration : (names : List (List ℕ)) (p : ℕ) (m : Chain) → length names ≤ places → ((x : ℕ) → x < length names → isName (nameAt names x) ≡ true)
-    → p < length names → IsChain places (length names) m → length (declaration names p m) ≤ longestDeclaration
+pub longest-declaration : (names : List (List ℕ)) (p : ℕ) (m : Model) → length names ≤ places → ((x : ℕ) → x < length names → isName (nameAt names x) ≡ true)
+    → p < length names → IsModel places (length names) m → length (declaration names p m) ≤ longestDeclaration
 unfolding declarationLength factorsOf
-longest-declaration names p m few good l c =
+longest-declaration names p m few good l is =
     let n = length names in
-    let fs = factorsFrom m n 0 (m .count) in
-    let order = house-order places n (omega arith) m c (m .count) 0 (omega arith) in
-    let low = order-below places n (omega arith) m c 0 fs order in
-    let full = order-full places n (omega arith) m c 0 fs order in
-    let count : countNames fs ≤ 64 = omega (arith, count-is m n 0 (m .count), count-bound m n 0 0 (m .count)) in
+    let c = m .chain in
+    let fs = factorsFrom c n 0 (c .count) in
+    let order = house-order places n (omega arith) c (is .chain) (c .count) 0 (omega arith) in
+    let low = order-below places n (omega arith) c (is .chain) 0 fs order in
+    let full = order-full places n (omega arith) c (is .chain) 0 fs order in
+    let count : countNames fs ≤ 64 = omega (arith, count-is c n 0 (c .count), count-bound c n 0 0 (c .count)) in
     let many : factorsLength (named names fs) ≤ 2208 = omega (arith, factors-bound names good fs low full) in
-    omega (arith, declaration-length names p m, short names good p l, body-bound (named names fs) many)
+    let content = content-bound (m .text) (named names fs) (body-bound (named names fs) many) (mixed-bound names good fs low count) in
+    omega (arith, declaration-length names p m, short names good p l, content)

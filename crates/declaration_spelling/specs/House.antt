@@ -1,6 +1,7 @@
 -- To be believed: the canonical form of a declaration, paper 01's house spelling: "`<!ELEMENT`, one space, the parent,
 -- one space, `EMPTY` if F = 0, else `(`, the factors joined by `,`, and `)`; then `>`. A factor with one name is the
--- name; with more, `(`, the names in rising order joined by `|`, `)`. Its mark follows."
+-- name; with more, `(`, the names in rising order joined by `|`, `)`. Its mark follows." Paper 02, U5, for a model with
+-- text: `(#PCDATA)` if F = 0, else `(#PCDATA|a|b)*` with the names of its one factor, rising.
 -- Assumes nothing.
 use Prim.Native.Nat.{ℕ, zero, suc}
 use mathlib.Core.Bool.{cond}
@@ -8,6 +9,7 @@ use mathlib.Core.List.{List, [], _∷_, _++_}
 use lib.Dec.{eqb}
 use lib.ListN.{length, getD}
 use Rattle.model.specs.declared.Chain.{Chain}
+use Rattle.model.specs.declared.Model.{Model}
 use Rattle.model.specs.Record.{factorOf, modeOf}
 use Rattle.declaration_spelling.specs.Token.{markByte}
 
@@ -52,6 +54,10 @@ opening = 60 ∷ 33 ∷ 69 ∷ 76 ∷ 69 ∷ 77 ∷ 69 ∷ 78 ∷ 84 ∷ []
 unfoldable pub emptyWord : List ℕ
 emptyWord = 69 ∷ 77 ∷ 80 ∷ 84 ∷ 89 ∷ []
 
+-- `#PCDATA`
+unfoldable pub pcdataWord : List ℕ
+pcdataWord = 35 ∷ 80 ∷ 67 ∷ 68 ∷ 65 ∷ 84 ∷ 65 ∷ []
+
 -- Each function below takes the text that comes after its own as its last argument, and gives both joined.
 
 -- A mark: none for mode 0.
@@ -79,15 +85,26 @@ unfoldable pub othersText : List (Factor (List ℕ)) → List ℕ
 othersText [] = 41 ∷ 62 ∷ []
 othersText (f ∷ fs) = 44 ∷ factorText f (othersText fs)
 
--- The model and `>`.
+-- A model without text, and `>`.
 unfoldable pub bodyText : List (Factor (List ℕ)) → List ℕ
 bodyText [] = emptyWord ++ (62 ∷ [])
 bodyText (f ∷ fs) = 40 ∷ factorText f (othersText fs)
 
--- A declaration by the bytes of its parent and of the names in its factors.
-unfoldable pub houseText : List ℕ → List (Factor (List ℕ)) → List ℕ
-houseText parent factors = opening ++ (32 ∷ (parent ++ (32 ∷ bodyText factors)))
+-- A model with text, and `>`: `(#PCDATA)`, or `(#PCDATA`, the names of the one factor that it has, each behind `|`, and
+-- `)*`.
+unfoldable pub mixedText : List (Factor (List ℕ)) → List ℕ
+mixedText [] = 40 ∷ (pcdataWord ++ (41 ∷ 62 ∷ []))
+mixedText (f ∷ fs) = 40 ∷ (pcdataWord ++ barsText (f .names) (42 ∷ 62 ∷ []))
 
--- The canonical form of the declaration of the record m for the parent p.
-unfoldable pub declaration : List (List ℕ) → ℕ → Chain → List ℕ
-declaration names p m = houseText (nameAt names p) (named names (factorsOf m (length names)))
+-- A model by its text byte and its factors, and `>`.
+unfoldable pub contentText : ℕ → List (Factor (List ℕ)) → List ℕ
+contentText zero factors = bodyText factors
+contentText (suc t) factors = mixedText factors
+
+-- A declaration by the bytes of its parent, the text byte of its model, and the bytes of the names in its factors.
+unfoldable pub houseText : List ℕ → ℕ → List (Factor (List ℕ)) → List ℕ
+houseText parent mixed factors = opening ++ (32 ∷ (parent ++ (32 ∷ contentText mixed factors)))
+
+-- The canonical form of the declaration of the model m for the parent p.
+unfoldable pub declaration : List (List ℕ) → ℕ → Model → List ℕ
+declaration names p m = houseText (nameAt names p) (m .text) (named names (factorsOf (m .chain) (length names)))

@@ -4,7 +4,7 @@
 use Prim.Native.Nat.{ℕ, zero, suc, _+_}
 use mathlib.Core.List.{List, [], _∷_}
 use lib.ListN.{length}
-use Rattle.model.specs.declared.Chain.{Chain}
+use Rattle.model.specs.declared.Model.{Model}
 use Rattle.declaration_spelling.specs.House.{Factor, factorsOf, nameAt, named}
 
 -- Paper 01: "The longest has 2,253 bytes."
@@ -31,11 +31,21 @@ unfoldable pub factorsLength : List (Factor (List ℕ)) → ℕ
 factorsLength [] = 0
 factorsLength (f ∷ fs) = groupLength (f .names) + markLength (f .mode) + 1 + factorsLength fs
 
--- the model and `>`: `EMPTY` has 5 bytes, any other model a `(` more than its factors
+-- a model without text and `>`: `EMPTY` has 5 bytes, any other model a `(` more than its factors
 unfoldable pub bodyLength : List (Factor (List ℕ)) → ℕ
 bodyLength [] = 6
 bodyLength (f ∷ fs) = 2 + factorsLength (f ∷ fs)
 
+-- a model with text and `>`: `(#PCDATA)>` has 10 bytes, and `(#PCDATA)*>` 11 without its names
+unfoldable pub mixedLength : List (Factor (List ℕ)) → ℕ
+mixedLength [] = 10
+mixedLength (f ∷ fs) = 11 + namesLength (f .names)
+
+unfoldable pub contentLength : ℕ → List (Factor (List ℕ)) → ℕ
+contentLength zero factors = bodyLength factors
+contentLength (suc t) factors = mixedLength factors
+
 -- `<!ELEMENT` and two spaces have 11 bytes
-unfoldable pub declarationLength : List (List ℕ) → ℕ → Chain → ℕ
-declarationLength names p m = 11 + length (nameAt names p) + bodyLength (named names (factorsOf m (length names)))
+unfoldable pub declarationLength : List (List ℕ) → ℕ → Model → ℕ
+declarationLength names p m =
+    11 + length (nameAt names p) + contentLength (m .text) (named names (factorsOf (m .chain) (length names)))

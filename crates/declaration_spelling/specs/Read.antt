@@ -10,7 +10,7 @@ use Rattle.refusal.specs.Answer.{Answer, given, refused}
 use Rattle.book.specs.declared.Found.{Found}
 use Rattle.book.specs.declared.Found.the-variants.{At, Nothing}
 use Rattle.book.specs.Access.{numberIn}
-use Rattle.model.specs.declared.Chain.{Chain}
+use Rattle.model.specs.declared.Model.{Model}
 
 abbrev pub isFound : Found → Bool
 isFound (At i) = true
@@ -31,9 +31,9 @@ numberFor names w = foundOr 0 (numberIn names w)
 -- A declaration by numbers: its parent and its record.
 pub record Declared : Type 0 where
   pub parent : ℕ
-  pub model : Chain
+  pub model : Model
 
-abbrev pub declared : ℕ → Chain → Declared
+abbrev pub declared : ℕ → Model → Declared
 declared p m = record { parent = p; model = m }
 
 abbrev pub orRefuse : {A : Type 0} → Refusal → Option A → Answer A

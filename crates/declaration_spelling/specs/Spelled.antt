@@ -1,6 +1,6 @@
 -- To be believed: what a spelling of a record is: its factors with the names of each group in any order, with a choice
--- of brackets and of white space (paper 01, "The declaration"; paper 02, U1). Stated without the function that reads;
--- `read-exactly` in crates/declaration_walk/proofs/Theorem.antt says that the two agree.
+-- of brackets and of white space (paper 01, "The declaration"; paper 02, U1 and U5). Stated without the function that
+-- reads; `read-exactly` in crates/declaration_walk/proofs/Theorem.antt says that the two agree.
 -- Assumes nothing.
 use Prim.Native.Nat.{ℕ, zero, suc, _≤_, _<_}
 use mathlib.Core.Path.{_≡_}
@@ -10,9 +10,10 @@ use mathlib.Core.Logic.{_⊎_}
 use lib.Dec.{eqb}
 use lib.ListN.{length}
 use Rattle.model.specs.declared.Chain.{Chain}
-use Rattle.model.specs.Record.{factorOf, modeOf, IsChain}
+use Rattle.model.specs.declared.Model.{Model}
+use Rattle.model.specs.Record.{factorOf, modeOf, IsModel}
 use Rattle.declaration_spelling.specs.Token.{Token, word, lpar, rpar, comma, bar, end, mark, Spells}
-use Rattle.declaration_spelling.specs.House.{Factor, nameAt, named, opening, emptyWord}
+use Rattle.declaration_spelling.specs.House.{Factor, nameAt, named, opening, emptyWord, pcdataWord}
 
 -- The tokens of a declaration. What follows a part is the last argument of a function, or `after` in a relation.
 
@@ -45,20 +46,35 @@ abbrev pub AreLater : List (Factor (List ℕ)) → List Token → Type 0
 AreLater [] ts = ts ≡ rpar ∷ end ∷ []
 AreLater (f ∷ fs) ts = (us : List Token) × (after : List Token) × (ts ≡ comma ∷ us) × IsFactor f after us × AreLater fs after
 
--- A model and `>`: `EMPTY`; the factors in brackets; or "a whole model that is one group of one or more names, with or
--- without a mark behind it, as one factor" (U1).
-abbrev pub IsModel : List (Factor (List ℕ)) → List Token → Type 0
-IsModel [] ts = ts ≡ word emptyWord ∷ end ∷ []
-IsModel (f ∷ fs) ts =
+-- A model without text, and `>`: `EMPTY`; the factors in brackets; or "a whole model that is one group of one or more
+-- names, with or without a mark behind it, as one factor" (U1).
+abbrev pub IsPlain : List (Factor (List ℕ)) → List Token → Type 0
+IsPlain [] ts = ts ≡ word emptyWord ∷ end ∷ []
+IsPlain (f ∷ fs) ts =
     ((us : List Token) × (after : List Token) × (ts ≡ lpar ∷ us) × IsFactor f after us × AreLater fs after)
     ⊎ ((fs ≡ []) × IsGroup f (end ∷ []) ts)
 
--- The text is `<!ELEMENT`, the parent and the model, by the bytes of their names, with fitting white space.
-pub record SpelledBy (parent : List ℕ) (factors : List (Factor (List ℕ))) (text : List ℕ) : Type 0 where
+-- A model with text, and `>`: `(#PCDATA)`, with or without a star behind it; or "`#PCDATA` first and the names in any
+-- order", each behind `|`, in brackets with a star behind them. The names are those of one starred factor.
+abbrev pub IsMixed : List (Factor (List ℕ)) → List Token → Type 0
+IsMixed [] ts = (ts ≡ lpar ∷ word pcdataWord ∷ rpar ∷ end ∷ []) ⊎ (ts ≡ lpar ∷ word pcdataWord ∷ rpar ∷ mark 2 ∷ end ∷ [])
+IsMixed (f ∷ fs) ts =
+    (fs ≡ []) × (f .mode ≡ 3) × ((x : List ℕ) × (xs : List (List ℕ)) × (f .names ≡ x ∷ xs)
+    × (ts ≡ lpar ∷ word pcdataWord ∷ barsTokens (x ∷ xs) (mark 2 ∷ end ∷ [])))
+
+-- A model by its text byte, and `>`.
+abbrev pub IsContent : ℕ → List (Factor (List ℕ)) → List Token → Type 0
+IsContent zero fs ts = IsPlain fs ts
+IsContent (suc zero) fs ts = IsMixed fs ts
+IsContent (suc (suc t)) fs ts = ⊥
+
+-- The text is `<!ELEMENT`, the parent and the model, by the bytes of their names, with fitting white space; `mixed` is
+-- the text byte of the model.
+pub record SpelledBy (parent : List ℕ) (mixed : ℕ) (factors : List (Factor (List ℕ))) (text : List ℕ) : Type 0 where
   pub rest : List ℕ
   pub opens : text ≡ opening ++ rest
   pub tokens : List Token
-  pub model : IsModel factors tokens
+  pub model : IsContent mixed factors tokens
   pub spaced : Spells (word opening) (word parent ∷ tokens) rest
 
 -- How often x stands in a list.
@@ -73,11 +89,11 @@ Reordered m i [] = i ≡ m .count
 Reordered m i (f ∷ fs) =
     (i < m .count) × (f .mode ≡ modeOf m i) × ((x : ℕ) → times x (f .names) ≡ cond (eqb (factorOf m x) i) 1 0) × Reordered m (suc i) fs
 
--- The text is a spelling of the declaration of the record m, a chain over the names, for the parent p.
+-- The text is a spelling of the declaration of m, a model over the names, for the parent p.
 -- `size` is the number of places of a record, 64 in paper 01.
-pub record Spelled (size : ℕ) (names : List (List ℕ)) (text : List ℕ) (p : ℕ) (m : Chain) : Type 0 where
+pub record Spelled (size : ℕ) (names : List (List ℕ)) (text : List ℕ) (p : ℕ) (m : Model) : Type 0 where
   pub parent : p < length names
-  pub chain : IsChain size (length names) m
+  pub model : IsModel size (length names) m
   pub factors : List (Factor ℕ)
-  pub order : Reordered m 0 factors
-  pub spelled : SpelledBy (nameAt names p) (named names factors) text
+  pub order : Reordered (m .chain) 0 factors
+  pub spelled : SpelledBy (nameAt names p) (m .text) (named names factors) text

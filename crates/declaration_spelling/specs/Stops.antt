@@ -11,9 +11,10 @@ use Rattle.name.specs.Rule.{isName}
 use Rattle.declaration_spelling.specs.House.{Factor}
 use Rattle.declaration_spelling.specs.Spelled.{SpelledBy}
 
--- A declaration by the bytes of its names.
+-- A declaration by the bytes of its names and the text byte of its model.
 pub record Form : Type 0 where
   pub parent : List ℕ
+  pub mixed : ℕ
   pub factors : List (Factor (List ℕ))
 
 -- The names of a model, in their order.
@@ -33,4 +34,4 @@ Twice (x ∷ xs) = List·Memᴰ x xs ⊎ Twice xs
 -- The text is spelled with the names of d, each by the rule for names.
 pub record HasForm (text : List ℕ) (d : Form) : Type 0 where
   pub good : (x : List ℕ) → List·Memᴰ x (formNames d) → isName x ≡ true
-  pub spelled : SpelledBy (d .parent) (d .factors) text
+  pub spelled : SpelledBy (d .parent) (d .mixed) (d .factors) text

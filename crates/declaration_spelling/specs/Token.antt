@@ -11,7 +11,7 @@ use lib.Dec.{eqb}
 unfoldable pub isSpace : ℕ → Bool
 isSpace byte = eqb byte 32 || (eqb byte 9 || (eqb byte 13 || eqb byte 10))
 
--- A run of bytes that may be in a name; ( ) , | > ; the mark of mode m + 1; any other byte.
+-- A run of bytes that may be in a name or in `#PCDATA`; ( ) , | > ; the mark of mode m + 1; any other byte.
 pub data Token : Type 0 where
   word : List ℕ → Token
   lpar rpar comma bar end : Token

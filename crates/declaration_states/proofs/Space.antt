@@ -28,20 +28,20 @@ between-over low high k h = go (leb low k) (lt-leb k high h)
 module _ (bw gap : Bool) (k : ℕ) where
   pub fits-none : k ≡ 0 → true ≡ kindFits bw gap k
   unfolding kindFits
-  fits-none e = rw (between-under 1 3 k (omega arith), between-under 8 10 k (omega arith))
+  fits-none e = rw (between-under 1 4 k (omega arith), between-under 9 11 k (omega arith))
 
-  pub fits-apart : (k ≡ 0 → ⊥) → k < 4 → cond bw gap true ≡ kindFits bw gap k
+  pub fits-apart : (k ≡ 0 → ⊥) → k < 5 → cond bw gap true ≡ kindFits bw gap k
   unfolding kindFits
-  fits-apart n l = rw (between-in 1 3 k (omega arith) (omega arith))
+  fits-apart n l = rw (between-in 1 4 k (omega arith) (omega arith))
 
-  pub fits-free : 4 ≤ k → k < 8 → true ≡ kindFits bw gap k
+  pub fits-free : 5 ≤ k → k < 9 → true ≡ kindFits bw gap k
   unfolding kindFits
-  fits-free h l = rw (between-over 1 3 k h, between-under 8 10 k (omega arith))
+  fits-free h l = rw (between-over 1 4 k h, between-under 9 11 k (omega arith))
 
-  pub fits-mark : 8 ≤ k → k < 11 → not gap ≡ kindFits bw gap k
+  pub fits-mark : 9 ≤ k → k < 12 → not gap ≡ kindFits bw gap k
   unfolding kindFits
-  fits-mark h l = rw (between-over 1 3 k (omega arith), between-in 8 10 k h (omega arith))
+  fits-mark h l = rw (between-over 1 4 k (omega arith), between-in 9 11 k h (omega arith))
 
-  pub fits-rest : 11 ≤ k → true ≡ kindFits bw gap k
+  pub fits-rest : 12 ≤ k → true ≡ kindFits bw gap k
   unfolding kindFits
-  fits-rest h = rw (between-over 1 3 k (omega arith), between-over 8 10 k h)
+  fits-rest h = rw (between-over 1 4 k (omega arith), between-over 9 11 k h)

@@ -3,12 +3,13 @@
 -- Assumes nothing.
 use Prim.Native.Nat.{ℕ}
 use mathlib.Core.List.{List, [], _∷_, _++_, map}
-use Rattle.declaration_spelling.specs.Kind.{otherKind, wordKind, emptyKind, lparKind, rparKind, commaKind, barKind, endKind, questionKind, plusKind, starKind}
+use Rattle.declaration_spelling.specs.Kind.{otherKind, wordKind, emptyKind, pcdataKind, lparKind, rparKind, commaKind, barKind, endKind, questionKind, plusKind, starKind}
 use Rattle.declaration_walk.specs.Walk.{State, states, step, numberOf}
 
 -- The kinds by their numbers.
 unfoldable pub kinds : List ℕ
-kinds = otherKind ∷ wordKind ∷ emptyKind ∷ lparKind ∷ rparKind ∷ commaKind ∷ barKind ∷ endKind ∷ questionKind ∷ plusKind ∷ starKind ∷ []
+kinds =
+    otherKind ∷ wordKind ∷ emptyKind ∷ pcdataKind ∷ lparKind ∷ rparKind ∷ commaKind ∷ barKind ∷ endKind ∷ questionKind ∷ plusKind ∷ starKind ∷ []
 
 -- The numbers of the states behind a token of each kind.
 unfoldable pub rowOf : State → List ℕ

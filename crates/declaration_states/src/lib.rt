@@ -19,31 +19,36 @@ ghost use Rattle.declaration_states.specs.Table.{table};
 // Three of the states; the table has them all. They are numbered as in crates/declaration_walk/specs/Walk.antt.
 pub const BEFORE_PARENT: u8 = 0;
 
-pub const BEHIND_END: u8 = 13;
+pub const BEHIND_END: u8 = 18;
 
-pub const NOWHERE: u8 = 14;
+pub const NOWHERE: u8 = 19;
 
-// How many entries the table has: 15 states by 11 kinds.
-pub const ENTRIES: usize = 165;
+// How many entries the table has: 20 states by 12 kinds.
+pub const ENTRIES: usize = 240;
 
 // The next state: a row for each state, a column for each kind of token.
 const STATES: [u8; ENTRIES] = [
-    // the columns: other, word, EMPTY, ( ) , | > ? + *
-    14,  1,  1, 14, 14, 14, 14, 14, 14, 14, 14, // 0 beforeParent: before the parent
-    14, 14, 12,  2, 14, 14, 14, 14, 14, 14, 14, // 1 beforeModel: before the model
-    14,  3,  3,  8, 14, 14, 14, 14, 14, 14, 14, // 2 behindBracket: behind its bracket
-    14, 14, 14, 14,  6,  7,  4, 14, 11, 11, 11, // 3 behindFirst: behind a name there
-    14,  5,  5, 14, 14, 14, 14, 14, 14, 14, 14, // 4 wholeBar: behind a bar of a group that is the whole model
-    14, 14, 14, 14,  6, 14,  4, 14, 14, 14, 14, // 5 wholeName: behind a later name of it
-    14, 14, 14, 14, 14, 14, 14, 13, 12, 12, 12, // 6 wholeGroup: behind this group
-    14, 10, 10,  8, 14, 14, 14, 14, 14, 14, 14, // 7 beforeFactor: before a later factor
-    14,  9,  9, 14, 14, 14, 14, 14, 14, 14, 14, // 8 inGroup: before a name of a factor's group
-    14, 14, 14, 14, 10, 14,  8, 14, 14, 14, 14, // 9 groupName: behind a name of it
-    14, 14, 14, 14, 12,  7, 14, 14, 11, 11, 11, // 10 behindNames: behind a factor's names
-    14, 14, 14, 14, 12,  7, 14, 14, 14, 14, 14, // 11 behindMark: behind its mark
-    14, 14, 14, 14, 14, 14, 14, 13, 14, 14, 14, // 12 beforeEnd: before `>`
-    14, 14, 14, 14, 14, 14, 14, 14, 14, 14, 14, // 13 behindEnd: behind `>`
-    14, 14, 14, 14, 14, 14, 14, 14, 14, 14, 14, // 14 nowhere
+    // the columns: other, word, EMPTY, #PCDATA, ( ) , | > ? + *
+    19,  1,  1, 19, 19, 19, 19, 19, 19, 19, 19, 19, // 0 beforeParent: before the parent
+    19, 19, 17, 19,  2, 19, 19, 19, 19, 19, 19, 19, // 1 beforeModel: before the model
+    19,  3,  3, 12,  8, 19, 19, 19, 19, 19, 19, 19, // 2 behindBracket: behind its bracket
+    19, 19, 19, 19, 19,  6,  7,  4, 19, 11, 11, 11, // 3 behindFirst: behind a name there
+    19,  5,  5, 19, 19, 19, 19, 19, 19, 19, 19, 19, // 4 wholeBar: behind a bar of a group that is the whole model
+    19, 19, 19, 19, 19,  6, 19,  4, 19, 19, 19, 19, // 5 wholeName: behind a later name of it
+    19, 19, 19, 19, 19, 19, 19, 19, 18, 17, 17, 17, // 6 wholeGroup: behind this group
+    19, 10, 10, 19,  8, 19, 19, 19, 19, 19, 19, 19, // 7 beforeFactor: before a later factor
+    19,  9,  9, 19, 19, 19, 19, 19, 19, 19, 19, 19, // 8 inGroup: before a name of a factor's group
+    19, 19, 19, 19, 19, 10, 19,  8, 19, 19, 19, 19, // 9 groupName: behind a name of it
+    19, 19, 19, 19, 19, 17,  7, 19, 19, 11, 11, 11, // 10 behindNames: behind a factor's names
+    19, 19, 19, 19, 19, 17,  7, 19, 19, 19, 19, 19, // 11 behindMark: behind its mark
+    19, 19, 19, 19, 19, 13, 19, 14, 19, 19, 19, 19, // 12 behindText: behind `#PCDATA`
+    19, 19, 19, 19, 19, 19, 19, 19, 18, 19, 19, 17, // 13 textAlone: behind `(#PCDATA)`
+    19, 15, 15, 19, 19, 19, 19, 19, 19, 19, 19, 19, // 14 textBar: behind a bar of a group that begins with `#PCDATA`
+    19, 19, 19, 19, 19, 16, 19, 14, 19, 19, 19, 19, // 15 textName: behind a name of it
+    19, 19, 19, 19, 19, 19, 19, 19, 19, 19, 19, 17, // 16 beforeStar: behind this group, before its star
+    19, 19, 19, 19, 19, 19, 19, 19, 18, 19, 19, 19, // 17 beforeEnd: before `>`
+    19, 19, 19, 19, 19, 19, 19, 19, 19, 19, 19, 19, // 18 behindEnd: behind `>`
+    19, 19, 19, 19, 19, 19, 19, 19, 19, 19, 19, 19, // 19 nowhere
 ];
 
 // Whether a word is a name, by the table of classes.
@@ -70,7 +75,7 @@ pub fn fits(behind: bool, gap: bool, kind: u8) -> bool
         WORD..=LPAR => apart(behind, gap),
         RPAR..=END => true,
         QUESTION..=STAR => !gap,
-        11..=255 => true,
+        12..=255 => true,
     }
 }
 
@@ -86,5 +91,5 @@ pub fn next_state(states: &[u8; ENTRIES], state: u8, kind: u8) -> u8
     requires { ⌜ (now states ≡ table) × (state ≤ lastState) × (kind ≤ starKind) ⌝ }
     ensures { λ r. ⌜ (stateOf r ≡ step (stateOf state) kind) × (r ≤ lastState) ⌝ }
 {
-    states[11 * state as usize + kind as usize]
+    states[12 * state as usize + kind as usize]
 }

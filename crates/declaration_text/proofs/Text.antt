@@ -10,14 +10,15 @@ use lib.ListN.{length}
 use borrow.Author.Tests.{lt-ltb, ne-eqb}
 use Rattle.nameset.specs.Places.{places}
 use Rattle.model.specs.declared.Chain.{Chain}
-use Rattle.model.specs.Record.{modeOf, IsChain}
+use Rattle.model.specs.declared.Model.{Model}
+use Rattle.model.specs.Record.{modeOf, IsModel}
 use Rattle.declaration_spelling.specs.Token.{markByte}
-use Rattle.declaration_spelling.specs.House.{members, factorsFrom, factorsOf, nameAt, namesAt, named, opening, emptyWord, markText, barsText, groupText, factorText, othersText, bodyText, houseText, declaration}
+use Rattle.declaration_spelling.specs.House.{members, factorsFrom, factorsOf, nameAt, namesAt, named, opening, emptyWord, pcdataWord, markText, barsText, groupText, factorText, othersText, bodyText, mixedText, contentText, houseText, declaration}
 use Rattle.declaration_spelling.proofs.Shape.{Full}
 use Rattle.declaration_spelling.proofs.House.{house-order}
 use Rattle.declaration_spelling.proofs.Numbers.{order-full}
 use Rattle.byte_buffer.specs.Put.{shown}
-use Rattle.declaration_factor.specs.Parts.{leadByte, closeByte, modeByte, beforeByte, leads, manyIn, partText, factorsText, modelText, textOf}
+use Rattle.declaration_factor.specs.Parts.{leadByte, closeByte, modeByte, beforeByte, namesText, leads, manyIn, partText, factorsText, bodyPart, mixedEnd, mixedPart, contentPart, textOf}
 use Rattle.declaration_factor.proofs.Rising.{names-leads}
 
 bars-leads : (xs : List (List ℕ)) (after : List ℕ) → barsText xs after ≡ leads true true xs ++ (41 ∷ after)
@@ -92,10 +93,30 @@ body-is names n m (suc r) ((y, ys, e), f) =
     ∙ sym (append-assoc P R (41 ∷ 62 ∷ []))
     ∙ sym (append-assoc (P ++ R) (41 ∷ []) (62 ∷ []))))
 
--- what is written for a chain is its declaration
-pub text-is : (names : List (List ℕ)) (p : ℕ) (m : Chain) → IsChain places (length names) m → textOf names (length names) p m ≡ declaration names p m
-unfolding textOf declaration houseText factorsOf modelText opening shown
-text-is names p m c =
+-- with text: the names of factor 0, each behind `|`
+mixed-is : (names : List (List ℕ)) (n : ℕ) (m : Chain) (r : ℕ) →
+    mixedText (named names (factorsFrom m n 0 r)) ≡ ((40 ∷ pcdataWord) ++ cond (eqb r 0) (shown 41) (namesText names m 0 true true 0 n ++ (41 ∷ 42 ∷ []))) ++ shown 62
+unfolding mixedText named factorsFrom pcdataWord shown
+mixed-is names n m zero = refl
+mixed-is names n m (suc r) =
+    let z : eqb (suc r) 0 ≡ false = ne-eqb (suc r) 0 (λ q. omega arith) in
+    let N = namesText names m 0 true true 0 n in
+    rw z (ap (λ (t : List ℕ). (40 ∷ pcdataWord) ++ t)
+    (bars-leads (namesAt names (members m 0 0 n)) (42 ∷ 62 ∷ [])
+    ∙ ap (λ (t : List ℕ). t ++ (41 ∷ 42 ∷ 62 ∷ [])) (sym (names-leads names m 0 true true 0 n))
+    ∙ sym (append-assoc N (41 ∷ 42 ∷ []) (62 ∷ []))))
+
+content-is : (names : List (List ℕ)) (n t : ℕ) (m : Chain) → Full (factorsFrom m n 0 (m .count)) →
+    contentText t (named names (factorsFrom m n 0 (m .count))) ≡ cond (eqb t 0) (bodyPart names n m) (mixedPart names n m) ++ shown 62
+unfolding contentText bodyPart mixedPart mixedEnd
+content-is names n zero m f = body-is names n m (m .count) f
+content-is names n (suc t) m f = rw (ne-eqb (suc t) 0 (λ q. omega arith)) (mixed-is names n m (m .count))
+
+-- what is written for a model is its declaration
+pub text-is : (names : List (List ℕ)) (p : ℕ) (m : Model) → IsModel places (length names) m → textOf names (length names) p m ≡ declaration names p m
+unfolding textOf declaration houseText factorsOf contentPart opening shown
+text-is names p m is =
     let n = length names in
-    let full = order-full places n (omega arith) m c 0 (factorsFrom m n 0 (m .count)) (house-order places n (omega arith) m c (m .count) 0 (omega arith)) in
-    ap (λ (t : List ℕ). opening ++ (32 ∷ (nameAt names p ++ (32 ∷ t)))) (sym (body-is names n m (m .count) full))
+    let c = m .chain in
+    let full = order-full places n (omega arith) c (is .chain) 0 (factorsFrom c n 0 (c .count)) (house-order places n (omega arith) c (is .chain) (c .count) 0 (omega arith)) in
+    ap (λ (t : List ℕ). opening ++ (32 ∷ (nameAt names p ++ (32 ∷ t)))) (sym (content-is names n (m .text) c full))

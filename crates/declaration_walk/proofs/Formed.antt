@@ -2,7 +2,7 @@
 -- Assumes nothing.
 use Prim.Native.Nat.{ℕ, zero, suc, _<_}
 use mathlib.Core.Path.{_≡_, refl, sym, _∙_, ap, ap₂, subst}
-use mathlib.Core.Bool.{Bool, true, false, cond, _&&_, false≢true}
+use mathlib.Core.Bool.{Bool, true, false, cond, not, _&&_, _||_, false≢true}
 use mathlib.Core.List.{List, [], _∷_, _++_}
 use mathlib.Core.Option.{Option, none, some}
 use mathlib.Core.Logic.{_⊎_, inl, inr}
@@ -10,17 +10,18 @@ use lib.ListN.{drop}
 use Rattle.name.specs.Class.{between}
 use Rattle.name.specs.Rule.{isName}
 use Rattle.declaration_spelling.specs.Token.{Token, word, lpar, rpar, comma, bar, end, mark, other, behind, room, Spells}
-use Rattle.declaration_spelling.specs.House.{Factor, opening, emptyWord}
-use Rattle.declaration_spelling.specs.Spelled.{IsModel}
+use Rattle.declaration_spelling.specs.House.{opening, emptyWord, pcdataWord}
+use Rattle.declaration_spelling.specs.Spelled.{IsContent}
 use Rattle.declaration_spelling.specs.Cut.{same, strip, SpacedToken, cut, fits, spaced, tokens}
-use Rattle.declaration_spelling.specs.Kind.{otherKind, wordKind, emptyKind, markKind, tokenKind}
+use Rattle.declaration_spelling.specs.Kind.{otherKind, wordKind, emptyKind, pcdataKind, markKind, tokenKind}
 use Rattle.declaration_spelling.specs.Stops.{Form, HasForm}
-use Rattle.declaration_spelling.proofs.Tests.{and-is, strip-join, strip-is}
-use Rattle.declaration_spelling.proofs.Bytes.{name-word, empty-name}
+use Rattle.declaration_spelling.proofs.Tests.{and-is, same-is, same-refl, strip-join, strip-is}
+use Rattle.declaration_spelling.proofs.Bytes.{name-word, empty-name, pcdata-word, pcdata-no-name}
+use Rattle.declaration_spelling.proofs.Record.{allForm}
 use Rattle.declaration_spelling.proofs.Cutting.{Proper, AllProper, cut-sound, cut-complete}
 use Rattle.declaration_spelling.proofs.Named.{all-law}
-use Rattle.declaration_walk.specs.Walk.{State, beforeParent, beforeModel, behindBracket, behindFirst, wholeBar, wholeName, wholeGroup, beforeFactor, inGroup, groupName, behindNames, behindMark, beforeEnd, behindEnd, nowhere, arrows, along, step, walk, isWord, kindFits, passes, allPass, accepts, acceptsRest, hasForm}
-use Rattle.declaration_walk.proofs.Arrows.{lost, MarkKind, mark-kind}
+use Rattle.declaration_walk.specs.Walk.{State, beforeParent, beforeModel, behindBracket, behindFirst, wholeBar, wholeName, wholeGroup, beforeFactor, inGroup, groupName, behindNames, behindMark, behindText, textAlone, textBar, textName, beforeStar, beforeEnd, behindEnd, nowhere, arrows, along, step, walk, isWord, kindFits, passes, allPass, mayStand, accepts, acceptsRest, hasForm}
+use Rattle.declaration_walk.proofs.Arrows.{lost, MarkKind, mark-kind, isPlain}
 use Rattle.declaration_walk.proofs.Sound.{walk-sound}
 use Rattle.declaration_walk.proofs.Complete.{walk-complete}
 use Rattle.declaration_walk.proofs.Words.{form-pass}
@@ -42,6 +43,11 @@ other-lost inGroup = refl
 other-lost groupName = refl
 other-lost behindNames = refl
 other-lost behindMark = refl
+other-lost behindText = refl
+other-lost textAlone = refl
+other-lost textBar = refl
+other-lost textName = refl
+other-lost beforeStar = refl
 other-lost beforeEnd = refl
 other-lost behindEnd = refl
 other-lost nowhere = refl
@@ -60,11 +66,12 @@ behind-fits (other b) gap = refl
 -- white space by the kind of a token
 kind-fits : (t u : Token) (gap : Bool) → (tokenKind u ≡ otherKind) ⊎ (fits (room t u) gap ≡ kindFits (isWord t) gap (tokenKind u))
 unfolding fits room kindFits between tokenKind markKind
-kind-fits t (word x) gap = inr (go (same x emptyWord))
+kind-fits t (word x) gap = inr (go (same x emptyWord) (same x pcdataWord))
   where
-    go : (b : Bool) → fits (behind t) gap ≡ kindFits (isWord t) gap (cond b emptyKind wordKind)
-    go true = behind-fits t gap
-    go false = behind-fits t gap
+    go : (a b : Bool) → fits (behind t) gap ≡ kindFits (isWord t) gap (cond a emptyKind (cond b pcdataKind wordKind))
+    go true b = behind-fits t gap
+    go false true = behind-fits t gap
+    go false false = behind-fits t gap
 kind-fits t lpar gap = inr (behind-fits t gap)
 kind-fits t rpar gap = inr refl
 kind-fits t comma gap = inr refl
@@ -87,7 +94,7 @@ shuffle true true b h c = refl
 shuffle true false true h c = refl
 shuffle true false false h c = refl
 
-accepts-is : (s : State) (t : Token) (gap : Bool) (ps : List SpacedToken) → accepts s (isWord t) gap ps ≡ (spaced t gap ps && (allPass isName (tokens ps) && walk s (tokens ps)))
+accepts-is : (s : State) (t : Token) (gap : Bool) (ps : List SpacedToken) → accepts s (isWord t) gap ps ≡ (spaced t gap ps && (allPass mayStand (tokens ps) && walk s (tokens ps)))
 unfolding accepts spaced tokens allPass walk
 accepts-is s t gap [] = refl
 accepts-is s t gap (p ∷ ps) = go (kind-fits t (p .token) gap) (accepts-is (step s (tokenKind (p .token))) (p .token) (p .gap) ps)
@@ -96,25 +103,59 @@ accepts-is s t gap (p ∷ ps) = go (kind-fits t (p .token) gap) (accepts-is (ste
     next = step s (tokenKind (p .token))
 
     go : (tokenKind (p .token) ≡ otherKind) ⊎ (fits (room t (p .token)) gap ≡ kindFits (isWord t) gap (tokenKind (p .token)))
-        → accepts next (isWord (p .token)) (p .gap) ps ≡ (spaced (p .token) (p .gap) ps && (allPass isName (tokens ps) && walk next (tokens ps)))
-        → (kindFits (isWord t) gap (tokenKind (p .token)) && (passes isName (p .token) && accepts next (isWord (p .token)) (p .gap) ps))
-        ≡ ((fits (room t (p .token)) gap && spaced (p .token) (p .gap) ps) && ((passes isName (p .token) && allPass isName (tokens ps)) && walk next (tokens ps)))
+        → accepts next (isWord (p .token)) (p .gap) ps ≡ (spaced (p .token) (p .gap) ps && (allPass mayStand (tokens ps) && walk next (tokens ps)))
+        → (kindFits (isWord t) gap (tokenKind (p .token)) && (passes mayStand (p .token) && accepts next (isWord (p .token)) (p .gap) ps))
+        ≡ ((fits (room t (p .token)) gap && spaced (p .token) (p .gap) ps) && ((passes mayStand (p .token) && allPass mayStand (tokens ps)) && walk next (tokens ps)))
     go (inl k) ih =
         let w : walk next (tokens ps) ≡ false = ap (λ (r : State). walk r (tokens ps)) (ap (step s) k ∙ other-lost s) ∙ lost (tokens ps) in
-        and-false (kindFits (isWord t) gap (tokenKind (p .token))) (passes isName (p .token)) _ (ih ∙ and-false (spaced (p .token) (p .gap) ps) (allPass isName (tokens ps)) _ w)
-        ∙ sym (and-false (fits (room t (p .token)) gap && spaced (p .token) (p .gap) ps) (passes isName (p .token) && allPass isName (tokens ps)) _ w)
+        and-false (kindFits (isWord t) gap (tokenKind (p .token))) (passes mayStand (p .token)) _ (ih ∙ and-false (spaced (p .token) (p .gap) ps) (allPass mayStand (tokens ps)) _ w)
+        ∙ sym (and-false (fits (room t (p .token)) gap && spaced (p .token) (p .gap) ps) (passes mayStand (p .token) && allPass mayStand (tokens ps)) _ w)
     go (inr f) ih =
-        ap₂ (λ (a b : Bool). a && (passes isName (p .token) && b)) (sym f) ih
-        ∙ shuffle (fits (room t (p .token)) gap) (passes isName (p .token)) (spaced (p .token) (p .gap) ps) (allPass isName (tokens ps)) (walk next (tokens ps))
+        ap₂ (λ (a b : Bool). a && (passes mayStand (p .token) && b)) (sym f) ih
+        ∙ shuffle (fits (room t (p .token)) gap) (passes mayStand (p .token)) (spaced (p .token) (p .gap) ps) (allPass mayStand (tokens ps)) (walk next (tokens ps))
 
 lost-behind : (t : Token) (gap : Bool) (ps : List SpacedToken) → accepts nowhere (isWord t) gap ps ≡ false
-lost-behind t gap ps = accepts-is nowhere t gap ps ∙ and-false (spaced t gap ps) (allPass isName (tokens ps)) _ (lost (tokens ps))
+lost-behind t gap ps = accepts-is nowhere t gap ps ∙ and-false (spaced t gap ps) (allPass mayStand (tokens ps)) _ (lost (tokens ps))
 
 -- from nowhere nothing is accepted
 pub accepts-lost : (behindWord gap : Bool) (ps : List SpacedToken) → accepts nowhere behindWord gap ps ≡ false
 unfolding isWord
 accepts-lost true gap ps = lost-behind (word []) gap ps
 accepts-lost false gap ps = lost-behind lpar gap ps
+
+-- ---- a word is `#PCDATA` or a name, and a name is not `#PCDATA`
+
+text-stands : mayStand pcdataWord ≡ true
+unfolding mayStand
+text-stands = ap (λ (b : Bool). b || isName pcdataWord) (same-refl pcdataWord)
+
+name-stands : (x : List ℕ) → isName x ≡ true → mayStand x ≡ true
+unfolding mayStand
+name-stands x e = go (same x pcdataWord)
+  where
+    go : (b : Bool) → (b || isName x) ≡ true
+    go true = refl
+    go false = e
+
+name-plain : (x : List ℕ) → isName x ≡ true → isPlain x ≡ true
+unfolding isPlain
+name-plain x e = go (same x pcdataWord) refl
+  where
+    go : (b : Bool) → same x pcdataWord ≡ b → not b ≡ true
+    go true q = absurd (false≢true (sym pcdata-no-name ∙ ap isName (sym (same-is x pcdataWord q)) ∙ e))
+    go false q = refl
+
+plain-name : (x : List ℕ) → mayStand x ≡ true → isPlain x ≡ true → isName x ≡ true
+unfolding mayStand isPlain
+plain-name x e g = go (same x pcdataWord) e g
+  where
+    go : (b : Bool) → (b || isName x) ≡ true → not b ≡ true → isName x ≡ true
+    go true e g = absurd (false≢true g)
+    go false e g = e
+
+-- the words of a form may all stand
+form-stands : (d : Form) (ts : List Token) → IsContent (d .mixed) (d .factors) ts → allPass mayStand (word (d .parent) ∷ ts) ≡ allForm mayStand d
+form-stands d ts M = form-pass mayStand (name-stands emptyWord empty-name) text-stands d ts M
 
 -- ---- what is taken has the form
 
@@ -126,16 +167,16 @@ unfolding isWord
 cut-formed text t o e =
     let ts = tokens (cut t .pieces) in
     let a = and-is (spaced (word opening) (cut t .gap) (cut t .pieces)) _ .0 (sym (accepts-is beforeParent (word opening) (cut t .gap) (cut t .pieces)) ∙ e) in
-    let b = and-is (allPass isName ts) (walk beforeParent ts) .0 (a .1) in
+    let b = and-is (allPass mayStand ts) (walk beforeParent ts) .0 (a .1) in
     go (walk-sound ts (b .1)) (cut-sound (word opening) t (a .0)) (b .0)
   where
-    go : ((p : List ℕ) × (us : List Token) × (fs : List (Factor (List ℕ))) × (tokens (cut t .pieces) ≡ word p ∷ us) × IsModel fs us)
-        → Spells (word opening) (tokens (cut t .pieces)) t → allPass isName (tokens (cut t .pieces)) ≡ true → Formed text
-    go (p, us, fs, q, M) s w =
-        let d : Form = record { parent = p; factors = fs } in (
+    go : ((d : Form) × (us : List Token) × (tokens (cut t .pieces) ≡ word (d .parent) ∷ us) × IsContent (d .mixed) (d .factors) us × (allForm isPlain d ≡ true))
+        → Spells (word opening) (tokens (cut t .pieces)) t → allPass mayStand (tokens (cut t .pieces)) ≡ true → Formed text
+    go (d, us, q, M, plain) s w =
+        let stand = sym (form-stands d us M) ∙ ap (allPass mayStand) (sym q) ∙ w in (
           d,
           record {
-            good = all-law isName d .0 (sym (form-pass isName empty-name d us M) ∙ ap (allPass isName) (sym q) ∙ w);
+            good = λ x m. plain-name x (all-law mayStand d .0 stand x m) (all-law isPlain d .0 plain x m);
             spelled = record { rest = t; opens = o; tokens = us; model = M; spaced = subst (λ (l : List Token). Spells (word opening) l t) q s };
           },
         )
@@ -150,9 +191,17 @@ form-sound text e = go (strip opening text) refl e
 
 -- ---- what has the form is taken
 
-proper-token : (t : Token) → passes isName t ≡ true → (tokenKind t ≡ otherKind → ⊥) → Proper t
+proper-word : (w : List ℕ) → mayStand w ≡ true → Proper (word w)
+unfolding mayStand
+proper-word w e = go (same w pcdataWord) refl e
+  where
+    go : (b : Bool) → same w pcdataWord ≡ b → (b || isName w) ≡ true → Proper (word w)
+    go true q e = rw (same-is w pcdataWord q) pcdata-word
+    go false q e = name-word w e
+
+proper-token : (t : Token) → passes mayStand t ≡ true → (tokenKind t ≡ otherKind → ⊥) → Proper t
 unfolding passes tokenKind
-proper-token (word w) e h = name-word w e
+proper-token (word w) e h = proper-word w e
 proper-token lpar e h = tt
 proper-token rpar e h = tt
 proper-token comma e h = tt
@@ -165,22 +214,25 @@ proper-token (mark m) e h = go (mark-kind m)
     go (inr k) = k .1
 proper-token (other b) e h = absurd (h refl)
 
-proper-walk : (s : State) (ts : List Token) → allPass isName ts ≡ true → walk s ts ≡ true → AllProper ts
+proper-walk : (s : State) (ts : List Token) → allPass mayStand ts ≡ true → walk s ts ≡ true → AllProper ts
 unfolding allPass walk
 proper-walk s [] a w = tt
 proper-walk s (t ∷ ts) a w =
-    let b = and-is (passes isName t) (allPass isName ts) .0 a in
+    let b = and-is (passes mayStand t) (allPass mayStand ts) .0 a in
     (proper-token t (b .0) (λ k. false≢true (sym (ap (λ (r : State). walk r ts) (ap (step s) k ∙ other-lost s) ∙ lost ts) ∙ w)), proper-walk (step s (tokenKind t)) ts (b .1) w)
 
 module _ (text : List ℕ) (d : Form) (F : HasForm text d) where
   abbrev all : List Token
   all = word (d .parent) ∷ F .spelled .tokens
 
-  words : allPass isName all ≡ true
-  words = form-pass isName empty-name d (F .spelled .tokens) (F .spelled .model) ∙ all-law isName d .1 (F .good)
+  words : allPass mayStand all ≡ true
+  words = form-stands d (F .spelled .tokens) (F .spelled .model) ∙ all-law mayStand d .1 (λ x m. name-stands x (F .good x m))
+
+  pub form-plain : allForm isPlain d ≡ true
+  form-plain = all-law isPlain d .1 (λ x m. name-plain x (F .good x m))
 
   walked : walk beforeParent all ≡ true
-  walked = walk-complete (d .parent) (d .factors) (F .spelled .tokens) (F .spelled .model)
+  walked = walk-complete d (F .spelled .tokens) (F .spelled .model) form-plain
 
   cut-is : (tokens (cut (F .spelled .rest) .pieces) ≡ all) × (spaced (word opening) (cut (F .spelled .rest) .gap) (cut (F .spelled .rest) .pieces) ≡ true)
   cut-is = cut-complete (word opening) all (F .spelled .rest) (proper-walk beforeParent all words walked) (F .spelled .spaced)

@@ -1,6 +1,7 @@
 pub mod Texts
 pub mod States
 pub mod Arrows
+pub mod Plain
 pub mod Sound
 pub mod Complete
 pub mod Words

@@ -7,7 +7,7 @@ use native.Mathlib.Nat.{zero-add}
 use lib.ListN.{List·getD-map}
 use Rattle.declaration_spelling.proofs.Record.{valuesFrom}
 use Rattle.declaration_spelling.proofs.Numbers.{values-from}
-use Rattle.declaration_walk.specs.Walk.{State, beforeParent, beforeModel, behindBracket, behindFirst, wholeBar, wholeName, wholeGroup, beforeFactor, inGroup, groupName, behindNames, behindMark, beforeEnd, behindEnd, nowhere, numberOf, lastState, states, stateOf}
+use Rattle.declaration_walk.specs.Walk.{State, beforeParent, beforeModel, behindBracket, behindFirst, wholeBar, wholeName, wholeGroup, beforeFactor, inGroup, groupName, behindNames, behindMark, behindText, textAlone, textBar, textName, beforeStar, beforeEnd, behindEnd, nowhere, numberOf, lastState, states, stateOf}
 
 -- a state has its number
 pub state-number : (s : State) → (stateOf (numberOf s) ≡ s) × (numberOf s ≤ lastState)
@@ -24,6 +24,11 @@ state-number inGroup = (refl, omega arith)
 state-number groupName = (refl, omega arith)
 state-number behindNames = (refl, omega arith)
 state-number behindMark = (refl, omega arith)
+state-number behindText = (refl, omega arith)
+state-number textAlone = (refl, omega arith)
+state-number textBar = (refl, omega arith)
+state-number textName = (refl, omega arith)
+state-number beforeStar = (refl, omega arith)
 state-number beforeEnd = (refl, omega arith)
 state-number behindEnd = (refl, omega arith)
 state-number nowhere = (refl, omega arith)
@@ -31,7 +36,7 @@ state-number nowhere = (refl, omega arith)
 -- and each number up to the last is that of its state
 pub number-state : (n : ℕ) → n ≤ lastState → numberOf (stateOf n) ≡ n
 unfolding stateOf states numberOf valuesFrom
-number-state n h = sym (List·getD-map numberOf states n nowhere) ∙ values-from 0 15 n (λ k. k) lastState (omega arith) ∙ zero-add n
+number-state n h = sym (List·getD-map numberOf states n nowhere) ∙ values-from 0 20 n (λ k. k) lastState (omega arith) ∙ zero-add n
 
 pub nowhere-number : (n : ℕ) → n ≡ lastState → stateOf n ≡ nowhere
 unfolding stateOf states

@@ -1,13 +1,14 @@
 -- The tokens of a model, taken one after the other, fill the rows as its factors do.
 -- Assumes nothing.
 use Prim.Native.Nat.{ℕ, zero, suc}
-use mathlib.Core.Path.{_≡_, refl, sym, _∙_}
+use mathlib.Core.Path.{_≡_, refl, sym, _∙_, ap}
 use mathlib.Core.List.{List, [], _∷_}
 use mathlib.Core.Option.{Option, none, some}
 use mathlib.Core.Logic.{inl, inr}
+use lib.ListN.{drop}
 use Rattle.declaration_spelling.specs.Token.{Token, end}
 use Rattle.declaration_spelling.specs.House.{Factor}
-use Rattle.declaration_spelling.specs.Spelled.{markTokens, barsTokens, IsGroup, IsFactor, AreLater, IsModel}
+use Rattle.declaration_spelling.specs.Spelled.{markTokens, barsTokens, IsGroup, IsFactor, AreLater, IsPlain, IsMixed}
 use Rattle.declaration_spelling.specs.Read.{numberFor}
 use Rattle.declaration_spelling.proofs.Record.{numbersFor, numbered}
 use Rattle.declaration_walk.specs.Gather.{Rows, withName, nextFactor, withMode, takeToken, andThen, gatherFrom}
@@ -81,10 +82,22 @@ module _ (size : ℕ) (names : List (List ℕ)) where
   unfolding gatherFrom takeToken andThen placeOthers numbered
   end-taken g = refl
 
-  -- a model with a factor
-  pub model-taken : (f : Factor (List ℕ)) (fs : List (Factor (List ℕ))) (ts : List Token) (g : Rows) → IsModel (f ∷ fs) ts →
+  -- a model without text that has a factor
+  pub model-taken : (f : Factor (List ℕ)) (fs : List (Factor (List ℕ))) (ts : List Token) (g : Rows) → IsPlain (f ∷ fs) ts →
       gatherFrom size names ts g ≡ andThen (placeFactor (byNumber f) g) (placeOthers size (numbered names fs))
   unfolding gatherFrom takeToken andThen
   model-taken f fs ts g (inl (us, after, e, F, L)) =
       rw e (factor-taken f after us g F ∙ then-same (placeFactor (byNumber f) g) (gather after) (placeOthers size (numbered names fs)) (λ k. later-taken fs after k L))
   model-taken f fs ts g (inr (e, G)) = rw e (group-taken f (end ∷ []) ts g G ∙ then-same (placeFactor (byNumber f) g) (gather (end ∷ [])) (placeOthers size (numbered names [])) end-taken)
+
+  -- what stands behind `(#PCDATA` in a model that has a factor
+  pub mixed-taken : (f : Factor (List ℕ)) (fs : List (Factor (List ℕ))) (ts : List Token) (g : Rows) → IsMixed (f ∷ fs) ts →
+      gatherFrom size names (drop 2 ts) g ≡ andThen (placeFactor (byNumber f) g) (placeOthers size (numbered names fs))
+  unfolding markTokens
+  mixed-taken f fs ts g (e, l, (x, xs, q, r)) =
+      let k : barsTokens (x ∷ xs) (markTokens 3 (end ∷ [])) ≡ barsTokens (f .names) (markTokens (f .mode) (end ∷ [])) = rw (q, l) in
+      ap (λ (us : List Token). gather (drop 2 us) g) r ∙ ap (λ (us : List Token). gather us g) k
+      ∙ bars-taken (f .names) (markTokens (f .mode) (end ∷ [])) g
+      ∙ marked-taken f (end ∷ []) g
+      ∙ then-same (placeFactor (byNumber f) g) (gather (end ∷ [])) (placeOthers size (numbered names [])) end-taken
+      ∙ ap (λ (gs : List (Factor (List ℕ))). andThen (placeFactor (byNumber f) g) (placeOthers size (numbered names gs))) (sym e)

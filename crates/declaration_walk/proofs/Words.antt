@@ -5,9 +5,10 @@ use mathlib.Core.Path.{_≡_, refl, _∙_, ap}
 use mathlib.Core.Bool.{Bool, true, false, _&&_}
 use mathlib.Core.List.{List, [], _∷_}
 use mathlib.Core.Logic.{inl, inr}
+use lib.ListN.{drop}
 use Rattle.declaration_spelling.specs.Token.{Token, word, end}
-use Rattle.declaration_spelling.specs.House.{Factor, emptyWord}
-use Rattle.declaration_spelling.specs.Spelled.{markTokens, barsTokens, IsGroup, IsFactor, AreLater, IsModel}
+use Rattle.declaration_spelling.specs.House.{Factor, emptyWord, pcdataWord}
+use Rattle.declaration_spelling.specs.Spelled.{markTokens, barsTokens, IsGroup, IsFactor, AreLater, IsPlain, IsMixed, IsContent}
 use Rattle.declaration_spelling.specs.Stops.{Form}
 use Rattle.declaration_spelling.proofs.Record.{allNames, allFactors, allForm}
 use Rattle.declaration_walk.specs.Walk.{passes, allPass}
@@ -46,18 +47,38 @@ module _ (test : List ℕ → Bool) where
   unfolding allPass passes allFactors
   end-pass = refl
 
-  -- a model with a factor
-  pub model-pass : (f : Factor (List ℕ)) (fs : List (Factor (List ℕ))) (ts : List Token) → IsModel (f ∷ fs) ts → allPass test ts ≡ allFactors test (f ∷ fs)
+  -- a model without text that has a factor
+  pub model-pass : (f : Factor (List ℕ)) (fs : List (Factor (List ℕ))) (ts : List Token) → IsPlain (f ∷ fs) ts → allPass test ts ≡ allFactors test (f ∷ fs)
   unfolding allPass passes allFactors
   model-pass f fs ts (inl (us, after, e, F, L)) = rw e (factor-pass f after us F ∙ ap (λ (b : Bool). allNames test (f .names) && b) (later-pass fs after L))
   model-pass f fs ts (inr (e, G)) = rw e (group-pass f (end ∷ []) ts G ∙ ap (λ (b : Bool). allNames test (f .names) && b) end-pass)
 
-  content-pass : test emptyWord ≡ true → (fs : List (Factor (List ℕ))) (ts : List Token) → IsModel fs ts → allPass test ts ≡ allFactors test fs
+  -- any without text, where `EMPTY` passes
+  pub plain-pass : test emptyWord ≡ true → (fs : List (Factor (List ℕ))) (ts : List Token) → IsPlain fs ts → allPass test ts ≡ allFactors test fs
   unfolding allPass passes allFactors
-  content-pass e [] ts q = rw (q, e)
-  content-pass e (f ∷ fs) ts M = model-pass f fs ts M
+  plain-pass e [] ts q = rw (q, e)
+  plain-pass e (f ∷ fs) ts M = model-pass f fs ts M
 
-  -- the whole, where `EMPTY` passes
-  pub form-pass : test emptyWord ≡ true → (d : Form) (ts : List Token) → IsModel (d .factors) ts → allPass test (word (d .parent) ∷ ts) ≡ allForm test d
+  -- what stands behind `(#PCDATA`
+  pub mixed-pass : (fs : List (Factor (List ℕ))) (ts : List Token) → IsMixed fs ts → allPass test (drop 2 ts) ≡ allFactors test fs
+  unfolding allPass passes allFactors
+  mixed-pass [] ts (inl e) = rw e
+  mixed-pass [] ts (inr e) = rw e
+  mixed-pass (f ∷ fs) ts (e, l, (x, xs, q, r)) = rw (r, e, q) (bars-pass (x ∷ xs) _)
+
+  -- a model with text, where `#PCDATA` passes
+  whole-pass : test pcdataWord ≡ true → (fs : List (Factor (List ℕ))) (ts : List Token) → IsMixed fs ts → allPass test ts ≡ allPass test (drop 2 ts)
+  unfolding allPass passes
+  whole-pass p [] ts (inl e) = rw (e, p)
+  whole-pass p [] ts (inr e) = rw (e, p)
+  whole-pass p (f ∷ fs) ts (e, l, (x, xs, q, r)) = rw (r, p)
+
+  content-pass : test emptyWord ≡ true → test pcdataWord ≡ true → (t : ℕ) (fs : List (Factor (List ℕ))) (ts : List Token) → IsContent t fs ts → allPass test ts ≡ allFactors test fs
+  content-pass e p zero fs ts M = plain-pass e fs ts M
+  content-pass e p (suc zero) fs ts M = whole-pass p fs ts M ∙ mixed-pass fs ts M
+  content-pass e p (suc (suc t)) fs ts M = absurd M
+
+  -- the whole, where `EMPTY` and `#PCDATA` pass
+  pub form-pass : test emptyWord ≡ true → test pcdataWord ≡ true → (d : Form) (ts : List Token) → IsContent (d .mixed) (d .factors) ts → allPass test (word (d .parent) ∷ ts) ≡ allForm test d
   unfolding allPass passes allForm
-  form-pass e d ts M = ap (λ (b : Bool). test (d .parent) && b) (content-pass e (d .factors) ts M)
+  form-pass e p d ts M = ap (λ (b : Bool). test (d .parent) && b) (content-pass e p (d .mixed) (d .factors) ts M)

@@ -10,10 +10,11 @@ use lib.Dec.{eqb, ltb}
 use lib.ListN.{getD, set, replicate, drop}
 use Rattle.refusal.specs.declared.Refusal.the-variants.{NotADeclaration, UnknownName, NameTwice}
 use Rattle.refusal.specs.Answer.{Answer, given, refused, onward, refuseIf}
-use Rattle.model.specs.declared.Chain.{Chain}
-use Rattle.model.specs.Record.{noFactor, emptyChain}
+use Rattle.model.specs.declared.Model.{Model}
+use Rattle.model.specs.Record.{noFactor, modelWith, emptyChain}
 use Rattle.declaration_spelling.specs.Token.{Token, word, lpar, rpar, comma, bar, end, mark, other}
 use Rattle.declaration_spelling.specs.Cut.{cut, tokens}
+use Rattle.declaration_spelling.specs.Kind.{pcdataKind, barKind, tokenKind}
 use Rattle.declaration_spelling.specs.Read.{known, numberFor, Declared, declared, orRefuse}
 use Rattle.declaration_walk.specs.Walk.{isWord, allPass, hasForm}
 
@@ -72,25 +73,39 @@ unfoldable pub gatherFrom : ℕ → List (List ℕ) → List Token → Rows → 
 gatherFrom size names [] g = some g
 gatherFrom size names (t ∷ ts) g = andThen (takeToken size names t g) (gatherFrom size names ts)
 
--- The record, once its last factor is filled.
-unfoldable pub modelOf : Rows → Chain
-modelOf g = record { count = suc (g .index); factor = g .factor; mode = g .mode }
+-- The model with this text byte, once its last factor is filled.
+unfoldable pub modelOf : ℕ → Rows → Model
+modelOf mixed g = modelWith record { count = suc (g .index); factor = g .factor; mode = g .mode } mixed
 
 -- ---- the answer
 
--- The model in its brackets, for a parent that is known: 14, then 15, else the record.
-unfoldable pub factorsAnswer : ℕ → List (List ℕ) → ℕ → List Token → Answer Declared
-factorsAnswer size names p ts =
+-- The factors of a model, for a parent that is known: 14, then 15, else the record. `mixed` is the text byte.
+unfoldable pub factorsAnswer : ℕ → List (List ℕ) → ℕ → ℕ → List Token → Answer Declared
+factorsAnswer size names p mixed ts =
     refuseIf (not (knownTokens names ts)) UnknownName
-    (onward (orRefuse NameTwice (gatherFrom size names ts (startRows size))) (λ g. given (declared p (modelOf g))))
+    (onward (orRefuse NameTwice (gatherFrom size names ts (startRows size))) (λ g. given (declared p (modelOf mixed g))))
+
+-- A model without a factor: `EMPTY`, or with text.
+abbrev pub noFactors : ℕ → ℕ → ℕ → Answer Declared
+noFactors size p mixed = given (declared p (modelWith (emptyChain size) mixed))
 
 unfoldable pub beginsWithWord : List Token → Bool
 beginsWithWord [] = false
 beginsWithWord (t ∷ ts) = isWord t
 
--- The model: a word is `EMPTY`, for the text has the form.
+unfoldable pub beginsWith : ℕ → List Token → Bool
+beginsWith kind [] = false
+beginsWith kind (t ∷ ts) = eqb (tokenKind t) kind
+
+-- What stands behind `(#PCDATA`: a bar before each name of its one factor, or no name.
+unfoldable pub mixedAnswer : ℕ → List (List ℕ) → ℕ → List Token → Answer Declared
+mixedAnswer size names p ts = cond (beginsWith barKind ts) (factorsAnswer size names p 1 ts) (noFactors size p 1)
+
+-- The model: a word is `EMPTY`, for the text has the form; `#PCDATA` may stand behind the bracket.
 unfoldable pub contentAnswer : ℕ → List (List ℕ) → ℕ → List Token → Answer Declared
-contentAnswer size names p ts = cond (beginsWithWord ts) (given (declared p (emptyChain size))) (factorsAnswer size names p ts)
+contentAnswer size names p ts =
+    cond (beginsWithWord ts) (noFactors size p 0)
+    (cond (beginsWith pcdataKind (drop 1 ts)) (mixedAnswer size names p (drop 2 ts)) (factorsAnswer size names p 0 ts))
 
 -- The parent, which is a name of the book, and the model.
 unfoldable pub tokensAnswer : ℕ → List (List ℕ) → List Token → Answer Declared

@@ -1,9 +1,9 @@
 -- A means: the form of a declaration as a walk along its tokens: a state, the kind of a token, the next state.
--- `walk-sound` in proofs/Sound.antt and `walk-complete` in proofs/Complete.antt join it to `IsModel`, `form-sound` and
--- `form-complete` in proofs/Formed.antt to `HasForm`.
+-- `walk-sound` in proofs/Sound.antt and `walk-complete` in proofs/Complete.antt join it to `IsContent`, `form-sound`
+-- and `form-complete` in proofs/Formed.antt to `HasForm`.
 -- Assumes nothing.
 use Prim.Native.Nat.{ℕ}
-use mathlib.Core.Bool.{Bool, true, false, cond, not, _&&_}
+use mathlib.Core.Bool.{Bool, true, false, cond, not, _&&_, _||_}
 use mathlib.Core.List.{List, [], _∷_}
 use mathlib.Core.Option.{Option, none, some}
 use lib.Dec.{eqb}
@@ -11,14 +11,14 @@ use lib.ListN.{getD}
 use Rattle.name.specs.Class.{between}
 use Rattle.name.specs.Rule.{isName}
 use Rattle.declaration_spelling.specs.Token.{Token, word, lpar, rpar, comma, bar, end, mark, other}
-use Rattle.declaration_spelling.specs.House.{opening}
-use Rattle.declaration_spelling.specs.Cut.{strip, SpacedToken, cut}
-use Rattle.declaration_spelling.specs.Kind.{wordKind, emptyKind, lparKind, rparKind, commaKind, barKind, endKind, questionKind, plusKind, starKind, tokenKind}
+use Rattle.declaration_spelling.specs.House.{opening, pcdataWord}
+use Rattle.declaration_spelling.specs.Cut.{same, strip, SpacedToken, cut}
+use Rattle.declaration_spelling.specs.Kind.{wordKind, emptyKind, pcdataKind, lparKind, rparKind, commaKind, barKind, endKind, questionKind, plusKind, starKind, tokenKind}
 
 -- ---- the states
 
 -- Where the walk is. A name behind the model's bracket may be the first factor, or the first name of a group that is
--- the whole model; what follows decides.
+-- the whole model; what follows decides. `#PCDATA` stands nowhere but behind that bracket.
 pub data State : Type 0 where
   -- before the parent, before the model
   beforeParent beforeModel : State
@@ -32,6 +32,10 @@ pub data State : Type 0 where
   inGroup groupName : State
   -- behind a factor's names, behind its mark
   behindNames behindMark : State
+  -- behind `#PCDATA`, behind `(#PCDATA)`
+  behindText textAlone : State
+  -- behind `#PCDATA`: behind a bar, behind a name; and behind the bracket that closes these names
+  textBar textName beforeStar : State
   -- before `>`, behind `>`
   beforeEnd behindEnd : State
   -- no text goes on from here
@@ -45,7 +49,7 @@ pub record Arrow : Type 0 where
 abbrev pub by : ℕ → State → Arrow
 by kind to = record { kind = kind; to = to }
 
--- By any word, `EMPTY` included; by any mark.
+-- By any word, `EMPTY` included and `#PCDATA` excluded; by any mark.
 abbrev pub byWord : State → List Arrow
 byWord to = by wordKind to ∷ by emptyKind to ∷ []
 
@@ -56,7 +60,7 @@ byMark to = by questionKind to ∷ by plusKind to ∷ by starKind to ∷ []
 unfoldable pub arrows : State → List Arrow
 arrows beforeParent = byWord beforeModel
 arrows beforeModel = by emptyKind beforeEnd ∷ by lparKind behindBracket ∷ []
-arrows behindBracket = by lparKind inGroup ∷ byWord behindFirst
+arrows behindBracket = by lparKind inGroup ∷ by pcdataKind behindText ∷ byWord behindFirst
 arrows behindFirst = by rparKind wholeGroup ∷ by barKind wholeBar ∷ by commaKind beforeFactor ∷ byMark behindMark
 arrows wholeBar = byWord wholeName
 arrows wholeName = by rparKind wholeGroup ∷ by barKind wholeBar ∷ []
@@ -66,6 +70,11 @@ arrows inGroup = byWord groupName
 arrows groupName = by rparKind behindNames ∷ by barKind inGroup ∷ []
 arrows behindNames = by rparKind beforeEnd ∷ by commaKind beforeFactor ∷ byMark behindMark
 arrows behindMark = by rparKind beforeEnd ∷ by commaKind beforeFactor ∷ []
+arrows behindText = by rparKind textAlone ∷ by barKind textBar ∷ []
+arrows textAlone = by endKind behindEnd ∷ by starKind beforeEnd ∷ []
+arrows textBar = byWord textName
+arrows textName = by rparKind beforeStar ∷ by barKind textBar ∷ []
+arrows beforeStar = by starKind beforeEnd ∷ []
 arrows beforeEnd = by endKind behindEnd ∷ []
 arrows behindEnd = []
 arrows nowhere = []
@@ -92,19 +101,24 @@ numberOf inGroup = 8
 numberOf groupName = 9
 numberOf behindNames = 10
 numberOf behindMark = 11
-numberOf beforeEnd = 12
-numberOf behindEnd = 13
-numberOf nowhere = 14
+numberOf behindText = 12
+numberOf textAlone = 13
+numberOf textBar = 14
+numberOf textName = 15
+numberOf beforeStar = 16
+numberOf beforeEnd = 17
+numberOf behindEnd = 18
+numberOf nowhere = 19
 
 -- The greatest number of a state, that of `nowhere`.
 abbrev pub lastState : ℕ
-lastState = 14
+lastState = 19
 
 -- The states by their numbers.
 unfoldable pub states : List State
 states =
     beforeParent ∷ beforeModel ∷ behindBracket ∷ behindFirst ∷ wholeBar ∷ wholeName ∷ wholeGroup ∷ beforeFactor ∷ inGroup ∷ groupName
-    ∷ behindNames ∷ behindMark ∷ beforeEnd ∷ behindEnd ∷ nowhere ∷ []
+    ∷ behindNames ∷ behindMark ∷ behindText ∷ textAlone ∷ textBar ∷ textName ∷ beforeStar ∷ beforeEnd ∷ behindEnd ∷ nowhere ∷ []
 
 unfoldable pub stateOf : ℕ → State
 stateOf number = getD states number nowhere
@@ -148,14 +162,19 @@ unfoldable pub allPass : (List ℕ → Bool) → List Token → Bool
 allPass test [] = true
 allPass test (t ∷ ts) = passes test t && allPass test ts
 
+-- `#PCDATA`, or a name.
+unfoldable pub mayStand : List ℕ → Bool
+mayStand x = same x pcdataWord || isName x
+
 -- ---- the whole
 
--- One walk for white space, names and form, from a state on. A word keeps the rule for names, as `EMPTY` does.
+-- One walk for white space, names and form, from a state on. A word keeps the rule for names, as `EMPTY` does, or is
+-- `#PCDATA`; the arrows say where that may stand.
 unfoldable pub accepts : State → Bool → Bool → List SpacedToken → Bool
 accepts state behindWord gap [] = not gap && walk state []
 accepts state behindWord gap (p ∷ ps) =
     kindFits behindWord gap (tokenKind (p .token))
-    && (passes isName (p .token) && accepts (step state (tokenKind (p .token))) (isWord (p .token)) (p .gap) ps)
+    && (passes mayStand (p .token) && accepts (step state (tokenKind (p .token))) (isWord (p .token)) (p .gap) ps)
 
 -- The text behind `<!ELEMENT`.
 unfoldable pub acceptsRest : Option (List ℕ) → Bool

@@ -8,7 +8,7 @@ use native.Mathlib.Omega.{arith}
 use lib.ListN.{length, take, drop, replicate, length-replicate}
 use borrow.Author.Tests.{lt-ltb, le-ltb}
 use Rattle.refusal.specs.declared.Refusal.{Refusal}
-use Rattle.refusal.specs.declared.Refusal.the-variants.{BadParent, NotAChain, BufferTooShort}
+use Rattle.refusal.specs.declared.Refusal.the-variants.{BadParent, NotAModel, BufferTooShort}
 use Rattle.refusal.specs.declared.Outcome.the-variants.{Done, Refused}
 use Rattle.refusal.specs.Answer.{Answer, refused}
 use Rattle.nameset.specs.Places.{places}
@@ -19,10 +19,10 @@ use Rattle.book.specs.Layout.{readingOf}
 use Rattle.book.specs.Access.{LaidOut}
 use Rattle.book.specs.Taken.{takenBook}
 use Rattle.book.proofs.Taken as Taken
-use Rattle.model.specs.declared.Chain.{Chain}
-use Rattle.model.specs.Record.{IsChain}
-use Rattle.model.specs.Check.{isChain}
-use Rattle.model.proofs.ChainLaw.{chain-law}
+use Rattle.model.specs.declared.Model.{Model}
+use Rattle.model.specs.Record.{IsModel}
+use Rattle.model.specs.Check.{isModel}
+use Rattle.model.proofs.ModelLaw.{model-law}
 use Rattle.declaration_spelling.specs.House.{declaration}
 use Rattle.declaration_spelling.specs.Length.{longestDeclaration}
 use Rattle.byte_buffer.specs.Put.{wrote, Put}
@@ -31,9 +31,9 @@ use Rattle.declaration_text.proofs.Whole.{declaration-short}
 use Rattle.declaration_writing.specs.declared.Written.{Written}
 use Rattle.declaration_writing.specs.Write.{fitted, writeIn, writeAnswer, written, bufferAfter, Writes}
 
--- ---- a chain of a book that was read
+-- ---- a model of a book that was read
 
-pub fits-aside : (s : List ℕ) (l : Layout) (p : ℕ) (m : Chain) → LaidOut s l × (p < l .names) × IsChain places (l .names) m →
+pub fits-aside : (s : List ℕ) (l : Layout) (p : ℕ) (m : Model) → LaidOut s l × (p < l .names) × IsModel places (l .names) m →
     0 + length (declaration (namesIn s) p m) ≤ length (replicate {A = ℕ} longestDeclaration 0)
 fits-aside s l p m (laid, below, c) =
     let h : length (declaration (namesIn s) p m) ≤ longestDeclaration = declaration-short s l laid p below m c in
@@ -80,7 +80,7 @@ pub stopped : (d : List ℕ) (w : Written) (f : Refusal) (a : Answer (List ℕ))
 unfolding bufferAfter
 stopped d w f a e q = rw q (e, sym (wrote-none d 0))
 
-module _ (s : List ℕ) (p : ℕ) (m : Chain) (d : List ℕ) (r : Reading) (read : r ≡ readingOf (takenBook s)) where
+module _ (s : List ℕ) (p : ℕ) (m : Model) (d : List ℕ) (r : Reading) (read : r ≡ readingOf (takenBook s)) where
   pub stopped-book : (w : Written) (f : Refusal) → r .outcome ≡ Refused f → w ≡ written (refused f) → Writes (writeAnswer s p m (length d)) w d d
   unfolding writeAnswer
   stopped-book w f o e = stopped d w f (writeAnswer s p m (length d)) e (Taken.take-refused s r read _ f o)
@@ -94,20 +94,20 @@ module _ (s : List ℕ) (p : ℕ) (m : Chain) (d : List ℕ) (r : Reading) (read
     stopped-parent w h e = stopped d w BadParent (writeAnswer s p m (length d)) e (rw (Taken.taken s r read done, Taken.parent-refused s r read done p h))
 
     module _ (below : p < r .layout .names) where
-      pub stopped-chain : (w : Written) → isChain places (r .layout .names) m ≡ false → w ≡ written (refused NotAChain) → Writes (writeAnswer s p m (length d)) w d d
+      pub stopped-model : (w : Written) → isModel places (r .layout .names) m ≡ false → w ≡ written (refused NotAModel) → Writes (writeAnswer s p m (length d)) w d d
       unfolding writeAnswer writeIn
-      stopped-chain w h e =
-          let k = subst (λ (n : ℕ). isChain places n m ≡ false) book-is h in
-          stopped d w NotAChain (writeAnswer s p m (length d)) e (rw (Taken.taken s r read done, Taken.parent-passed s r read done p below, k))
+      stopped-model w h e =
+          let k = subst (λ (n : ℕ). isModel places n m ≡ false) book-is h in
+          stopped d w NotAModel (writeAnswer s p m (length d)) e (rw (Taken.taken s r read done, Taken.parent-passed s r read done p below, k))
 
-      module _ (good : isChain places (r .layout .names) m ≡ true) where
-        pub writable : LaidOut s (r .layout) × (p < r .layout .names) × IsChain places (r .layout .names) m
-        writable = (Taken.laid s r read done, below, chain-law places (r .layout .names) m .0 good)
+      module _ (good : isModel places (r .layout .names) m ≡ true) where
+        pub writable : LaidOut s (r .layout) × (p < r .layout .names) × IsModel places (r .layout .names) m
+        writable = (Taken.laid s r read done, below, model-law places (r .layout .names) m .0 good)
 
         answer-is : writeAnswer s p m (length d) ≡ fitted (length d) (declaration (namesIn s) p m)
         unfolding writeAnswer writeIn
         answer-is =
-            let k = subst (λ (n : ℕ). isChain places n m ≡ true) book-is good in
+            let k = subst (λ (n : ℕ). isModel places n m ≡ true) book-is good in
             rw (Taken.names-taken s r read done, Taken.taken s r read done, Taken.parent-passed s r read done p below, k)
 
         pub all-passed : (w : Written) (f : List ℕ) → Writes (fitted (length d) (declaration (namesIn s) p m)) w d f → Writes (writeAnswer s p m (length d)) w d f

@@ -2,7 +2,7 @@
 use book::Layout;
 use byte_buffer::put_all;
 use declaration_text::put_declaration;
-use model::Chain;
+use model::Model;
 use refusal::Outcome;
 use refusal::Refusal;
 ghost use mathlib.Core.Path.{_≡_};
@@ -12,7 +12,7 @@ ghost use Rattle.refusal.specs.Answer.{refused};
 ghost use Rattle.nameset.specs.Places.{places};
 ghost use Rattle.book.specs.Book.{namesIn};
 ghost use Rattle.book.specs.Access.{LaidOut};
-ghost use Rattle.model.specs.Record.{IsChain};
+ghost use Rattle.model.specs.Record.{IsModel};
 ghost use Rattle.declaration_spelling.specs.House.{declaration};
 ghost use Rattle.declaration_writing.specs.Write.{fitted, written, Writes, WritesDeclaration};
 
@@ -35,16 +35,16 @@ pub fn refused(refusal: Refusal) -> Written
     }
 }
 
-// The declaration of a chain for a parent, of a book that was read, or 12. It is put together aside, so that no byte of
+// The declaration of a model for a parent, of a book that was read, or 12. It is put together aside, so that no byte of
 // the buffer changes unless all fit.
-pub fn write_chain(
+pub fn write_model(
     bytes: &[u8],
     layout: Layout,
     parent: usize,
-    m: Chain,
+    m: Model,
     buffer: &mut [u8],
 ) -> Written
-    requires { ⌜ LaidOut (now bytes) layout × (parent < layout .names) × IsChain places (layout .names) m ⌝ }
+    requires { ⌜ LaidOut (now bytes) layout × (parent < layout .names) × IsModel places (layout .names) m ⌝ }
     ensures { λ r. ⌜ Writes (fitted (length (now (buffer .entry))) (declaration (namesIn (now (bytes .entry))) parent m)) r (now (buffer .entry)) (now (buffer .exit)) ⌝ }
 {
     let mut text = [0u8; LONGEST];
@@ -60,7 +60,7 @@ pub fn write_chain(
 }
 
 // The call: any bytes as the book, any parent, any record, any buffer.
-pub fn write_declaration(bytes: &[u8], parent: usize, m: Chain, buffer: &mut [u8]) -> Written
+pub fn write_declaration(bytes: &[u8], parent: usize, m: Model, buffer: &mut [u8]) -> Written
     ensures { λ r. ⌜ WritesDeclaration (now (bytes .entry)) parent m r (now (buffer .entry)) (now (buffer .exit)) ⌝ }
 {
     let reading = book_reading::take_book(bytes);
@@ -72,8 +72,14 @@ pub fn write_declaration(bytes: &[u8], parent: usize, m: Chain, buffer: &mut [u8
     if layout.names <= parent {
         return refused(Refusal::BadParent);
     }
-    if !model_check::rows_are_chain(layout.names, m.count, &m.factor, &m.mode) {
-        return refused(Refusal::NotAChain);
+    if !model_check::rows_are_model(
+        layout.names,
+        m.chain.count,
+        &m.chain.factor,
+        &m.chain.mode,
+        m.text,
+    ) {
+        return refused(Refusal::NotAModel);
     }
-    write_chain(bytes, layout, parent, m, buffer)
+    write_model(bytes, layout, parent, m, buffer)
 }

@@ -1,6 +1,6 @@
--- The three demands, over the seven calls open to the outside, the same calls for C, and the program; then requests U2
--- and U4 of paper 02. Each statement begins with `pub`; what follows, from `unfolding` or the repeated name on, is its
--- proof: skip it. Quotes are from the demands, which call paper 01 "document 01", and from the papers.
+-- The three demands, over the seven calls open to the outside, the same calls for C, and the program; then requests U2,
+-- U4 and U5 of paper 02. Each statement begins with `pub`; what follows, from `unfolding` or the repeated name on, is
+-- its proof: skip it. Quotes are from the demands, which call paper 01 "document 01", and from the papers.
 -- In a quarter of an hour: `no-better-model` with specs/Results, the names that end in `-refusals` with
 -- specs/Conditions, those that end in `-kept`, then demand 2. The part for C repeats them for replies in C.
 -- A theorem about an answer assumes one thing of it, `call`: the answer is as the call's contract (`ensures`) promises.
@@ -9,8 +9,8 @@
 -- k = 0 means not refused; `outcomeNumber (r .outcome)` is the number k of an answer r.
 -- Assumes nothing.
 use Prim.Native.Nat.{ℕ, _≤_, _<_}
-use mathlib.Core.Path.{_≡_, sym, _∙_, ap, subst}
-use mathlib.Core.Bool.{true, false}
+use mathlib.Core.Path.{_≡_, refl, sym, _∙_, ap, ap₂, subst}
+use mathlib.Core.Bool.{Bool, true, false}
 use mathlib.Core.List.{List, [], _∷_, _++_, List·Memᴰ, map}
 use mathlib.Core.Logic.{_↔_}
 use native.Mathlib.Omega.{arith}
@@ -28,15 +28,17 @@ use Rattle.book.proofs.Taken.{taken-law}
 use Rattle.book_blocks.specs.Gathers.{Gathers}
 use Rattle.book_reading.specs.Opening.{blocksRead}
 use Rattle.model.specs.declared.Chain.{Chain}
-use Rattle.model.specs.Record.{factorOf, modeOf, IsChain, emptyChain, dueModel}
+use Rattle.model.specs.declared.Model.{Model}
+use Rattle.model.specs.Record.{factorOf, modeOf, IsChain, modelWith, IsModel, emptyModel, dueModel}
 use Rattle.model.specs.Accept.{Accepts, Names}
-use Rattle.model_language.specs.Word.{Point, name, end, Fact}
+use Rattle.model_language.specs.Word.{Point, name, end, Fact, AcceptsAll}
 use Rattle.model_language.specs.Reach.{Reach}
 use Rattle.model_inclusion.specs.Inclusion.{Within, Counterexample, longestCounterexample}
 use Rattle.model_inclusion.specs.Search as Search
 use Rattle.model_inclusion.proofs.Search as Inclusion-law
 use Rattle.follow.specs.Follow.{Follow, followOf, steps}
 use Rattle.follow.specs.Sample.{wordsOf, SameWords}
+use Rattle.follow.proofs.Text.{text-law}
 use Rattle.follow_table.specs.Table.{tabled, Keeps}
 use Rattle.chain_levels.specs.Level.{OneGroup, IsLevel, Skipped}
 use Rattle.chain_levels.specs.Reach.{reaches, sameGroup, occurs}
@@ -44,7 +46,9 @@ use Rattle.chain_levels.specs.Rank.{levelOf, lastLevel, skipped}
 use Rattle.chain_levels.proofs.Theorem as Levels
 use Rattle.chain_minimal.specs.Placed.{Placed}
 use Rattle.chain_minimal.proofs.Order.{equal-records}
-use Rattle.chain_sample.specs.Sample.{chainOfWords}
+use Rattle.chain_mixed.specs.Mixed.{StandsIn, IsTextModel}
+use Rattle.chain_mixed.proofs.Theorem as Mixed
+use Rattle.chain_sample.specs.Sample.{chainOfWords, modelOfWords}
 use Rattle.declaration_spelling.specs.House.{declaration}
 use Rattle.declaration_spelling.specs.Length.{longestDeclaration}
 use Rattle.declaration_spelling.specs.Spelled.{Spelled}
@@ -61,18 +65,18 @@ use Rattle.intake_within.specs.declared.Inclusion.{Inclusion}
 use Rattle.intake_sample.specs.declared.Inferred.{Inferred}
 use Rattle.intake_word.specs.Acceptance.{acceptanceNumber, acceptanceYes, Passes, AcceptsWord}
 use Rattle.intake_within.specs.Comparison.{inclusionNumber, inclusionYes, inclusionLength, PassesBoth, ComparesModels}
-use Rattle.intake_sample.specs.Inference.{sampleOf, chainIn, modelAnswer, inferred, InfersModel}
+use Rattle.intake_sample.specs.Inference.{sampleOf, textOf, parentModel, modelAnswer, inferred, InfersModel}
 use Rattle.intake_sample.specs.Writing.{WritesSample}
 use Rattle.intake_word.proofs.Theorem.{yes-exactly}
 use Rattle.intake_within.proofs.Theorem as Compare
 use Rattle.intake_sample.proofs.Samples.{no-word, some-word, sample-names}
 use Rattle.intake_sample.proofs.NoBetterModel as Model3
 use Rattle.dtd_lines.specs.Lines.{factLines, tableFacts}
-use Rattle.intake_dtd.specs.Dtd.{lineOf, dtdOf, WritesDtd}
+use Rattle.intake_dtd.specs.Dtd.{lineOf, dtdOf, factsOf, WritesDtd}
 use Rattle.intake_dtd.proofs.Agree.{dtd-by-facts}
 use Rattle.dtd_output.specs.Output.{outputOf}
-use Rattle.demands_samples.specs.Samples.{lines, lineDeclaration, printedDeclaration}
-use Rattle.demands_samples.proofs.Samples.{marked}
+use Rattle.demands_samples.specs.Samples.{lines, textLines, lineDeclaration, printedDeclaration}
+use Rattle.demands_samples.proofs.Samples.{marked, with-text}
 use Rattle.curlewsong.specs.declared.ModelReply.{ModelReply}
 use Rattle.curlewsong.specs.declared.Verdict.{Verdict}
 use Rattle.curlewsong.specs.declared.InclusionReply.{InclusionReply}
@@ -94,11 +98,11 @@ use Rattle.demands.proofs.SoFar as So
 -- "Each refusal in document 01's table is given for its condition and for no other": the records are in
 -- specs/Conditions.
 
-pub word-refusals : (n : ℕ) (m : Chain) (w : List ℕ) (r : Acceptance) (call : AcceptsWord n m w r) →
+pub word-refusals : (n : ℕ) (m : Model) (w : List ℕ) (r : Acceptance) (call : AcceptsWord n m w r) →
     WordConditions n m w (acceptanceNumber r)
 word-refusals n m w r call = subst (WordConditions n m w) (sym (call .number)) (Law.word-conditions n m w)
 
-pub within-refusals : (n : ℕ) (first second : Chain) (r : Inclusion) (before after : List ℕ)
+pub within-refusals : (n : ℕ) (first second : Model) (r : Inclusion) (before after : List ℕ)
     (call : ComparesModels n first second r before after) →
     WithinConditions n first second (length before) (inclusionNumber r)
 within-refusals n first second r before after call =
@@ -111,7 +115,7 @@ unfolding inferred
 model-refusals bytes parent r call = subst (ModelConditions bytes parent)
     (sym (ap (λ (x : Inferred). outcomeNumber (x .outcome)) call)) (Law.model-conditions bytes parent)
 
-pub write-refusals : (bytes : List ℕ) (parent : ℕ) (m : Chain) (w : Written) (before after : List ℕ)
+pub write-refusals : (bytes : List ℕ) (parent : ℕ) (m : Model) (w : Written) (before after : List ℕ)
     (call : WritesDeclaration bytes parent m w before after) →
     WriteConditions bytes parent m (length before) (outcomeNumber (w .outcome))
 unfolding written
@@ -156,20 +160,20 @@ book-exactly = book-whole
 pub word-kept : (r : Acceptance) → 0 < acceptanceNumber r → acceptanceYes r ≡ false
 word-kept = Text.refused-no
 
-pub within-kept : (n : ℕ) (first second : Chain) (r : Inclusion) (before after : List ℕ)
+pub within-kept : (n : ℕ) (first second : Model) (r : Inclusion) (before after : List ℕ)
     (call : ComparesModels n first second r before after) →
     0 < inclusionNumber r → (inclusionYes r ≡ false) × (inclusionLength r ≡ 0) × (after ≡ before)
 within-kept = Compare.refused-keeps
 
 pub model-kept : (bytes : List ℕ) (parent : ℕ) (r : Inferred) (call : InfersModel bytes parent r) →
-    0 < outcomeNumber (r .outcome) → r .model ≡ emptyChain places
+    0 < outcomeNumber (r .outcome) → r .model ≡ emptyModel places
 unfolding inferred
 model-kept bytes parent r call l =
     let (f, o) = refused-by (r .outcome) l in
     let e = outcome-refused (modelAnswer bytes parent) f .0 (sym (ap (λ (x : Inferred). x .outcome) call) ∙ o) in
     ap (λ (x : Inferred). x .model) call ∙ ap (valueOr dueModel) e
 
-pub write-kept : (bytes : List ℕ) (parent : ℕ) (m : Chain) (w : Written) (before after : List ℕ)
+pub write-kept : (bytes : List ℕ) (parent : ℕ) (m : Model) (w : Written) (before after : List ℕ)
     (call : WritesDeclaration bytes parent m w before after) →
     0 < outcomeNumber (w .outcome) → (w .length ≡ 0) × (after ≡ before)
 write-kept bytes parent m w before after call = Text.writes-kept _ w before after call
@@ -185,20 +189,21 @@ dtd-kept bytes w before after call = Text.writes-kept _ w before after call
 
 pub read-kept : (bytes text : List ℕ) (r : Declaration) (call : ReadsDeclaration bytes text r) →
     0 < outcomeNumber (r .outcome) →
-    (r .parent ≡ 0) × (r .model ≡ emptyChain places)
+    (r .parent ≡ 0) × (r .model ≡ emptyModel places)
 read-kept bytes text r call l = let (f, o) = refused-by (r .outcome) l in Reading.refused-due bytes text r call f o
 
 -- ==== demand 2
 
 -- "A word is accepted exactly when XML 1.0, section 3.2, lets the model match it": the call says yes exactly when
--- nothing stops it and the word is a joining of one part for each factor of the model, in order.
-pub accepted-exactly : (n : ℕ) (m : Chain) (w : List ℕ) (r : Acceptance) (call : AcceptsWord n m w r) →
-    (acceptanceYes r ≡ true) ↔ (Passes n m w × Accepts m w)
+-- nothing stops it and the word is a joining of one part for each factor of the model, in order. Whether the model has
+-- text makes no difference: "Acceptance looks at child names" (U5).
+pub accepted-exactly : (n : ℕ) (m : Model) (w : List ℕ) (r : Acceptance) (call : AcceptsWord n m w r) →
+    (acceptanceYes r ≡ true) ↔ (Passes n m w × Accepts (m .chain) w)
 accepted-exactly n m w r call = let h = yes-exactly n m w r call in (λ e. h .0 (Text.yes-by r e), λ p. Text.by-yes r (h .1 p))
 
 -- What a call that writes has done where it was not refused: the front of the buffer is the canonical form. From the
 -- sample it is that of the model x which the call for the model answers.
-pub write-done : (bytes : List ℕ) (parent : ℕ) (m : Chain) (w : Written) (before after : List ℕ)
+pub write-done : (bytes : List ℕ) (parent : ℕ) (m : Model) (w : Written) (before after : List ℕ)
     (call : WritesDeclaration bytes parent m w before after) →
     outcomeNumber (w .outcome) ≡ 0 → (b : Book) × TakenAs bytes b × Wrote (declaration (b .names) parent m) (w .length) before after
 write-done = Text.write-done
@@ -215,7 +220,7 @@ pub dtd-done : (bytes : List ℕ) (w : Written) (before after : List ℕ) (call 
 dtd-done = Text.dtd-done
 
 -- "A model written as a declaration reads back as the same model."
-pub written-reads-back : (bytes : List ℕ) (parent : ℕ) (m : Chain) (w : Written) (before after : List ℕ)
+pub written-reads-back : (bytes : List ℕ) (parent : ℕ) (m : Model) (w : Written) (before after : List ℕ)
     (call : WritesDeclaration bytes parent m w before after) →
     outcomeNumber (w .outcome) ≡ 0 → (r : Declaration) → ReadsDeclaration bytes (take (w .length) after) r →
     Reads r parent m
@@ -230,7 +235,7 @@ sample-reads-back bytes parent w before after call z x asked =
 
 -- "A text is read exactly when it is a spelling, allowed by document 01, of the declaration then written": it is read
 -- as the parent p and the record m exactly when it is a spelling of them, and what was read is then written.
-pub read-exactly : (bytes text : List ℕ) (r : Declaration) (call : ReadsDeclaration bytes text r) (p : ℕ) (m : Chain) →
+pub read-exactly : (bytes text : List ℕ) (r : Declaration) (call : ReadsDeclaration bytes text r) (p : ℕ) (m : Model) →
     Reads r p m ↔ ((b : Book) × TakenAs bytes b × Spelled places (b .names) text p m)
 read-exactly = Reading.read-exactly
 
@@ -243,27 +248,29 @@ pub read-writes : (bytes text : List ℕ) (r : Declaration) (call : ReadsDeclara
 read-writes = Text.read-writes
 
 -- The canonical form is one of the spellings, and no text is a spelling of two declarations.
-pub canonical-spelled : (bytes : List ℕ) (b : Book) → IsBook bytes b → (p : ℕ) (m : Chain) → p < length (b .names) →
-    IsChain places (length (b .names)) m →
+pub canonical-spelled : (bytes : List ℕ) (b : Book) → IsBook bytes b → (p : ℕ) (m : Model) → p < length (b .names) →
+    IsModel places (length (b .names)) m →
     Spelled places (b .names) (declaration (b .names) p m) p m
 canonical-spelled bytes b read p m = house-spelled places (b .names) p m (good-names bytes b read .small)
 
-pub spelled-once : (bytes : List ℕ) (b : Book) → IsBook bytes b → (text : List ℕ) (p q : ℕ) (m k : Chain) →
+pub spelled-once : (bytes : List ℕ) (b : Book) → IsBook bytes b → (text : List ℕ) (p q : ℕ) (m k : Model) →
     Spelled places (b .names) text p m → Spelled places (b .names) text q k → (p ≡ q) × (m ≡ k)
 spelled-once bytes b read = Spelling.spelled-once places (b .names) (good-names bytes b read)
 
 -- ==== demand 3
 
 -- "Whatever words a parent's non-empty sample holds, in whatever order and however often", for every book that is not
--- refused and every parent with a block in it: the call is not refused, and its model is minimal (specs/Results).
-pub no-better-model : (bytes : List ℕ) (parent : ℕ) (r : Inferred) (b : Book) → Asked bytes parent r b →
+-- refused and every parent with a block in it and without text: the call is not refused, and its model is minimal
+-- (specs/Results). The model of a parent with text is stated below, at request U5.
+pub no-better-model : (bytes : List ℕ) (parent : ℕ) (r : Inferred) (b : Book) → Asked bytes parent r b → textOf b parent ≡ false →
     (outcomeNumber (r .outcome) ≡ 0) × Minimal (length (b .names)) (r .model) (sampleOf b parent)
-no-better-model bytes parent r b a = (
+no-better-model bytes parent r b a plain = (
   ap outcomeNumber (Model3.not-refused bytes parent r (a .call) b (a .read) (a .block)),
   record {
-    chain = Model3.is-chain bytes parent r (a .call) b (a .read) (a .block);
-    accepts = Model3.accepts-sample bytes parent r (a .call) b (a .read) (a .block);
-    no-better = Model3.no-better bytes parent r (a .call) b (a .read) (a .block);
+    model = Model3.is-model bytes parent r (a .call) b (a .read) (a .block);
+    no-text = Model3.no-text bytes parent r (a .call) b (a .read) (a .block) plain;
+    accepts = Model3.accepts-sample bytes parent r (a .call) b (a .read) (a .block) plain;
+    no-better = Model3.no-better bytes parent r (a .call) b (a .read) (a .block) plain;
   },
 )
 
@@ -279,19 +286,26 @@ same-exactly n one other c d = (
 
 -- "That record is the chain which the levels above give": its factors, their order and their modes are those of the
 -- levels, over the steps that the words of the sample show; and it is the only chain of which that holds.
-pub model-is-placed : (bytes : List ℕ) (parent : ℕ) (r : Inferred) (b : Book) → Asked bytes parent r b →
-    Placed (Fact (sampleOf b parent)) (r .model)
+pub model-is-placed : (bytes : List ℕ) (parent : ℕ) (r : Inferred) (b : Book) → Asked bytes parent r b → textOf b parent ≡ false →
+    Placed (Fact (sampleOf b parent)) (r .model .chain)
 model-is-placed bytes parent r b a = Model3.is-placed bytes parent r (a .call) b (a .read) (a .block)
 
-pub only-placed : (bytes : List ℕ) (parent : ℕ) (r : Inferred) (b : Book) → Asked bytes parent r b →
-    (m : Chain) → IsChain places (length (b .names)) m → Placed (Fact (sampleOf b parent)) m → m ≡ r .model
+pub only-placed : (bytes : List ℕ) (parent : ℕ) (r : Inferred) (b : Book) → Asked bytes parent r b → textOf b parent ≡ false →
+    (m : Chain) → IsChain places (length (b .names)) m → Placed (Fact (sampleOf b parent)) m → m ≡ r .model .chain
 only-placed bytes parent r b a = Model3.only-placed bytes parent r (a .call) b (a .read) (a .block)
 
 -- The executable definition of the same chain, which the code is proved to compute. (`chainOfWords` is `chainOf` of the
 -- words' follow facts.)
-pub model-is-chain : (bytes : List ℕ) (parent : ℕ) (r : Inferred) (b : Book) → Asked bytes parent r b →
-    r .model ≡ chainOfWords places (length (b .names)) (sampleOf b parent)
-model-is-chain bytes parent r b a = sym (Model3.model-is bytes parent r (a .call) b (a .read) (a .block))
+pub model-is-chain : (bytes : List ℕ) (parent : ℕ) (r : Inferred) (b : Book) → Asked bytes parent r b → textOf b parent ≡ false →
+    r .model ≡ modelWith (chainOfWords places (length (b .names)) (sampleOf b parent)) 0
+model-is-chain bytes parent r b a plain = sym (Model3.plain-is bytes parent r (a .call) b (a .read) (a .block) plain)
+
+-- The model of any parent with a block, as built: with text or without, the record that `SampleConditions` of
+-- specs/Conditions, the lines of a DTD and the samples below name is the one that the call answers.
+pub model-is-built : (bytes : List ℕ) (parent : ℕ) (r : Inferred) (b : Book) → Asked bytes parent r b →
+    (r .model ≡ parentModel b parent) × (parentModel b parent ≡ modelOfWords places (length (b .names)) (sampleOf b parent) (textOf b parent))
+unfolding parentModel
+model-is-built bytes parent r b a = let e = Model3.model-is bytes parent r (a .call) b (a .read) (a .block) in (sym e, refl)
 
 -- A reader may skip the laws from here to `skipped-law`: they join executable definitions to the specified ones.
 -- What is computed on the way is what paper 01 says: the follow facts, who occurs, who reaches whom, the loop groups,
@@ -331,13 +345,15 @@ module _ (bytes : List ℕ) (parent : ℕ) (r : Inferred) (b : Book) (a : Asked 
   pub skipped-law : (l : ℕ) → (skipped facts l ≡ true) ↔ Skipped (Fact words) l
   skipped-law = Levels.skipped-law (length (b .names)) words names (a .block)
 
--- "In whatever order and however often": samples of the same words, over as many names, have the same model.
+-- "In whatever order and however often": samples of the same words, over as many names, with text in both or in
+-- neither, have the same model.
 pub same-model : (s t : List ℕ) (p q : ℕ) (x y : Inferred) (b c : Book) → Asked s p x b → Asked t q y c →
-    length (b .names) ≡ length (c .names) → SameWords (sampleOf b p) (sampleOf c q) → x .model ≡ y .model
-same-model s t p q x y b c one other names same =
-    sym (Model3.model-is s p x (one .call) b (one .read) (one .block)) ∙ ap (λ (n : ℕ). chainOfWords places n (sampleOf b p)) names
-    ∙ Model3.same-sample (length (c .names)) (sampleOf b p)
-    (sampleOf c q) same ∙ Model3.model-is t q y (other .call) c (other .read) (other .block)
+    length (b .names) ≡ length (c .names) → textOf b p ≡ textOf c q → SameWords (sampleOf b p) (sampleOf c q) → x .model ≡ y .model
+same-model s t p q x y b c one other names text same =
+    sym (Model3.model-is s p x (one .call) b (one .read) (one .block))
+    ∙ ap₂ (λ (n : ℕ) (has : Bool). modelOfWords places n (sampleOf b p) has) names text
+    ∙ Model3.same-sample (length (c .names)) (sampleOf b p) (sampleOf c q) (textOf c q) same
+    ∙ Model3.model-is t q y (other .call) c (other .read) (other .block)
 
 -- "Marked * means proved": the twelve lines of paper 01's table, as printed.
 pub marked-samples : map lineDeclaration lines ≡ map printedDeclaration lines
@@ -349,10 +365,10 @@ marked-samples = marked
 -- crates/dtd_output/specs/Output.antt): the declaration has the model that the call for it answers.
 pub program-line : (bytes : List ℕ) (parent : ℕ) (r : Inferred) (b : Book) → Asked bytes parent r b →
     lineOf b parent ≡ declaration (b .names) parent (r .model) ++ (10 ∷ [])
-unfolding lineOf chainIn
+unfolding lineOf parentModel
 program-line bytes parent r b a =
     rw (some-word (sampleOf b parent) .1 (a .block))
-    (ap (λ (m : Chain). declaration (b .names) parent m ++ (10 ∷ [])) (Model3.model-is bytes parent r (a .call) b (a .read) (a .block)))
+    (ap (λ (m : Model). declaration (b .names) parent m ++ (10 ∷ [])) (Model3.model-is bytes parent r (a .call) b (a .read) (a .block)))
 
 pub program-no-line : (b : Book) (parent : ℕ) → sampleOf b parent ≡ [] → lineOf b parent ≡ []
 unfolding lineOf
@@ -371,8 +387,20 @@ program-dtd bytes b taken = ap outputOf taken
 pub after-each-block : (n : ℕ) (bs : List Block) (block : Field Block) (t u : List ℕ) → n ≤ places →
     BlocksBelow n (bs ++ (block .value ∷ [])) → Keeps bs t → (call : Gathers Keeps (given block) t u) →
     (parent : ℕ) → parent < tabled → (x y : Point) →
-    steps (tableFacts n u parent) x y ↔ Fact (wordsOf parent (bs ++ (block .value ∷ []))) x y
+    steps (tableFacts n u parent .follow) x y ↔ Fact (wordsOf parent (bs ++ (block .value ∷ []))) x y
 after-each-block n bs block t u few below kept call = So.facts-kept n (bs ++ (block .value ∷ [])) u few below (call bs kept)
+
+-- "That a parent has text is a fact too" (U5): u has text for a parent exactly where a block of it, in bs or this one,
+-- has the text byte 1.
+pub text-after-each-block : (n : ℕ) (bs : List Block) (block : Field Block) (t u : List ℕ) → n ≤ places →
+    BlocksBelow n (bs ++ (block .value ∷ [])) → Keeps bs t → (call : Gathers Keeps (given block) t u) →
+    (parent : ℕ) → parent < tabled →
+    (tableFacts n u parent .text ≡ true) ↔
+    ((k : Block) × List·Memᴰ k (bs ++ (block .value ∷ [])) × (k .parent ≡ parent) × (k .text ≡ 1))
+text-after-each-block n bs block t u few below kept call parent named =
+    let e = So.text-kept n (bs ++ (block .value ∷ [])) u few below (call bs kept) parent named in
+    let law = text-law parent (bs ++ (block .value ∷ [])) in
+    (λ h. law .0 (sym e ∙ h), λ k. e ∙ law .1 k)
 
 -- "The declarations come from these facts and the names alone": a book's DTD is `factLines` of its names and of the
 -- facts that the table has after the last block, as `take_table` of crates/follow_table promises it.
@@ -381,38 +409,39 @@ pub dtd-from-table : (bytes : List ℕ) (b : Book) (table : List ℕ) → TakenA
     dtdOf b ≡ factLines (b .names) (tableFacts (length (b .names)) table) 0 (length (b .names))
 dtd-from-table = So.dtd-by-table
 
--- The same by the facts of each parent's words: `dtdOf` looks for these words in all blocks.
+-- The same by the facts of each parent: `dtdOf` looks for its words and its text in all blocks.
 pub dtd-from-facts : (bytes : List ℕ) (b : Book) → TakenAs bytes b →
-    dtdOf b ≡ factLines (b .names) (λ parent. followOf (length (b .names)) (sampleOf b parent)) 0 (length (b .names))
+    dtdOf b ≡ factLines (b .names) (factsOf b) 0 (length (b .names))
 dtd-from-facts bytes b taken = dtd-by-facts bytes b (taken-law bytes b .0 taken)
 
 -- ==== paper 02, request U4
 
 -- "Say yes exactly when every word that the first accepts is accepted by the second", whatever its length; and no
--- exactly when that is not so. A refused call answers no as well; `within-not` is about calls that were not refused.
-pub within-exactly : (n : ℕ) (first second : Chain) (r : Inclusion) (before after : List ℕ)
+-- exactly when that is not so. "U4 compares words of child names only" (U5): text is not compared. A refused call
+-- answers no as well; `within-not` is about calls that were not refused.
+pub within-exactly : (n : ℕ) (first second : Model) (r : Inclusion) (before after : List ℕ)
     (call : ComparesModels n first second r before after) →
-    (inclusionYes r ≡ true) ↔ (PassesBoth n first second (length before) × Within first second)
+    (inclusionYes r ≡ true) ↔ (PassesBoth n first second (length before) × Within (first .chain) (second .chain))
 within-exactly = Compare.yes-exactly
 
-pub within-not : (n : ℕ) (first second : Chain) (r : Inclusion) (before after : List ℕ)
+pub within-not : (n : ℕ) (first second : Model) (r : Inclusion) (before after : List ℕ)
     (call : ComparesModels n first second r before after) →
     ((inclusionNumber r ≡ 0) × (inclusionYes r ≡ false)) ↔
-    (PassesBoth n first second (length before) × (¬ Within first second))
+    (PassesBoth n first second (length before) × (¬ Within (first .chain) (second .chain)))
 within-not = Compare.no-exactly
 
 -- "Bytes past it, and on yes all bytes, are kept; on yes the length is 0": what is kept on yes.
-pub within-yes : (n : ℕ) (first second : Chain) (r : Inclusion) (before after : List ℕ)
+pub within-yes : (n : ℕ) (first second : Model) (r : Inclusion) (before after : List ℕ)
     (call : ComparesModels n first second r before after) →
     inclusionYes r ≡ true → (inclusionLength r ≡ 0) × (after ≡ before)
 within-yes = Compare.yes-keeps
 
 -- "On no, hand over one word of at most 65 names that the first accepts and the second doesn't, in a lent buffer, and
 -- its length": the word is at the front of the buffer, its numbers are below N, and the bytes past it are kept.
-pub within-word : (n : ℕ) (first second : Chain) (r : Inclusion) (before after : List ℕ)
+pub within-word : (n : ℕ) (first second : Model) (r : Inclusion) (before after : List ℕ)
     (call : ComparesModels n first second r before after) →
     inclusionNumber r ≡ 0 → inclusionYes r ≡ false →
-    (w : List ℕ) × Counterexample first second w × Names n w × (length w ≤ longestCounterexample) ×
+    (w : List ℕ) × Counterexample (first .chain) (second .chain) w × Names n w × (length w ≤ longestCounterexample) ×
     Wrote w (inclusionLength r) before after
 within-word = Text.word-written
 
@@ -421,35 +450,70 @@ pub within-law : (n : ℕ) (first second : Chain) → IsChain places n first →
     (Search.within n first second ≡ true) ↔ Within first second
 within-law n first second c d = Inclusion-law.within-law places n first second c d (omega arith)
 
+-- ==== paper 02, request U5
+
+-- A parent has text exactly where one of its blocks has the text byte 1.
+pub text-exactly : (b : Book) (parent : ℕ) → (textOf b parent ≡ true) ↔
+    ((k : Block) × List·Memᴰ k (b .blocks) × (k .parent ≡ parent) × (k .text ≡ 1))
+unfolding textOf
+text-exactly b parent = text-law parent (b .blocks)
+
+-- The model of a parent with text: "Text and no children anywhere: `(#PCDATA)`. Text and children: `(#PCDATA|a|b)*`,
+-- with exactly the names that stand in its words" (`IsTextModel`). There is no other such record.
+pub text-model : (bytes : List ℕ) (parent : ℕ) (r : Inferred) (b : Book) → Asked bytes parent r b → textOf b parent ≡ true →
+    (outcomeNumber (r .outcome) ≡ 0) × IsTextModel places (length (b .names)) (sampleOf b parent) (r .model)
+text-model bytes parent r b a text = (
+  ap outcomeNumber (Model3.not-refused bytes parent r (a .call) b (a .read) (a .block)),
+  Model3.is-text-model bytes parent r (a .call) b (a .read) (a .block) text,
+)
+
+pub only-text-model : (n : ℕ) (words : List (List ℕ)) (one other : Model) →
+    IsTextModel places n words one → IsTextModel places n words other → one ≡ other
+only-text-model = Mixed.only-text-model places
+
+-- A word is accepted by it exactly when each of its names stands in some word of the sample; so "`(#PCDATA)` accepts
+-- only the empty word".
+pub text-accepts : (n : ℕ) (words : List (List ℕ)) (m : Model) → IsTextModel places n words m →
+    (w : List ℕ) → Accepts (m .chain) w ↔ ((x : ℕ) → List·Memᴰ x w → StandsIn x words)
+text-accepts = Mixed.text-accepts places
+
+-- So it accepts every word of the sample.
+pub text-accepts-all : (n : ℕ) (words : List (List ℕ)) (m : Model) → IsTextModel places n words m → AcceptsAll (m .chain) words
+text-accepts-all = Mixed.text-accepts-all places
+
+-- How such models are printed, for some samples.
+pub text-samples : map lineDeclaration textLines ≡ map printedDeclaration textLines
+text-samples = with-text
+
 -- ==== the calls for C and Rust
 
 -- Each of these makes the call in Rattle and passes on its answer as a struct r of C. Stated of r, one after another:
 -- its number and when it is given; the rest of r where the call was refused; the rest of r where it was not.
 
-pub c-word : (n : ℕ) (m : Chain) (w : List ℕ) (r : Verdict) (call : RepliesWord n m w r) →
+pub c-word : (n : ℕ) (m : Model) (w : List ℕ) (r : Verdict) (call : RepliesWord n m w r) →
     WordConditions n m w (r .refusal) × (0 < r .refusal → r .yes ≡ false) ×
-    ((r .yes ≡ true) ↔ (Passes n m w × Accepts m w))
+    ((r .yes ≡ true) ↔ (Passes n m w × Accepts (m .chain) w))
 unfolding verdict
 c-word n m w r (x, call, e) =
-    subst (λ (v : Verdict). WordConditions n m w (v .refusal) × (0 < v .refusal → v .yes ≡ false) × ((v .yes ≡ true) ↔ (Passes n m w × Accepts m w))) (sym e)
+    subst (λ (v : Verdict). WordConditions n m w (v .refusal) × (0 < v .refusal → v .yes ≡ false) × ((v .yes ≡ true) ↔ (Passes n m w × Accepts (m .chain) w))) (sym e)
     (word-refusals n m w x call, word-kept x, accepted-exactly n m w x call)
 
-pub c-within : (n : ℕ) (first second : Chain) (r : InclusionReply) (before after : List ℕ)
+pub c-within : (n : ℕ) (first second : Model) (r : InclusionReply) (before after : List ℕ)
     (call : RepliesWithin n first second r before after) →
     WithinConditions n first second (length before) (r .refusal) ×
     (0 < r .refusal → (r .yes ≡ false) × (r .length ≡ 0) × (after ≡ before)) ×
-    ((r .yes ≡ true) ↔ (PassesBoth n first second (length before) × Within first second)) ×
+    ((r .yes ≡ true) ↔ (PassesBoth n first second (length before) × Within (first .chain) (second .chain))) ×
     (r .yes ≡ true → (r .length ≡ 0) × (after ≡ before)) ×
     (r .refusal ≡ 0 → r .yes ≡ false →
-    (w : List ℕ) × Counterexample first second w × Names n w × (length w ≤ longestCounterexample) × Wrote w (r .length) before after)
+    (w : List ℕ) × Counterexample (first .chain) (second .chain) w × Names n w × (length w ≤ longestCounterexample) × Wrote w (r .length) before after)
 unfolding inclusionReply
 c-within n first second r before after (x, call, e) =
     subst (λ (v : InclusionReply). WithinConditions n first second (length before) (v .refusal) ×
     (0 < v .refusal → (v .yes ≡ false) × (v .length ≡ 0) × (after ≡ before)) ×
-    ((v .yes ≡ true) ↔ (PassesBoth n first second (length before) × Within first second)) ×
+    ((v .yes ≡ true) ↔ (PassesBoth n first second (length before) × Within (first .chain) (second .chain))) ×
     (v .yes ≡ true → (v .length ≡ 0) × (after ≡ before)) ×
     (v .refusal ≡ 0 → v .yes ≡ false →
-    (w : List ℕ) × Counterexample first second w × Names n w × (length w ≤ longestCounterexample) × Wrote w (v .length) before after)) (sym e) (
+    (w : List ℕ) × Counterexample (first .chain) (second .chain) w × Names n w × (length w ≤ longestCounterexample) × Wrote w (v .length) before after)) (sym e) (
       within-refusals n first second x before after call,
       within-kept n first second x before after call,
       within-exactly n first second x before after call,
@@ -458,22 +522,27 @@ c-within n first second r before after (x, call, e) =
     )
 
 pub c-model : (bytes : List ℕ) (parent : ℕ) (r : ModelReply) (call : RepliesModel bytes parent r) →
-    ModelConditions bytes parent (r .refusal) × (0 < r .refusal → r .model ≡ emptyChain places) ×
-    ((b : Book) → TakenAs bytes b → ¬ (sampleOf b parent ≡ []) →
-    (r .refusal ≡ 0) × Minimal (length (b .names)) (r .model) (sampleOf b parent) × Placed (Fact (sampleOf b parent)) (r .model))
+    ModelConditions bytes parent (r .refusal) × (0 < r .refusal → r .model ≡ emptyModel places) ×
+    ((b : Book) → TakenAs bytes b → ¬ (sampleOf b parent ≡ []) → textOf b parent ≡ false →
+    (r .refusal ≡ 0) × Minimal (length (b .names)) (r .model) (sampleOf b parent) × Placed (Fact (sampleOf b parent)) (r .model .chain)) ×
+    ((b : Book) → TakenAs bytes b → ¬ (sampleOf b parent ≡ []) → textOf b parent ≡ true →
+    (r .refusal ≡ 0) × IsTextModel places (length (b .names)) (sampleOf b parent) (r .model))
 unfolding modelReply
 c-model bytes parent r (x, call, e) =
-    subst (λ (v : ModelReply). ModelConditions bytes parent (v .refusal) × (0 < v .refusal → v .model ≡ emptyChain places) ×
-    ((b : Book) → TakenAs bytes b → ¬ (sampleOf b parent ≡ []) →
-    (v .refusal ≡ 0) × Minimal (length (b .names)) (v .model) (sampleOf b parent) × Placed (Fact (sampleOf b parent)) (v .model))) (sym e) (
+    subst (λ (v : ModelReply). ModelConditions bytes parent (v .refusal) × (0 < v .refusal → v .model ≡ emptyModel places) ×
+    ((b : Book) → TakenAs bytes b → ¬ (sampleOf b parent ≡ []) → textOf b parent ≡ false →
+    (v .refusal ≡ 0) × Minimal (length (b .names)) (v .model) (sampleOf b parent) × Placed (Fact (sampleOf b parent)) (v .model .chain)) ×
+    ((b : Book) → TakenAs bytes b → ¬ (sampleOf b parent ≡ []) → textOf b parent ≡ true →
+    (v .refusal ≡ 0) × IsTextModel places (length (b .names)) (sampleOf b parent) (v .model))) (sym e) (
       model-refusals bytes parent x call,
       model-kept bytes parent x call,
-      λ b q d.
+      λ b q d plain.
           let a : Asked bytes parent x b = record { call = call; read = q; block = d } in
-          let n = no-better-model bytes parent x b a in (n .0, n .1, model-is-placed bytes parent x b a),
+          let n = no-better-model bytes parent x b a plain in (n .0, n .1, model-is-placed bytes parent x b a plain),
+      λ b q d text. text-model bytes parent x b (record { call = call; read = q; block = d }) text,
     )
 
-pub c-write : (bytes : List ℕ) (parent : ℕ) (m : Chain) (r : LengthReply) (before after : List ℕ)
+pub c-write : (bytes : List ℕ) (parent : ℕ) (m : Model) (r : LengthReply) (before after : List ℕ)
     (call : RepliesWritten bytes parent m r before after) →
     WriteConditions bytes parent m (length before) (r .refusal) ×
     (0 < r .refusal → (r .length ≡ 0) × (after ≡ before)) ×
@@ -504,13 +573,13 @@ c-dtd bytes r before after (x, call, e) =
     (dtd-refusals bytes x before after call, dtd-kept bytes x before after call, dtd-done bytes x before after call)
 
 pub c-read : (bytes text : List ℕ) (r : TextReply) (call : RepliesText bytes text r) →
-    ReadConditions bytes text (r .refusal) × (0 < r .refusal → (r .parent ≡ 0) × (r .model ≡ emptyChain places)) ×
-    ((p : ℕ) (m : Chain) → ((r .refusal ≡ 0) × (r .parent ≡ p) × (r .model ≡ m)) ↔
+    ReadConditions bytes text (r .refusal) × (0 < r .refusal → (r .parent ≡ 0) × (r .model ≡ emptyModel places)) ×
+    ((p : ℕ) (m : Model) → ((r .refusal ≡ 0) × (r .parent ≡ p) × (r .model ≡ m)) ↔
     ((b : Book) × TakenAs bytes b × Spelled places (b .names) text p m))
 unfolding textReply
 c-read bytes text r (x, call, e) =
     subst (λ (v : TextReply). ReadConditions bytes text (v .refusal) ×
-    (0 < v .refusal → (v .parent ≡ 0) × (v .model ≡ emptyChain places)) ×
-    ((p : ℕ) (m : Chain) → ((v .refusal ≡ 0) × (v .parent ≡ p) × (v .model ≡ m)) ↔
+    (0 < v .refusal → (v .parent ≡ 0) × (v .model ≡ emptyModel places)) ×
+    ((p : ℕ) (m : Model) → ((v .refusal ≡ 0) × (v .parent ≡ p) × (v .model ≡ m)) ↔
     ((b : Book) × TakenAs bytes b × Spelled places (b .names) text p m))) (sym e)
     (read-refusals bytes text x call, read-kept bytes text x call, λ p m. Text.read-number bytes text x call p m)

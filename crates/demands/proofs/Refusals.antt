@@ -10,7 +10,7 @@ use lib.Dec.{ltb}
 use lib.ListN.{length}
 use borrow.Author.Tests.{lt-ltb, le-ltb, ltb-true, ltb-false, not-true, not-false}
 use Rattle.refusal.specs.declared.Refusal.{Refusal}
-use Rattle.refusal.specs.declared.Refusal.the-variants.{BookTooLong, BytesMissing, BadNameCount, BadName, NameNotAbove, NumberNotBelow, BytesLeftOver, BadParent, NoBlock, NotAChain, BadWord, BufferTooShort, NotADeclaration, UnknownName, NameTwice}
+use Rattle.refusal.specs.declared.Refusal.the-variants.{BookTooLong, BytesMissing, BadNameCount, BadName, NameNotAbove, NumberNotBelow, BytesLeftOver, BadParent, NoBlock, NotAModel, BadWord, BufferTooShort, NotADeclaration, UnknownName, NameTwice, BadText}
 use Rattle.refusal.specs.Table.{numberOf, ofBook}
 use Rattle.refusal.specs.Answer.{Answer, given, refused, onward, refuseIf, answerNumber}
 use Rattle.refusal.proofs.Answers.{given-refused, check-law}
@@ -22,12 +22,12 @@ use Rattle.book.specs.Stops.{Stops}
 use Rattle.book.specs.Taken.{takenBook, TakenAs, badParent}
 use Rattle.book.proofs.Taken.{taken-law, taken-refused, bad-parent, good-parent}
 use Rattle.book.proofs.Onward.{book-first, book-or-later, in-book, in-given}
-use Rattle.model.specs.declared.Chain.{Chain}
-use Rattle.model.specs.Record.{IsChain}
-use Rattle.model.specs.Check.{isChain}
+use Rattle.model.specs.declared.Model.{Model}
+use Rattle.model.specs.Record.{IsModel}
+use Rattle.model.specs.Check.{isModel}
 use Rattle.model.specs.Accept.{Names}
 use Rattle.model.specs.Run.{accepts}
-use Rattle.model.proofs.ChainLaw.{chain-law}
+use Rattle.model.proofs.ModelLaw.{model-law}
 use Rattle.declaration_spelling.specs.House.{declaration}
 use Rattle.declaration_spelling.specs.Spelled.{Spelled}
 use Rattle.declaration_spelling.specs.Read.{Declared, declared}
@@ -42,7 +42,7 @@ use Rattle.intake_word.proofs.Theorem.{good-word, word-good, bad-word}
 use Rattle.model_inclusion.specs.Inclusion.{longestCounterexample}
 use Rattle.model_inclusion.specs.Search.{within}
 use Rattle.intake_within.specs.Comparison.{comparisonOf, PassesBoth}
-use Rattle.intake_sample.specs.Inference.{sampleOf, noWord, chainIn, modelIn, modelAnswer}
+use Rattle.intake_sample.specs.Inference.{sampleOf, noWord, parentModel, modelIn, modelAnswer}
 use Rattle.intake_sample.specs.Writing.{sampleText}
 use Rattle.intake_sample.proofs.Samples.{no-word, some-word}
 use Rattle.intake_dtd.specs.Dtd.{dtdOf, dtdAnswer}
@@ -67,16 +67,16 @@ turned t h = (λ e. h .0 (not-true t e), λ p. ap not (h .1 p))
 turned-back : {P : Type 0} (t : Bool) → (t ≡ true) ↔ P → (not t ≡ false) ↔ P
 turned-back t h = (λ e. h .0 (not-false t e), λ p. ap not (h .1 p))
 
-not-chain : (n : ℕ) (m : Chain) → (not (isChain places n m) ≡ true) ↔ (¬ IsChain places n m)
-not-chain n m = turned (isChain places n m) (fails (isChain places n m) (chain-law places n m))
+no-model : (n : ℕ) (m : Model) → (not (isModel places n m) ≡ true) ↔ (¬ IsModel places n m)
+no-model n m = turned (isModel places n m) (fails (isModel places n m) (model-law places n m))
 
-is-chain : (n : ℕ) (m : Chain) → (not (isChain places n m) ≡ false) ↔ IsChain places n m
-is-chain n m = turned-back (isChain places n m) (chain-law places n m)
+is-model : (n : ℕ) (m : Model) → (not (isModel places n m) ≡ false) ↔ IsModel places n m
+is-model n m = turned-back (isModel places n m) (model-law places n m)
 
 count-law : (n : ℕ) → (goodCount n ≡ true) ↔ InRange n
 count-law n = (count-bounds n, λ h. bounds-count n (h .0) (h .1))
 
--- ---- 1 to 7
+-- ---- 1 to 7, 16
 
 book-rows : {A : Type 0} (bytes : List ℕ) (a : Answer A) → ((f : Refusal) → ofBook f ≡ true → (a ≡ refused f) ↔ (takenBook bytes ≡ refused f)) → BookConditions bytes (answerNumber a)
 book-rows bytes a law =
@@ -87,6 +87,7 @@ book-rows bytes a law =
       four = at BadName refl;
       five = at NameNotAbove refl;
       six = at NumberNotBelow refl;
+      sixteen = at BadText refl;
       seven = at BytesLeftOver refl;
     }
   where
@@ -95,49 +96,49 @@ book-rows bytes a law =
 
 -- ---- acceptance of a word
 
-module _ (n : ℕ) (m : Chain) (w : List ℕ) where
+module _ (n : ℕ) (m : Model) (w : List ℕ) where
   some-names : (not (goodCount n) ≡ false) ↔ InRange n
   some-names = turned-back (goodCount n) (count-law n)
 
-  passes : {K : Type 0} → K ↔ (InRange n × (IsChain places n m × ((length w ≤ longestWord) × Names n w))) → K ↔ Passes n m w
+  passes : {K : Type 0} → K ↔ (InRange n × (IsModel places n m × ((length w ≤ longestWord) × Names n w))) → K ↔ Passes n m w
   passes h = (
-    λ k. let ((a, b), (c, (d, e))) = h .0 k in record { some = a; few = b; chain = c; short = d; names = e },
-    λ p. h .1 ((p .some, p .few), (p .chain, (p .short, p .names))),
+    λ k. let ((a, b), (c, (d, e))) = h .0 k in record { some = a; few = b; model = c; short = d; names = e },
+    λ p. h .1 ((p .some, p .few), (p .model, (p .short, p .names))),
   )
 
   word-only : (f : Refusal) → answerOf n m w ≡ refused f → (numberOf f ≡ 3) ⊎ ((numberOf f ≡ 10) ⊎ (numberOf f ≡ 11))
   unfolding answerOf
   word-only f e =
       ⊎-elim (λ z. inl (ap numberOf (sym z)))
-      (λ h. inr (⊎-elim (λ z. inl (ap numberOf (sym z))) (λ k. inr (ap numberOf (sym (own (badWord n w) BadWord _ f k)))) (own-or-next (badModel n m) NotAChain _ f h)))
+      (λ h. inr (⊎-elim (λ z. inl (ap numberOf (sym z))) (λ k. inr (ap numberOf (sym (own (badWord n w) BadWord _ f k)))) (own-or-next (badModel n m) NotAModel _ f h)))
       (own-or-next (not (goodCount n)) BadNameCount _ f e)
 
   pub word-conditions : WordConditions n m w (answerNumber (answerOf n m w))
   unfolding answerOf badModel
   word-conditions =
       let t₁ = not (goodCount n) in
-      let t₂ = not (isChain places n m) in
+      let t₂ = not (isModel places n m) in
       let t₃ = badWord n w in
-      let a₃ = given (accepts m w) in
+      let a₃ = given (accepts (m .chain) w) in
       let a₂ = refuseIf t₃ BadWord a₃ in
-      let a₁ = refuseIf t₂ NotAChain a₂ in
+      let a₁ = refuseIf t₂ NotAModel a₂ in
       let a = refuseIf t₁ BadNameCount a₁ in
       record {
         three =
             row a BadNameCount
             (own-check t₁ BadNameCount a₁ (turned (goodCount n) (count-bad n))
-            (avoids t₂ NotAChain a₂ BadNameCount (other NotAChain BadNameCount refl) (avoids t₃ BadWord a₃ BadNameCount (other BadWord BadNameCount refl) (given-refused _ _))));
+            (avoids t₂ NotAModel a₂ BadNameCount (other NotAModel BadNameCount refl) (avoids t₃ BadWord a₃ BadNameCount (other BadWord BadNameCount refl) (given-refused _ _))));
         ten =
-            row a NotAChain
-            (next-check t₁ BadNameCount a₁ NotAChain (other BadNameCount NotAChain refl) some-names
-            (own-check t₂ NotAChain a₂ (not-chain n m) (avoids t₃ BadWord a₃ NotAChain (other BadWord NotAChain refl) (given-refused _ _))));
+            row a NotAModel
+            (next-check t₁ BadNameCount a₁ NotAModel (other BadNameCount NotAModel refl) some-names
+            (own-check t₂ NotAModel a₂ (no-model n m) (avoids t₃ BadWord a₃ NotAModel (other BadWord NotAModel refl) (given-refused _ _))));
         eleven =
             row a BadWord
             (next-check t₁ BadNameCount a₁ BadWord (other BadNameCount BadWord refl) some-names
-            (next-check t₂ NotAChain a₂ BadWord (other NotAChain BadWord refl) (is-chain n m) (own-check t₃ BadWord a₃ (bad-word n w) (given-refused _ _))));
+            (next-check t₂ NotAModel a₂ BadWord (other NotAModel BadWord refl) (is-model n m) (own-check t₃ BadWord a₃ (bad-word n w) (given-refused _ _))));
         none =
             passes (row-0 a
-            (pass-check t₁ BadNameCount a₁ some-names (pass-check t₂ NotAChain a₂ (is-chain n m) (last-check t₃ BadWord _ (good-word n w, word-good n w)))));
+            (pass-check t₁ BadNameCount a₁ some-names (pass-check t₂ NotAModel a₂ (is-model n m) (last-check t₃ BadWord _ (good-word n w, word-good n w)))));
         no-other = number-only (λ k. (k ≡ 0) ⊎ ((k ≡ 3) ⊎ ((k ≡ 10) ⊎ (k ≡ 11)))) a (inl refl) (λ f e. inr (word-only f e));
       }
 
@@ -155,12 +156,12 @@ either-check {P = P} {Q} t r next law behind = (
     back true e q = check-law t r next r .1 (inl (e, refl))
     back false e q = check-law t r next r .1 (inr (e, behind .1 q))
 
-module _ (n : ℕ) (first second : Chain) (room : ℕ) where
+module _ (n : ℕ) (first second : Model) (room : ℕ) where
   both-pass : {K : Type 0} →
-      K ↔ (InRange n × (IsChain places n first × (IsChain places n second × (longestCounterexample ≤ room)))) → K ↔ PassesBoth n first second room
+      K ↔ (InRange n × (IsModel places n first × (IsModel places n second × (longestCounterexample ≤ room)))) → K ↔ PassesBoth n first second room
   both-pass h = (
-    λ k. let ((a, b), (c, (d, e))) = h .0 k in record { some = a; few = b; first-chain = c; second-chain = d; enough = e },
-    λ p. h .1 ((p .some, p .few), (p .first-chain, (p .second-chain, p .enough))),
+    λ k. let ((a, b), (c, (d, e))) = h .0 k in record { some = a; few = b; first-model = c; second-model = d; enough = e },
+    λ p. h .1 ((p .some, p .few), (p .first-model, (p .second-model, p .enough))),
   )
 
   within-only : (f : Refusal) → comparisonOf n first second room ≡ refused f → (numberOf f ≡ 3) ⊎ ((numberOf f ≡ 10) ⊎ (numberOf f ≡ 12))
@@ -169,46 +170,46 @@ module _ (n : ℕ) (first second : Chain) (room : ℕ) where
       ⊎-elim (λ z. inl (ap numberOf (sym z)))
       (λ h. inr (⊎-elim (λ z. inl (ap numberOf (sym z)))
       (λ k. ⊎-elim (λ z. inl (ap numberOf (sym z))) (λ l. inr (ap numberOf (sym (own (ltb room longestCounterexample) BufferTooShort _ f l))))
-      (own-or-next (not (isChain places n second)) NotAChain _ f k)) (own-or-next (not (isChain places n first)) NotAChain _ f h)))
+      (own-or-next (not (isModel places n second)) NotAModel _ f k)) (own-or-next (not (isModel places n first)) NotAModel _ f h)))
       (own-or-next (not (goodCount n)) BadNameCount _ f e)
 
   pub within-conditions : WithinConditions n first second room (answerNumber (comparisonOf n first second room))
   unfolding comparisonOf
   within-conditions =
       let t₁ = not (goodCount n) in
-      let t₂ = not (isChain places n first) in
-      let t₃ = not (isChain places n second) in
+      let t₂ = not (isModel places n first) in
+      let t₃ = not (isModel places n second) in
       let t₄ = ltb room longestCounterexample in
-      let a₄ = given (within n first second) in
+      let a₄ = given (within n (first .chain) (second .chain)) in
       let a₃ = refuseIf t₄ BufferTooShort a₄ in
-      let a₂ = refuseIf t₃ NotAChain a₃ in
-      let a₁ = refuseIf t₂ NotAChain a₂ in
+      let a₂ = refuseIf t₃ NotAModel a₃ in
+      let a₁ = refuseIf t₂ NotAModel a₂ in
       let a = refuseIf t₁ BadNameCount a₁ in
       let count = turned-back (goodCount n) (count-law n) in
       record {
         three =
             row a BadNameCount
             (own-check t₁ BadNameCount a₁ (turned (goodCount n) (count-bad n))
-            (avoids t₂ NotAChain a₂ BadNameCount (other NotAChain BadNameCount refl)
-            (avoids t₃ NotAChain a₃ BadNameCount (other NotAChain BadNameCount refl)
+            (avoids t₂ NotAModel a₂ BadNameCount (other NotAModel BadNameCount refl)
+            (avoids t₃ NotAModel a₃ BadNameCount (other NotAModel BadNameCount refl)
             (avoids t₄ BufferTooShort a₄ BadNameCount (other BufferTooShort BadNameCount refl) (given-refused _ _)))));
         ten =
-            row a NotAChain
-            (next-check t₁ BadNameCount a₁ NotAChain (other BadNameCount NotAChain refl) count
-            (either-check t₂ NotAChain a₂ (not-chain n first)
-            (own-check t₃ NotAChain a₃ (not-chain n second)
-            (avoids t₄ BufferTooShort a₄ NotAChain (other BufferTooShort NotAChain refl) (given-refused _ _)))));
+            row a NotAModel
+            (next-check t₁ BadNameCount a₁ NotAModel (other BadNameCount NotAModel refl) count
+            (either-check t₂ NotAModel a₂ (no-model n first)
+            (own-check t₃ NotAModel a₃ (no-model n second)
+            (avoids t₄ BufferTooShort a₄ NotAModel (other BufferTooShort NotAModel refl) (given-refused _ _)))));
         twelve =
             row a BufferTooShort
             (next-check t₁ BadNameCount a₁ BufferTooShort (other BadNameCount BufferTooShort refl) count
-            (next-check t₂ NotAChain a₂ BufferTooShort (other NotAChain BufferTooShort refl) (is-chain n first)
-            (next-check t₃ NotAChain a₃ BufferTooShort (other NotAChain BufferTooShort refl) (is-chain n second)
+            (next-check t₂ NotAModel a₂ BufferTooShort (other NotAModel BufferTooShort refl) (is-model n first)
+            (next-check t₃ NotAModel a₃ BufferTooShort (other NotAModel BufferTooShort refl) (is-model n second)
             (own-check t₄ BufferTooShort a₄ (below-law room longestCounterexample) (given-refused _ _)))));
         none =
             both-pass (row-0 a
             (pass-check t₁ BadNameCount a₁ count
-            (pass-check t₂ NotAChain a₂ (is-chain n first)
-            (pass-check t₃ NotAChain a₃ (is-chain n second)
+            (pass-check t₂ NotAModel a₂ (is-model n first)
+            (pass-check t₃ NotAModel a₃ (is-model n second)
             (last-check t₄ BufferTooShort _ (at-most-law room longestCounterexample))))));
         no-other = number-only (λ k. (k ≡ 0) ⊎ ((k ≡ 3) ⊎ ((k ≡ 10) ⊎ (k ≡ 12)))) a (inl refl) (λ f e. inr (within-only f e));
       }
@@ -229,8 +230,8 @@ module _ (bytes : List ℕ) (parent : ℕ) where
   abbrev t₂ : Book → Bool
   t₂ b = noWord (sampleOf b parent)
 
-  abbrev a₁ : Book → Answer Chain
-  a₁ b = refuseIf (t₂ b) NoBlock (given (chainIn b parent))
+  abbrev a₁ : Book → Answer Model
+  a₁ b = refuseIf (t₂ b) NoBlock (given (parentModel b parent))
 
   -- its two refusals, each with what P says of it
   model-each : (P : Refusal → Type 0) → P BadParent → P NoBlock → (b : Book) (f : Refusal) → modelIn b parent ≡ refused f → P f
@@ -241,7 +242,7 @@ module _ (bytes : List ℕ) (parent : ℕ) where
   unfolding modelAnswer modelIn
   model-conditions =
       let a = modelAnswer bytes parent in
-      let next : Book → Answer Chain = λ b. modelIn b parent in
+      let next : Book → Answer Model = λ b. modelIn b parent in
       record {
         book = book-rows bytes a (λ f l. book-first bytes next f l (λ b k. model-each (λ r. ofBook r ≡ false) refl refl b f));
         eight =
@@ -329,12 +330,12 @@ module _ (bytes : List ℕ) (parent room : ℕ) (r : Refusal) (late : ofBook r �
               (each (λ f. (numberOf f ≡ 8) ⊎ ((numberOf f ≡ numberOf r) ⊎ (numberOf f ≡ 12))) (inl refl) (inr (inl refl)) (inr (inr refl)));
         }
 
-pub write-conditions : (bytes : List ℕ) (parent : ℕ) (m : Chain) (room : ℕ) → WriteConditions bytes parent m room (answerNumber (writeAnswer bytes parent m room))
+pub write-conditions : (bytes : List ℕ) (parent : ℕ) (m : Model) (room : ℕ) → WriteConditions bytes parent m room (answerNumber (writeAnswer bytes parent m room))
 unfolding writeAnswer writeIn
 write-conditions bytes parent m room =
     let h =
-    writing-rows bytes parent room NotAChain refl (other NotAChain BadParent refl) (other BufferTooShort NotAChain refl) (λ b. not (isChain places (length (b .names)) m))
-    (λ b. ¬ IsChain places (length (b .names)) m) (λ b. IsChain places (length (b .names)) m) (λ b. not-chain (length (b .names)) m) (λ b. is-chain (length (b .names)) m)
+    writing-rows bytes parent room NotAModel refl (other NotAModel BadParent refl) (other BufferTooShort NotAModel refl) (λ b. not (isModel places (length (b .names)) m))
+    (λ b. ¬ IsModel places (length (b .names)) m) (λ b. IsModel places (length (b .names)) m) (λ b. no-model (length (b .names)) m) (λ b. is-model (length (b .names)) m)
     (λ b. declaration (b .names) parent m) (λ b. writeIn b parent m room) (λ b. refl) in
     record { book = h .book; eight = h .eight; ten = h .middle; twelve = h .twelve; none = h .none; no-other = h .no-other }
 
@@ -347,13 +348,13 @@ in-row r₁ r₂ a f false true = refl
 in-row r₁ r₂ a f false false = refl
 
 pub sample-conditions : (bytes : List ℕ) (parent room : ℕ) → SampleConditions bytes parent room (answerNumber (sampleText bytes parent room))
-unfolding sampleText modelIn chainIn
+unfolding sampleText modelIn parentModel
 sample-conditions bytes parent room =
     let h =
     writing-rows bytes parent room NoBlock refl (other NoBlock BadParent refl) (other BufferTooShort NoBlock refl) (λ b. noWord (sampleOf b parent))
     (λ b. sampleOf b parent ≡ []) (λ b. ¬ (sampleOf b parent ≡ [])) (λ b. no-word (sampleOf b parent)) (λ b. some-word (sampleOf b parent))
     (λ b. sampleDeclaration b parent) (λ b. onward (modelIn b parent) (λ m. fitted room (declaration (b .names) parent m)))
-    (λ b. in-row BadParent NoBlock (chainIn b parent) (λ m. fitted room (declaration (b .names) parent m)) (badParent b parent) (noWord (sampleOf b parent))) in
+    (λ b. in-row BadParent NoBlock (parentModel b parent) (λ m. fitted room (declaration (b .names) parent m)) (badParent b parent) (noWord (sampleOf b parent))) in
     record { book = h .book; eight = h .eight; nine = h .middle; twelve = h .twelve; none = h .none; no-other = h .no-other }
 
 -- ---- the whole DTD written
@@ -373,11 +374,11 @@ dtd-conditions bytes room =
 -- ---- a declaration read
 
 module _ (bytes text : List ℕ) where
-  read-given : ((x : Declared) × (readAnswer bytes text ≡ given x)) ↔ ((b : Book) × TakenAs bytes b × ((p : ℕ) × (m : Chain) × Spelled places (b .names) text p m))
+  read-given : ((x : Declared) × (readAnswer bytes text ≡ given x)) ↔ ((b : Book) × TakenAs bytes b × ((p : ℕ) × (m : Model) × Spelled places (b .names) text p m))
   unfolding readAnswer
-  read-given = in-given bytes (λ b. textAnswer places (b .names) text) (λ b. (p : ℕ) × (m : Chain) × Spelled places (b .names) text p m) spelled
+  read-given = in-given bytes (λ b. textAnswer places (b .names) text) (λ b. (p : ℕ) × (m : Model) × Spelled places (b .names) text p m) spelled
     where
-      spelled : (b : Book) → TakenAs bytes b → ((x : Declared) × (textAnswer places (b .names) text ≡ given x)) ↔ ((p : ℕ) × (m : Chain) × Spelled places (b .names) text p m)
+      spelled : (b : Book) → TakenAs bytes b → ((x : Declared) × (textAnswer places (b .names) text ≡ given x)) ↔ ((p : ℕ) × (m : Model) × Spelled places (b .names) text p m)
       spelled b q =
           let good = good-names bytes b (taken-law bytes b .0 q) in (
             λ (x, g). (x .parent, x .model, Spelling.read-exactly places (b .names) good text (x .parent) (x .model) .0 g),

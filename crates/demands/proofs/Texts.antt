@@ -20,10 +20,10 @@ use Rattle.nameset.specs.Places.{places}
 use Rattle.book.specs.Book.{Book}
 use Rattle.book.specs.Taken.{takenBook, TakenAs}
 use Rattle.book.proofs.Taken.{good-parent}
-use Rattle.model.specs.declared.Chain.{Chain}
-use Rattle.model.specs.Record.{IsChain, dueModel}
+use Rattle.model.specs.declared.Model.{Model}
+use Rattle.model.specs.Record.{IsModel, dueModel}
 use Rattle.model.specs.Accept.{Names}
-use Rattle.model.proofs.ChainLaw.{chain-law}
+use Rattle.model.proofs.ModelLaw.{model-law}
 use Rattle.model_language.proofs.Theorem.{accepts-names}
 use Rattle.declaration_spelling.specs.House.{declaration}
 use Rattle.declaration_spelling.specs.Length.{longestDeclaration}
@@ -101,7 +101,7 @@ module _ (a : Answer (List ℕ)) (w : Written) (before after : List ℕ) (call :
 
 -- ---- a declaration written with a record
 
-module _ (bytes : List ℕ) (parent : ℕ) (m : Chain) (w : Written) (before after : List ℕ) (call : WritesDeclaration bytes parent m w before after) where
+module _ (bytes : List ℕ) (parent : ℕ) (m : Model) (w : Written) (before after : List ℕ) (call : WritesDeclaration bytes parent m w before after) where
   pub write-done : outcomeNumber (w .outcome) ≡ 0 → (b : Book) × TakenAs bytes b × Wrote (declaration (b .names) parent m) (w .length) before after
   write-done z =
       let (t, e) = writes-given _ w before after call (done-by (w .outcome) z) in
@@ -144,16 +144,16 @@ dtd-done bytes w before after call z =
 -- ---- a declaration written from the sample
 
 -- The call that writes from the sample writes what the other writes with the model that the call for it gives.
-sample-as-written : (bytes : List ℕ) (parent room : ℕ) (m : Chain) → modelAnswer bytes parent ≡ given m → sampleText bytes parent room ≡ writeAnswer bytes parent m room
+sample-as-written : (bytes : List ℕ) (parent room : ℕ) (m : Model) → modelAnswer bytes parent ≡ given m → sampleText bytes parent room ≡ writeAnswer bytes parent m room
 unfolding sampleText writeAnswer writeIn inferred
 sample-as-written bytes parent room m e =
     let g = model-given bytes parent m e in
     let n = length (g .book .names) in
-    let q : inferred (modelAnswer bytes parent) .model ≡ m = ap (λ (a : Answer Chain). inferred a .model) e in
-    let c : IsChain places n m = subst (IsChain places n) q (Model3.is-chain bytes parent (inferred (modelAnswer bytes parent)) refl (g .book) (g .read) (g .some)) in
-    rw (g .read, g .due, good-parent (g .book) parent .1 (g .below), chain-law places n m .1 c)
+    let q : inferred (modelAnswer bytes parent) .model ≡ m = ap (λ (a : Answer Model). inferred a .model) e in
+    let c : IsModel places n m = subst (IsModel places n) q (Model3.is-model bytes parent (inferred (modelAnswer bytes parent)) refl (g .book) (g .read) (g .some)) in
+    rw (g .read, g .due, good-parent (g .book) parent .1 (g .below), model-law places n m .1 c)
 
-sample-model : (bytes : List ℕ) (parent room : ℕ) (t : List ℕ) → sampleText bytes parent room ≡ given t → (m : Chain) × (modelAnswer bytes parent ≡ given m)
+sample-model : (bytes : List ℕ) (parent room : ℕ) (t : List ℕ) → sampleText bytes parent room ≡ given t → (m : Model) × (modelAnswer bytes parent ≡ given m)
 unfolding sampleText modelAnswer
 sample-model bytes parent room t e =
     let b = onward-given (takenBook bytes) _ t e in
@@ -169,7 +169,7 @@ as-written bytes parent w before after call z x asked =
     let (t, e) = writes-given a w before after call (done-by (w .outcome) z) in
     let (m, k) = sample-model bytes parent (length before) t e in
     let same : x .model ≡ m = ap (λ (y : Inferred). y .model) asked ∙ ap (valueOr dueModel) k in
-    let q : a ≡ writeAnswer bytes parent (x .model) (length before) = sample-as-written bytes parent (length before) m k ∙ ap (λ (n : Chain). writeAnswer bytes parent n (length before)) (sym same) in
+    let q : a ≡ writeAnswer bytes parent (x .model) (length before) = sample-as-written bytes parent (length before) m k ∙ ap (λ (n : Model). writeAnswer bytes parent n (length before)) (sym same) in
     (call .0 ∙ ap written q, call .1 ∙ ap (bufferAfter before) q)
 
 -- ---- read, then written
@@ -185,7 +185,7 @@ read-writes bytes text r reads z w before after call room =
     (b, q, (ap outcomeNumber o, done))
 
 -- read as the parent p and the record m, by the number
-pub read-number : (bytes text : List ℕ) (r : Declaration) → ReadsDeclaration bytes text r → (p : ℕ) (m : Chain) →
+pub read-number : (bytes text : List ℕ) (r : Declaration) → ReadsDeclaration bytes text r → (p : ℕ) (m : Model) →
     ((outcomeNumber (r .outcome) ≡ 0) × (r .parent ≡ p) × (r .model ≡ m)) ↔ ((b : Book) × TakenAs bytes b × Spelled places (b .names) text p m)
 read-number bytes text r call p m =
     let h = Reading.read-exactly bytes text r call p m in
@@ -202,16 +202,16 @@ wrote-word w before after l fits size held =
       past = rw (size, seam) (drop-append-seam w (drop (length w) before));
     }
 
-pub word-written : (n : ℕ) (first second : Chain) (r : Inclusion) (before after : List ℕ) → ComparesModels n first second r before after →
+pub word-written : (n : ℕ) (first second : Model) (r : Inclusion) (before after : List ℕ) → ComparesModels n first second r before after →
     inclusionNumber r ≡ 0 → inclusionYes r ≡ false →
-    (w : List ℕ) × Counterexample first second w × Names n w × (length w ≤ longestCounterexample) ×
+    (w : List ℕ) × Counterexample (first .chain) (second .chain) w × Names n w × (length w ≤ longestCounterexample) ×
     Wrote w (inclusionLength r) before after
 word-written n first second r before after call z e =
     let h = Compare.no-writes n first second r before after call z e in
     let p = Compare.no-exactly n first second r before after call .0 (z, e) .0 in (
       h .word,
       h .example,
-      accepts-names places n first (p .first-chain) (omega arith) (h .word) (h .example .accepted),
+      accepts-names places n (first .chain) (p .first-model .chain) (omega arith) (h .word) (h .example .accepted),
       h .short,
       wrote-word (h .word) before after (inclusionLength r) (omega (arith, h .short, p .enough)) (h .size) (h .buffer),
     )

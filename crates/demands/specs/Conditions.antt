@@ -9,25 +9,24 @@ use mathlib.Core.List.{List, [], List·Memᴰ}
 use mathlib.Core.Logic.{_↔_, _⊎_}
 use lib.ListN.{length}
 use Rattle.refusal.specs.declared.Refusal.{Refusal}
-use Rattle.refusal.specs.declared.Refusal.the-variants.{BookTooLong, BytesMissing, BadNameCount, BadName, NameNotAbove, NumberNotBelow, BytesLeftOver}
+use Rattle.refusal.specs.declared.Refusal.the-variants.{BookTooLong, BytesMissing, BadNameCount, BadName, NameNotAbove, NumberNotBelow, BytesLeftOver, BadText}
 use Rattle.refusal.specs.Table.{numberOf, ofBook}
 use Rattle.nameset.specs.Places.{places, OutOfRange}
 use Rattle.book.specs.Book.{Book}
 use Rattle.book.specs.Taken.{TakenAs}
 use Rattle.book.specs.Stops.{Stops}
-use Rattle.model.specs.declared.Chain.{Chain}
-use Rattle.model.specs.Record.{IsChain}
-use Rattle.chain_sample.specs.Sample.{chainOfWords}
+use Rattle.model.specs.declared.Model.{Model}
+use Rattle.model.specs.Record.{IsModel}
 use Rattle.declaration_spelling.specs.House.{declaration}
 use Rattle.declaration_spelling.specs.Spelled.{Spelled}
 use Rattle.declaration_spelling.specs.Stops.{Form, modelNames, formNames, Twice, HasForm}
 use Rattle.model_inclusion.specs.Inclusion.{longestCounterexample}
 use Rattle.intake_word.specs.Acceptance.{longestWord, Passes}
 use Rattle.intake_within.specs.Comparison.{PassesBoth}
-use Rattle.intake_sample.specs.Inference.{sampleOf}
+use Rattle.intake_sample.specs.Inference.{sampleOf, parentModel}
 use Rattle.intake_dtd.specs.Dtd.{dtdOf}
 
--- k is the number of a refusal that concerns the book, 1 to 7.
+-- k is the number of a refusal that concerns the book, 1 to 7, 16.
 abbrev pub OfBook : ℕ → Type 0
 OfBook k = (f : Refusal) × (ofBook f ≡ true) × (k ≡ numberOf f)
 
@@ -46,6 +45,8 @@ pub record BookConditions (bytes : List ℕ) (k : ℕ) : Type 0 where
   pub five : (k ≡ 5) ↔ Stops bytes NameNotAbove
   -- a block's "number not below N"
   pub six : (k ≡ 6) ↔ Stops bytes NumberNotBelow
+  -- "a text byte above 1"
+  pub sixteen : (k ≡ 16) ↔ Stops bytes BadText
   -- "after the last block: bytes left over"
   pub seven : (k ≡ 7) ↔ Stops bytes BytesLeftOver
 
@@ -54,24 +55,24 @@ abbrev pub InRange : ℕ → Type 0
 InRange n = (0 < n) × (n ≤ places)
 
 -- Acceptance of the word w by the record m over n names.
-pub record WordConditions (n : ℕ) (m : Chain) (w : List ℕ) (k : ℕ) : Type 0 where
+pub record WordConditions (n : ℕ) (m : Model) (w : List ℕ) (k : ℕ) : Type 0 where
   -- "count N, also when given alone: 0 or above 64"
   pub three : (k ≡ 3) ↔ OutOfRange n
-  -- "no chain over N names"
-  pub ten : (k ≡ 10) ↔ (InRange n × (¬ IsChain places n m))
+  -- "no chain over N names", or "a text record of any other shape"
+  pub ten : (k ≡ 10) ↔ (InRange n × (¬ IsModel places n m))
   -- "above 255 names, or a number not below N"
-  pub eleven : (k ≡ 11) ↔ (InRange n × (IsChain places n m × ((longestWord < length w) ⊎ ((x : ℕ) × List·Memᴰ x w × (n ≤ x)))))
+  pub eleven : (k ≡ 11) ↔ (InRange n × (IsModel places n m × ((longestWord < length w) ⊎ ((x : ℕ) × List·Memᴰ x w × (n ≤ x)))))
   pub none : (k ≡ 0) ↔ Passes n m w
   pub no-other : (k ≡ 0) ⊎ ((k ≡ 3) ⊎ ((k ≡ 10) ⊎ (k ≡ 11)))
 
 -- The comparison of two models over so many names (`count`), with a buffer of `room` places (request U4 of paper 02).
-pub record WithinConditions (count : ℕ) (first second : Chain) (room : ℕ) (k : ℕ) : Type 0 where
+pub record WithinConditions (count : ℕ) (first second : Model) (room : ℕ) (k : ℕ) : Type 0 where
   pub three : (k ≡ 3) ↔ OutOfRange count
   -- "10 for the first record, then 10 for the second": one number for both, so it does not tell which one was seen
   -- first
-  pub ten : (k ≡ 10) ↔ (InRange count × ((¬ IsChain places count first) ⊎ (¬ IsChain places count second)))
+  pub ten : (k ≡ 10) ↔ (InRange count × ((¬ IsModel places count first) ⊎ (¬ IsModel places count second)))
   -- "12 if the buffer has fewer than 65 places, even when the answer is yes"
-  pub twelve : (k ≡ 12) ↔ (InRange count × (IsChain places count first × (IsChain places count second × (room < longestCounterexample))))
+  pub twelve : (k ≡ 12) ↔ (InRange count × (IsModel places count first × (IsModel places count second × (room < longestCounterexample))))
   pub none : (k ≡ 0) ↔ PassesBoth count first second room
   pub no-other : (k ≡ 0) ⊎ ((k ≡ 3) ⊎ ((k ≡ 10) ⊎ (k ≡ 12)))
 
@@ -86,20 +87,20 @@ pub record ModelConditions (bytes : List ℕ) (parent : ℕ) (k : ℕ) : Type 0 
   pub no-other : (k ≡ 0) ⊎ (OfBook k ⊎ ((k ≡ 8) ⊎ (k ≡ 9)))
 
 -- A declaration written with the record m, into a buffer of `room` bytes.
-pub record WriteConditions (bytes : List ℕ) (parent : ℕ) (m : Chain) (room : ℕ) (k : ℕ) : Type 0 where
+pub record WriteConditions (bytes : List ℕ) (parent : ℕ) (m : Model) (room : ℕ) (k : ℕ) : Type 0 where
   pub book : BookConditions bytes k
   pub eight : (k ≡ 8) ↔ ((b : Book) × TakenAs bytes b × (length (b .names) ≤ parent))
-  pub ten : (k ≡ 10) ↔ ((b : Book) × TakenAs bytes b × ((parent < length (b .names)) × (¬ IsChain places (length (b .names)) m)))
+  pub ten : (k ≡ 10) ↔ ((b : Book) × TakenAs bytes b × ((parent < length (b .names)) × (¬ IsModel places (length (b .names)) m)))
   -- "shorter than the declaration"
   pub twelve : (k ≡ 12) ↔ ((b : Book) × TakenAs bytes b ×
-      ((parent < length (b .names)) × (IsChain places (length (b .names)) m × (room < length (declaration (b .names) parent m)))))
+      ((parent < length (b .names)) × (IsModel places (length (b .names)) m × (room < length (declaration (b .names) parent m)))))
   pub none : (k ≡ 0) ↔ ((b : Book) × TakenAs bytes b ×
-      ((parent < length (b .names)) × (IsChain places (length (b .names)) m × (length (declaration (b .names) parent m) ≤ room))))
+      ((parent < length (b .names)) × (IsModel places (length (b .names)) m × (length (declaration (b .names) parent m) ≤ room))))
   pub no-other : (k ≡ 0) ⊎ (OfBook k ⊎ ((k ≡ 8) ⊎ ((k ≡ 10) ⊎ (k ≡ 12))))
 
--- The declaration of the model that the parent's sample gives.
+-- The declaration of the model that the parent's blocks give.
 abbrev pub sampleDeclaration : Book → ℕ → List ℕ
-sampleDeclaration b parent = declaration (b .names) parent (chainOfWords places (length (b .names)) (sampleOf b parent))
+sampleDeclaration b parent = declaration (b .names) parent (parentModel b parent)
 
 -- A declaration written from the sample, into a buffer of `room` bytes.
 pub record SampleConditions (bytes : List ℕ) (parent room : ℕ) (k : ℕ) : Type 0 where
@@ -120,7 +121,8 @@ pub record DtdConditions (bytes : List ℕ) (room : ℕ) (k : ℕ) : Type 0 wher
   pub none : (k ≡ 0) ↔ ((b : Book) × TakenAs bytes b × (length (dtdOf b) ≤ room))
   pub no-other : (k ≡ 0) ⊎ (OfBook k ⊎ (k ≡ 12))
 
--- A declaration read. d lists what the text spells: the parent's name, and each factor's names and mark.
+-- A declaration read. d lists what the text spells: the parent's name, whether the model has text,
+-- and each factor's names and mark.
 pub record ReadConditions (bytes text : List ℕ) (k : ℕ) : Type 0 where
   pub book : BookConditions bytes k
   -- "not the form above"
@@ -131,5 +133,5 @@ pub record ReadConditions (bytes text : List ℕ) (k : ℕ) : Type 0 where
   -- "a name twice in the model"
   pub fifteen : (k ≡ 15) ↔ ((b : Book) × TakenAs bytes b ×
       ((d : Form) × HasForm text d × ((x : List ℕ) → List·Memᴰ x (formNames d) → List·Memᴰ x (b .names)) × Twice (modelNames (d .factors))))
-  pub none : (k ≡ 0) ↔ ((b : Book) × TakenAs bytes b × ((p : ℕ) × (m : Chain) × Spelled places (b .names) text p m))
+  pub none : (k ≡ 0) ↔ ((b : Book) × TakenAs bytes b × ((p : ℕ) × (m : Model) × Spelled places (b .names) text p m))
   pub no-other : (k ≡ 0) ⊎ (OfBook k ⊎ ((k ≡ 13) ⊎ ((k ≡ 14) ⊎ (k ≡ 15))))

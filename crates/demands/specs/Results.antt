@@ -7,8 +7,8 @@ use lib.ListN.{length, take, drop}
 use Rattle.nameset.specs.Places.{places}
 use Rattle.book.specs.Book.{Book}
 use Rattle.book.specs.Taken.{TakenAs}
-use Rattle.model.specs.declared.Chain.{Chain}
-use Rattle.model.specs.Record.{IsChain}
+use Rattle.model.specs.declared.Model.{Model}
+use Rattle.model.specs.Record.{IsModel}
 use Rattle.model.specs.Accept.{Accepts, Names}
 use Rattle.model_language.specs.Word.{AcceptsAll}
 use Rattle.intake_sample.specs.declared.Inferred.{Inferred}
@@ -29,13 +29,15 @@ pub record Asked (bytes : List ℕ) (parent : ℕ) (r : Inferred) (b : Book) : T
   pub read : TakenAs bytes b
   pub block : ¬ (sampleOf b parent ≡ [])
 
--- Demand 3, of a record and the words of a sample over n names.
-pub record Minimal (n : ℕ) (ours : Chain) (words : List (List ℕ)) : Type 0 where
-  -- "our model for that parent is a chain expression"
-  pub chain : IsChain places n ours
+-- Demand 3, of a record and the words of a sample over n names. "The minimal-model result is about parents without text
+-- and compares their models only with records without text" (paper 02, U5).
+pub record Minimal (n : ℕ) (ours : Model) (words : List (List ℕ)) : Type 0 where
+  -- "our model for that parent is a chain expression", without text,
+  pub model : IsModel places n ours
+  pub no-text : ours .text ≡ 0
   -- "that accepts every one of them."
-  pub accepts : AcceptsAll ours words
+  pub accepts : AcceptsAll (ours .chain) words
   -- "Every other chain expression that accepts every word of that sample also accepts some word that ours does not
   -- accept." The proof gives such a word, and it is short: at most one name more than that chain has factors.
-  pub no-better : (other : Chain) → IsChain places n other → AcceptsAll other words → ¬ (other ≡ ours) →
-      (w : List ℕ) × Accepts other w × (¬ Accepts ours w) × (length w ≤ other .count + 1) × Names n w
+  pub no-better : (other : Model) → IsModel places n other → other .text ≡ 0 → AcceptsAll (other .chain) words → ¬ (other ≡ ours) →
+      (w : List ℕ) × Accepts (other .chain) w × (¬ Accepts (ours .chain) w) × (length w ≤ other .chain .count + 1) × Names n w

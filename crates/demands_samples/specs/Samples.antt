@@ -1,14 +1,15 @@
--- To be believed: the marked lines of paper 01, "Samples with their models", as printed there.
+-- To be believed: the marked lines of paper 01, "Samples with their models", as printed there; and with text, by paper
+-- 02, U5.
 -- Assumes nothing.
 use Prim.Native.Nat.{ℕ, suc}
 use Prim.Native.String.{String}
-use mathlib.Core.Bool.{cond}
+use mathlib.Core.Bool.{Bool, true, false, cond}
 use mathlib.Core.List.{List, [], _∷_, _++_, map}
 use lib.Dec.{eqb}
 use lib.ListN.{length}
 use Rattle.nameset.specs.Places.{places}
-use Rattle.model.specs.declared.Chain.{Chain}
-use Rattle.chain_sample.specs.Sample.{chainOfWords}
+use Rattle.model.specs.declared.Model.{Model}
+use Rattle.chain_sample.specs.Sample.{modelOfWords}
 use Rattle.declaration_spelling.specs.House.{declaration}
 use Rattle.declaration_spelling.specs.Text.{bytes}
 
@@ -18,11 +19,17 @@ pub record Line : Type 0 where
   pub letters : String
   -- the words of the sample, each a string of letters; "" is the empty word
   pub sample : List String
-  -- the text of the model
+  -- whether a block has text
+  pub text : Bool
+  -- the model as it is printed
   pub model : String
 
+-- A line of a parent without text, and of one with text.
 abbrev pub line : String → List String → String → Line
-line letters sample model = record { letters = letters; sample = sample; model = model }
+line letters sample model = record { letters = letters; sample = sample; text = false; model = model }
+
+abbrev pub textLine : String → List String → String → Line
+textLine letters sample model = record { letters = letters; sample = sample; text = true; model = model }
 
 -- The marked lines, in the table's order. No letter occurs in the first: it has the name `a` since a book has a name.
 unfoldable pub lines : List Line
@@ -41,6 +48,17 @@ lines =
     ∷ line "abcde" ("abc" ∷ "ade" ∷ "abe" ∷ []) "(a,(b|d),(c|e))"
     ∷ []
 
+-- "Text and no children anywhere: `(#PCDATA)`. Text and children: `(#PCDATA|a|b)*`, with exactly the names that stand
+-- in its words, rising."
+unfoldable pub textLines : List Line
+textLines =
+    textLine "a" ("" ∷ []) "(#PCDATA)"
+    ∷ textLine "ab" ("" ∷ "" ∷ []) "(#PCDATA)"
+    ∷ textLine "ab" ("b" ∷ "ba" ∷ []) "(#PCDATA|a|b)*"
+    ∷ textLine "abc" ("" ∷ "bb" ∷ []) "(#PCDATA|b)*"
+    ∷ textLine "abcd" ("dca" ∷ "cd" ∷ []) "(#PCDATA|a|c|d)*"
+    ∷ []
+
 -- The names of a line as bytes.
 unfoldable pub lineNames : Line → List (List ℕ)
 lineNames l = map (λ letter. letter ∷ []) (bytes (l .letters))
@@ -54,9 +72,9 @@ letterNumber (letter ∷ letters) x = cond (eqb letter x) 0 (suc (letterNumber l
 unfoldable pub lineWords : Line → List (List ℕ)
 lineWords l = map (λ w. map (letterNumber (bytes (l .letters))) (bytes w)) (l .sample)
 
--- The model that paper 01's rules give to these words: a record of 64 places.
-unfoldable pub lineModel : Line → Chain
-lineModel l = chainOfWords places (length (lineNames l)) (lineWords l)
+-- The model that the papers' rules give to these words: a record of 64 places.
+unfoldable pub lineModel : Line → Model
+lineModel l = modelOfWords places (length (lineNames l)) (lineWords l) (l .text)
 
 -- The declaration of this model. A declaration names a parent and the table gives none: the first letter is taken.
 -- The model does not depend on the parent.

@@ -1,1 +1,1 @@
-// The marked samples of paper 01, as printed: no function.
+// The marked samples of paper 01, and samples with text, as printed: no function.

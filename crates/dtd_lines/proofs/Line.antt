@@ -11,15 +11,15 @@ use Rattle.book.specs.declared.Layout.{Layout}
 use Rattle.book.specs.Book.{namesIn}
 use Rattle.book.specs.Access.{LaidOut}
 use Rattle.book.proofs.Laws.{few-names}
-use Rattle.model.specs.declared.Chain.{Chain}
-use Rattle.model.specs.Record.{noFactor, IsChain}
+use Rattle.model.specs.declared.Model.{Model}
+use Rattle.model.specs.Record.{IsModel}
 use Rattle.follow.proofs.Laws.{over-in}
-use Rattle.follow_row.specs.Row.{OfWords}
-use Rattle.chain_levels.specs.Chain.{chainOf}
+use Rattle.follow_row.specs.Row.{textIn, OfWords}
 use Rattle.chain_levels.proofs.Tests.{both-ways}
-use Rattle.chain_minimal.proofs.Demand as Demand
-use Rattle.chain_sample.specs.Sample.{chainOfWords, showWord}
-use Rattle.chain_sample.proofs.Shown.{chain-is, shows-is}
+use Rattle.chain_mixed.specs.Mixed.{modelOf}
+use Rattle.chain_sample.specs.Sample.{showWord}
+use Rattle.chain_sample.proofs.Shown.{model-is, shows-is}
+use Rattle.chain_sample.proofs.Models.{words-model}
 use Rattle.declaration_spelling.specs.House.{declaration}
 use Rattle.declaration_spelling.specs.Length.{longestDeclaration}
 use Rattle.byte_buffer.specs.Put.{Put, shown}
@@ -29,31 +29,32 @@ use Rattle.dtd_lines.specs.Lines.{factLine, rowFacts, longestLine}
 
 module _ (s : List ℕ) (l : Layout) (laid : LaidOut s l) (p : ℕ) (below : p < l .names) (row : List ℕ) (kept : OfWords (l .names) row) where
   -- facts that show no word
-  no-line : showWord places (rowFacts (l .names) row) ≡ false → factLine (namesIn s) p (rowFacts (l .names) row) ≡ []
+  no-line : showWord places (rowFacts (l .names) row .follow) ≡ false → factLine (namesIn s) p (rowFacts (l .names) row) ≡ []
   unfolding factLine
   no-line e = rw e
 
-  pub nothing-put : showWord places (rowFacts (l .names) row) ≡ false → (d : List ℕ) (at : ℕ) → Put d at (factLine (namesIn s) p (rowFacts (l .names) row)) at d
+  pub nothing-put : showWord places (rowFacts (l .names) row .follow) ≡ false → (d : List ℕ) (at : ℕ) → Put d at (factLine (namesIn s) p (rowFacts (l .names) row)) at d
   nothing-put e d at = put-is d at [] (factLine (namesIn s) p (rowFacts (l .names) row)) at d (sym (no-line e)) (put-nothing d at)
 
   -- facts that show a word
-  module _ (some : showWord places (rowFacts (l .names) row) ≡ true) (m : Chain) (made : m ≡ chainOf places (rowFacts (l .names) row)) where
-    pub chain : IsChain places (l .names) m
-    unfolding rowFacts chainOfWords
-    chain =
+  module _ (some : showWord places (rowFacts (l .names) row .follow) ≡ true) (m : Model)
+      (made : m ≡ modelOf places (rowFacts (l .names) row .follow) (rowFacts (l .names) row .text)) where
+    pub model : IsModel places (l .names) m
+    unfolding rowFacts
+    model =
         let few = few-names s l laid in
         let words : ¬ (kept .words ≡ []) = λ e. both-ways _ some (shows-is (l .names) row few kept .1 e) in
-        subst (IsChain places (l .names)) (sym (made ∙ chain-is (l .names) row few kept))
-        (Demand.is-chain places (l .names) few (let h : places ≤ noFactor = omega arith in h) (kept .words) (over-in (l .names) (kept .words) (kept .over)) words)
+        subst (IsModel places (l .names)) (sym (made ∙ model-is (l .names) row few kept (textIn row)))
+        (words-model (l .names) few (kept .words) (over-in (l .names) (kept .words) (kept .over)) words (textIn row))
 
     line-is : factLine (namesIn s) p (rowFacts (l .names) row) ≡ declaration (namesIn s) p m ++ shown 10
     unfolding factLine shown
-    line-is = rw some (ap (λ (x : Chain). declaration (namesIn s) p x ++ (10 ∷ [])) (sym made))
+    line-is = rw some (ap (λ (x : Model). declaration (namesIn s) p x ++ (10 ∷ [])) (sym made))
 
     pub some-short : length (factLine (namesIn s) p (rowFacts (l .names) row)) ≤ longestLine
     unfolding shown
     some-short =
-        let h : length (declaration (namesIn s) p m) ≤ longestDeclaration = declaration-short s l laid p below m chain in
+        let h : length (declaration (namesIn s) p m) ≤ longestDeclaration = declaration-short s l laid p below m model in
         let k : length (declaration (namesIn s) p m ++ (10 ∷ [])) ≡ length (declaration (namesIn s) p m) + 1 = length-append (declaration (namesIn s) p m) (10 ∷ []) in
         omega (arith, ap length line-is)
 
@@ -75,8 +76,8 @@ module _ (s : List ℕ) (l : Layout) (laid : LaidOut s l) (p : ℕ) (below : p <
         line-put u f q = left-last d at _ e t (shown 10) f u filled q
 
   pub line-short : length (factLine (namesIn s) p (rowFacts (l .names) row)) ≤ longestLine
-  line-short = go (showWord places (rowFacts (l .names) row)) refl
+  line-short = go (showWord places (rowFacts (l .names) row .follow)) refl
     where
-      go : (b : Bool) → showWord places (rowFacts (l .names) row) ≡ b → length (factLine (namesIn s) p (rowFacts (l .names) row)) ≤ longestLine
-      go true e = some-short e (chainOf places (rowFacts (l .names) row)) refl
+      go : (b : Bool) → showWord places (rowFacts (l .names) row .follow) ≡ b → length (factLine (namesIn s) p (rowFacts (l .names) row)) ≤ longestLine
+      go true e = some-short e (modelOf places (rowFacts (l .names) row .follow) (rowFacts (l .names) row .text)) refl
       go false e = rw (no-line e) (omega arith)

@@ -11,14 +11,13 @@ use borrow.Author.Tests.{le-ltb}
 use Rattle.book.specs.declared.Layout.{Layout}
 use Rattle.book.specs.Book.{namesIn}
 use Rattle.book.specs.Access.{LaidOut}
-use Rattle.follow.specs.Follow.{Follow}
 use Rattle.follow_table.specs.Table.{rowOf}
 use Rattle.byte_buffer.specs.Put.{Put}
 use Rattle.byte_buffer.proofs.Puts.{Left, left-start, left-is, left-put, left-room, left-done}
-use Rattle.dtd_lines.specs.Lines.{factLine, factLines, rowFacts, tableFacts, TableOfWords, longestLine}
+use Rattle.dtd_lines.specs.Lines.{ParentFacts, factLine, factLines, rowFacts, tableFacts, TableOfWords, longestLine}
 use Rattle.dtd_lines.proofs.Line.{line-short}
 
-module _ (names : List (List ℕ)) (facts : ℕ → Follow) (n : ℕ) where
+module _ (names : List (List ℕ)) (facts : ℕ → ParentFacts) (n : ℕ) where
   -- the line of parent p, and the lines of the k parents from p on
   abbrev pub line : ℕ → List ℕ
   line p = factLine names p (facts p)

@@ -1,7 +1,7 @@
 // The lines of a DTD, from the names of a book and the facts of its parents.
 use book::Layout;
 use byte_buffer::put_some;
-use chain_sample::row_chain;
+use chain_sample::row_model;
 use chain_sample::shows_word;
 use declaration_text::put_declaration;
 use follow_table::row_of;
@@ -34,7 +34,7 @@ fn put_line(
     if !shows_word(row) {
         return at;
     }
-    let model = row_chain(row, layout.names);
+    let model = row_model(row, layout.names);
     let end = put_declaration(out, at, bytes, layout, parent, model);
     put_some(out, end, b'\n')
 }

@@ -56,10 +56,10 @@ names-below n (x ∷ w) e = (ltb-true x n (and-left (ltb x n) (allBelow n w) e),
 pub words-over : (n parent : ℕ) (bs : List Block) → BlocksBelow n bs → Over n (wordsOf parent bs)
 unfolding wordsOf
 words-over n parent [] h = tt
-words-over n parent (b ∷ bs) h = go (words-over n parent bs (h .2)) (eqb (b .parent) parent)
+words-over n parent (b ∷ bs) h = go (words-over n parent bs (h .3)) (eqb (b .parent) parent)
   where
     go : Over n (wordsOf parent bs) → (own : Bool) → Over n (cond own (b .word ∷ wordsOf parent bs) (wordsOf parent bs))
-    go rest true = (names-below n (b .word) (h .1), rest)
+    go rest true = (names-below n (b .word) (h .2), rest)
     go rest false = rest
 
 -- The sample of a parent of a book is a list of words over the book's names.

@@ -1,7 +1,8 @@
--- To be believed: paper 01, "A parent's sample is the words of all its blocks."
+-- To be believed: paper 01, "A parent's sample is the words of all its blocks."; paper 02, U5, "That a parent has text
+-- is a fact too". `text-law` in proofs/Text.antt says of `hasText` what it tests.
 -- Assumes nothing.
 use Prim.Native.Nat.{ℕ}
-use mathlib.Core.Bool.{cond}
+use mathlib.Core.Bool.{Bool, false, _&&_, _||_, cond}
 use mathlib.Core.List.{List, [], _∷_, List·Memᴰ}
 use mathlib.Core.Logic.{_↔_}
 use lib.Dec.{eqb}
@@ -12,6 +13,11 @@ use Rattle.model.specs.Accept.{Names}
 unfoldable pub wordsOf : ℕ → List Block → List (List ℕ)
 wordsOf parent [] = []
 wordsOf parent (b ∷ bs) = cond (eqb (b .parent) parent) (b .word ∷ wordsOf parent bs) (wordsOf parent bs)
+
+-- Some block of the parent has text.
+unfoldable pub hasText : ℕ → List Block → Bool
+hasText parent [] = false
+hasText parent (b ∷ bs) = (eqb (b .parent) parent && eqb (b .text) 1) || hasText parent bs
 
 -- Each of the words is a word over n names.
 abbrev pub Over : ℕ → List (List ℕ) → Type 0

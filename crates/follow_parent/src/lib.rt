@@ -1,6 +1,8 @@
-// A book read, and the follow facts of one parent gathered while it is read: the blocks are gone through once.
+// A book read, and the follow facts of one parent gathered while it is read, with whether it has text: the blocks are
+// gone through once.
 use book::HEAD_SIZE;
 use book::Reading;
+use book::TEXT_AT;
 use book_blocks::BlockStep;
 use book_blocks::BlocksEnd;
 use book_blocks::block_at;
@@ -23,7 +25,8 @@ ghost use Rattle.book_blocks.specs.Gathers.{Gathers, blocksFrom, GathersAll};
 ghost use Rattle.book_reading.specs.Opening.{blocksRead};
 ghost use Rattle.follow_row.specs.Row.{rowSize, RowKeeps};
 
-// The block at a place, checked; in the same step its word is added to the row, if the block is one of the parent's.
+// The block at a place, checked; in the same step its text byte and its word are added to the row, if the block is one
+// of the parent's.
 fn gather_block(bytes: &[u8], n: usize, at: usize, parent: usize, row: &mut [u64]) -> BlockStep
     requires { ⌜ (length (now bytes) ≤ longestBook) × (n ≤ places) × (length (now row) ≡ rowSize) ⌝ }
     ensures { λ r. ⌜ (r ≡ blockStep (blockOf n (drop at (now (bytes .entry)))))
@@ -35,8 +38,9 @@ fn gather_block(bytes: &[u8], n: usize, at: usize, parent: usize, row: &mut [u64
             if wide(bytes[at]) != parent {
                 return BlockStep::Block(size);
             }
+            let text = bytes[at + TEXT_AT];
             let from = at + HEAD_SIZE;
-            add_to_row(row, part(bytes, from, from + size));
+            add_to_row(row, text, part(bytes, from, from + size));
             BlockStep::Block(size)
         }
         BlockStep::Stopped(refusal) => BlockStep::Stopped(refusal),

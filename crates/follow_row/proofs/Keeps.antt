@@ -2,7 +2,7 @@
 -- Assumes nothing.
 use Prim.Native.Nat.{ℕ, _+_, _-_, _≤_}
 use mathlib.Core.Path.{_≡_, refl, sym, _∙_, ap}
-use mathlib.Core.Bool.{Bool, true, false, cond}
+use mathlib.Core.Bool.{Bool, true, false, _&&_, _||_, cond, or-false}
 use mathlib.Core.List.{List, [], _∷_, _++_}
 use native.Mathlib.Nat.{lt-of-lt-of-le}
 use lib.Dec.{eqb, ltb}
@@ -16,10 +16,11 @@ use Rattle.book.specs.Stops.{BlocksBelow}
 use Rattle.book_blocks.proofs.Steps.{BlockRead, part-read}
 use Rattle.model.proofs.Tests.{both, and-left, and-right}
 use Rattle.follow.specs.declared.Facts.{Facts}
-use Rattle.follow.specs.Sample.{wordsOf}
+use Rattle.follow.specs.Sample.{wordsOf, hasText}
 use Rattle.follow.specs.Adding.{noFacts, withWord, withWords, factsOf}
 use Rattle.follow.proofs.Laws.{words-over}
-use Rattle.follow_row.specs.Row.{rowSize, factsIn, RowKeeps, OfWords, RowAdded}
+use Rattle.follow.proofs.Text.{text-more}
+use Rattle.follow_row.specs.Row.{rowSize, factsIn, textIn, RowKeeps, OfWords, RowAdded}
 
 -- ---- the words of one block more
 
@@ -47,15 +48,21 @@ more-facts : (ws : List (List ℕ)) (w : List ℕ) → factsOf (ws ++ (w ∷ [])
 unfolding factsOf
 more-facts ws w = more-words noFacts ws w
 
+text-own : (p : ℕ) (bs : List Block) (b : Block) → eqb (b .parent) p ≡ true → hasText p (bs ++ (b ∷ [])) ≡ (hasText p bs || eqb (b .text) 1)
+text-own p bs b e = text-more p bs b ∙ ap (λ (own : Bool). hasText p bs || (own && eqb (b .text) 1)) e
+
+text-other : (p : ℕ) (bs : List Block) (b : Block) → eqb (b .parent) p ≡ false → hasText p (bs ++ (b ∷ [])) ≡ hasText p bs
+text-other p bs b e = text-more p bs b ∙ ap (λ (own : Bool). hasText p bs || (own && eqb (b .text) 1)) e ∙ or-false (hasText p bs)
+
 -- ---- what a row keeps
 
 pub row-none : (p n : ℕ) → n ≡ rowSize → RowKeeps p [] (replicate n 0)
-unfolding wordsOf factsOf withWords factsIn noFacts noRows rowAt
-row-none p n e = rw e (record { size = length-replicate {A = ℕ} rowSize 0; facts = refl })
+unfolding wordsOf hasText factsOf withWords factsIn textIn noFacts noRows rowAt
+row-none p n e = rw e (record { size = length-replicate {A = ℕ} rowSize 0; facts = refl; text = refl })
 
 module _ (p : ℕ) (bs : List Block) (b : Block) (u : List ℕ) (k : RowKeeps p bs u) where
   -- a block of the parent
-  pub row-own : (v : List ℕ) → b .parent ≡ p → RowAdded u (b .word) v → RowKeeps p (bs ++ (b ∷ [])) v
+  pub row-own : (v : List ℕ) → b .parent ≡ p → RowAdded u (b .text) (b .word) v → RowKeeps p (bs ++ (b ∷ [])) v
   row-own v e a =
       record {
         size = a .size;
@@ -63,11 +70,18 @@ module _ (p : ℕ) (bs : List Block) (b : Block) (u : List ℕ) (k : RowKeeps p 
             a .facts
             ∙ ap (λ (f : Facts). withWord f (b .word)) (k .facts)
             ∙ sym (ap factsOf (words-own p bs b (eq-eqb (b .parent) p e)) ∙ more-facts (wordsOf p bs) (b .word));
+        text = a .text ∙ ap (λ (x : Bool). x || eqb (b .text) 1) (k .text) ∙ sym (text-own p bs b (eq-eqb (b .parent) p e));
       }
 
   -- a block of another parent
   pub row-other : (b .parent ≡ p → ⊥) → RowKeeps p (bs ++ (b ∷ [])) u
-  row-other d = record { size = k .size; facts = k .facts ∙ sym (ap factsOf (words-other p bs b (ne-eqb (b .parent) p d))) }
+  row-other d =
+      let other = ne-eqb (b .parent) p d in
+      record {
+        size = k .size;
+        facts = k .facts ∙ sym (ap factsOf (words-other p bs b other));
+        text = k .text ∙ sym (text-other p bs b other);
+      }
 
 -- a word over n names is one over more of them
 all-below-more : (n m : ℕ) (w : List ℕ) → n ≤ m → allBelow n w ≡ true → allBelow m w ≡ true

@@ -20,11 +20,11 @@ keeps-none n e =
       rows = λ p h. subst (RowKeeps p []) (sym (row-zeros tableSize p (omega arith))) (row-none p rowSize (let q : rowSize ≡ rowSize = omega arith in q));
     })
 
-pub keeps-more : (bs : List Block) (b : Block) (t u : List ℕ) → Keeps bs t → Added t (b .parent) (b .word) u → Keeps (bs ++ (b ∷ [])) u
+pub keeps-more : (bs : List Block) (b : Block) (t u : List ℕ) → Keeps bs t → Added t (b .parent) (b .text) (b .word) u → Keeps (bs ++ (b ∷ [])) u
 keeps-more bs b t u k a = record { size = a .size; rows = λ p h. row p h (ℕ-discrete (b .parent) p) }
   where
     row : (p : ℕ) → p < tabled → Dec (b .parent ≡ p) → RowKeeps p (bs ++ (b ∷ [])) (rowOf u p)
     row p h (yes e) =
         row-own p bs b (rowOf t p) (k .rows p h) (rowOf u p) e
-        (subst (λ (q : ℕ). RowAdded (rowOf t q) (b .word) (rowOf u q)) e (a .own))
+        (subst (λ (q : ℕ). RowAdded (rowOf t q) (b .text) (b .word) (rowOf u q)) e (a .own))
     row p h (no d) = subst (RowKeeps p (bs ++ (b ∷ []))) (sym (a .others p h (λ e. d (sym e)))) (row-other p bs b (rowOf t p) (k .rows p h) d)

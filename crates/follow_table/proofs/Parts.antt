@@ -89,15 +89,15 @@ module _ (t : List ℕ) (q : ℕ) (size : length t ≡ tableSize) (below : q < t
         let h : length (drop (q * rowSize) t) ≡ length t - q * rowSize = length-drop (q * rowSize) t in
         omega (arith, before)
 
--- a row to which a word was added, put back: the table with the word added
-pub word-put : (t w r : List ℕ) (q : ℕ) → length t ≡ tableSize → q < tabled →
-    RowAdded (take (q * rowSize + rowSize - q * rowSize) (drop (q * rowSize) t)) w r →
-    Added t q w (take (q * rowSize) t ++ (r ++ drop (q * rowSize + rowSize - q * rowSize) (drop (q * rowSize) t)))
+-- a row to which a block was added, put back: the table with the block added
+pub block-put : (t w r : List ℕ) (q m : ℕ) → length t ≡ tableSize → q < tabled →
+    RowAdded (take (q * rowSize + rowSize - q * rowSize) (drop (q * rowSize) t)) m w r →
+    Added t q m w (take (q * rowSize) t ++ (r ++ drop (q * rowSize + rowSize - q * rowSize) (drop (q * rowSize) t)))
 unfolding withRow
-word-put t w r q size below part =
+block-put t w r q m size below part =
     let k : q * rowSize + rowSize - q * rowSize ≡ rowSize = omega arith in
-    let added : RowAdded (rowOf t q) w r = subst (λ (u : List ℕ). RowAdded u w r) (part-is t q) part in
-    let put : Added t q w (withRow t q r) =
+    let added : RowAdded (rowOf t q) m w r = subst (λ (u : List ℕ). RowAdded u m w r) (part-is t q) part in
+    let put : Added t q m w (withRow t q r) =
     record {
       size = put-size t q size below r (added .size);
       own = rw (put-own t q size below r (added .size)) added;

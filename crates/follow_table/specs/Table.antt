@@ -22,13 +22,15 @@ tableSize = tabled * rowSize
 unfoldable pub rowOf : List ℕ → ℕ → List ℕ
 rowOf table p = take rowSize (drop (p * rowSize) table)
 
--- The table keeps what the blocks bs show of every parent: the facts of its words, and nothing else.
+-- The table keeps what the blocks bs show of every parent: the facts of its words, whether it has text, and nothing
+-- else.
 pub record Keeps (bs : List Block) (table : List ℕ) : Type 0 where
   pub size : length table ≡ tableSize
   pub rows : (p : ℕ) → p < tabled → RowKeeps p bs (rowOf table p)
 
--- The table v is the table u with a word of a parent added: the rows of the others stay as they are.
-pub record Added (u : List ℕ) (parent : ℕ) (w v : List ℕ) : Type 0 where
+-- The table v is the table u with a block of a parent added, of text byte t and word w: the rows of the others stay as
+-- they are.
+pub record Added (u : List ℕ) (parent t : ℕ) (w v : List ℕ) : Type 0 where
   pub size : length v ≡ tableSize
-  pub own : RowAdded (rowOf u parent) w (rowOf v parent)
+  pub own : RowAdded (rowOf u parent) t w (rowOf v parent)
   pub others : (p : ℕ) → p < tabled → (p ≡ parent → ⊥) → rowOf v p ≡ rowOf u p

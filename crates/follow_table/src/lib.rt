@@ -1,6 +1,8 @@
-// A book read, and the follow facts of all its parents gathered while it is read: the blocks are gone through once.
+// A book read, and the follow facts of all its parents gathered while it is read, with whether each has text: the
+// blocks are gone through once.
 use book::HEAD_SIZE;
 use book::Reading;
+use book::TEXT_AT;
 use book_blocks::BlockStep;
 use book_blocks::BlocksEnd;
 use book_blocks::block_at;
@@ -42,18 +44,18 @@ pub fn row_of(table: &[u64], parent: usize) -> &[u64]
     &table[from..to]
 }
 
-// Adds a block's word to the row of its parent.
-fn add_to_table(table: &mut [u64], parent: usize, word: &[u8])
+// Adds a block's text byte and word to the row of its parent.
+fn add_to_table(table: &mut [u64], parent: usize, text: u8, word: &[u8])
     requires { ⌜ (length (now table) ≡ tableSize) × (parent < tabled) × (allBelow places (now word) ≡ true) ⌝ }
-    ensures { λ _. ⌜ Added (now (table .entry)) parent (now (word .entry)) (now (table .exit)) ⌝ }
+    ensures { λ _. ⌜ Added (now (table .entry)) parent text (now (word .entry)) (now (table .exit)) ⌝ }
 {
     let from = parent * ROW;
     let to = from + ROW;
-    add_to_row(&mut table[from..to], word);
+    add_to_row(&mut table[from..to], text, word);
 }
 
-// The block at a place, checked; in the same step its word is added to the facts of its parent. A table that kept the
-// blocks before it then keeps this one too.
+// The block at a place, checked; in the same step its text byte and its word are added to the row of its parent. A
+// table that kept the blocks before it then keeps this one too.
 pub fn gather_block(bytes: &[u8], n: usize, at: usize, table: &mut [u64]) -> BlockStep
     requires { ⌜ (length (now bytes) ≤ longestBook) × (n ≤ tabled) × (length (now table) ≡ tableSize) ⌝ }
     ensures { λ r. ⌜ (r ≡ blockStep (blockOf n (drop at (now (bytes .entry)))))
@@ -63,8 +65,9 @@ pub fn gather_block(bytes: &[u8], n: usize, at: usize, table: &mut [u64]) -> Blo
     match block_at(bytes, n, at) {
         BlockStep::Block(size) => {
             let parent = wide(bytes[at]);
+            let text = bytes[at + TEXT_AT];
             let from = at + HEAD_SIZE;
-            add_to_table(table, parent, part(bytes, from, from + size));
+            add_to_table(table, parent, text, part(bytes, from, from + size));
             BlockStep::Block(size)
         }
         BlockStep::Stopped(refusal) => BlockStep::Stopped(refusal),

@@ -9,16 +9,16 @@ use native.Mathlib.Omega.{arith}
 use lib.ListN.{length}
 use Rattle.nameset.specs.Places.{places}
 use Rattle.book.specs.Book.{Book, IsBook}
-use Rattle.follow.specs.Follow.{Follow, followOf}
+use Rattle.follow.specs.Follow.{followOf}
 use Rattle.follow.specs.Sample.{Over}
-use Rattle.chain_levels.specs.Chain.{chainOf}
-use Rattle.chain_sample.specs.Sample.{chainOfWords, showWord}
+use Rattle.chain_mixed.specs.Mixed.{modelOf}
+use Rattle.chain_sample.specs.Sample.{modelOfWords, showWord}
 use Rattle.chain_sample.proofs.Shown.{words-show}
 use Rattle.declaration_spelling.specs.House.{declaration}
-use Rattle.intake_sample.specs.Inference.{sampleOf, noWord, chainIn}
+use Rattle.intake_sample.specs.Inference.{sampleOf, textOf, noWord, parentModel}
 use Rattle.intake_sample.proofs.Samples.{no-word, some-word, few, sample-words}
-use Rattle.dtd_lines.specs.Lines.{factLine, factLines}
-use Rattle.intake_dtd.specs.Dtd.{lineOf, linesFrom, dtdOf}
+use Rattle.dtd_lines.specs.Lines.{ParentFacts, factLine, factLines}
+use Rattle.intake_dtd.specs.Dtd.{lineOf, linesFrom, dtdOf, factsOf}
 
 -- The facts of a sample show a word exactly where it has one.
 shown-word : (n : ℕ) (ws : List (List ℕ)) → n ≤ places → Over n ws → showWord places (followOf n ws) ≡ not (noWord ws)
@@ -34,13 +34,13 @@ or-nothing : (a : Bool) (text : List ℕ) → cond (not a) text [] ≡ cond a []
 or-nothing true text = refl
 or-nothing false text = refl
 
-module _ (b : Book) (small : length (b .names) ≤ places) (facts : ℕ → Follow) where
+module _ (b : Book) (small : length (b .names) ≤ places) (facts : ℕ → ParentFacts) where
   -- one parent
-  pub line-by-facts : (p : ℕ) → Over (length (b .names)) (sampleOf b p) → facts p ≡ followOf (length (b .names)) (sampleOf b p) → factLine (b .names) p (facts p) ≡ lineOf b p
-  unfolding factLine lineOf chainIn chainOfWords
+  pub line-by-facts : (p : ℕ) → Over (length (b .names)) (sampleOf b p) → facts p ≡ factsOf b p → factLine (b .names) p (facts p) ≡ lineOf b p
+  unfolding factLine lineOf parentModel modelOfWords factsOf
   line-by-facts p over e =
       ap (factLine (b .names) p) e
-      ∙ ap (λ (x : Bool). cond x (declaration (b .names) p (chainOf places (followOf (length (b .names)) (sampleOf b p))) ++ (10 ∷ [])) []) (shown-word (length (b .names)) (sampleOf b p) small over)
+      ∙ ap (λ (x : Bool). cond x (declaration (b .names) p (modelOf places (followOf (length (b .names)) (sampleOf b p)) (textOf b p)) ++ (10 ∷ [])) []) (shown-word (length (b .names)) (sampleOf b p) small over)
       ∙ or-nothing (noWord (sampleOf b p)) _
 
   -- the k parents from p on
@@ -49,13 +49,13 @@ module _ (b : Book) (small : length (b .names) ≤ places) (facts : ℕ → Foll
   lines-from zero p h line = refl
   lines-from (suc k) p h line = ap₂ _++_ (line p (omega arith)) (lines-from k (suc p) (omega arith) line)
 
-  -- All lines: whatever else the book has, its names and the facts of each parent's words give them.
-  pub lines-by-facts : ((p : ℕ) → p < length (b .names) → Over (length (b .names)) (sampleOf b p)) → ((p : ℕ) → p < length (b .names) → facts p ≡ followOf (length (b .names)) (sampleOf b p)) →
+  -- All lines: whatever else the book has, its names and the facts of each parent give them.
+  pub lines-by-facts : ((p : ℕ) → p < length (b .names) → Over (length (b .names)) (sampleOf b p)) → ((p : ℕ) → p < length (b .names) → facts p ≡ factsOf b p) →
       factLines (b .names) facts 0 (length (b .names)) ≡ dtdOf b
   unfolding dtdOf
   lines-by-facts over e = lines-from (length (b .names)) 0 (omega arith) (λ p h. line-by-facts p (over p h) (e p h))
 
--- So the DTD of a book that is taken is that of its names and the facts of its samples.
-pub dtd-by-facts : (s : List ℕ) (b : Book) → IsBook s b → dtdOf b ≡ factLines (b .names) (λ p. followOf (length (b .names)) (sampleOf b p)) 0 (length (b .names))
+-- So the DTD of a book that is taken is that of its names and the facts of its parents.
+pub dtd-by-facts : (s : List ℕ) (b : Book) → IsBook s b → dtdOf b ≡ factLines (b .names) (factsOf b) 0 (length (b .names))
 dtd-by-facts s b read =
-    sym (lines-by-facts b (few s b read) (λ p. followOf (length (b .names)) (sampleOf b p)) (λ p h. sample-words s b read p) (λ p h. refl))
+    sym (lines-by-facts b (few s b read) (factsOf b) (λ p h. sample-words s b read p) (λ p h. refl))

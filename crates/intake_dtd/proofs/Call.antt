@@ -1,7 +1,7 @@
 -- The answer of each way through the call that writes the whole DTD.
 -- Assumes nothing.
 use Prim.Native.Nat.{ℕ, _≤_, _<_}
-use mathlib.Core.Path.{_≡_, sym, _∙_, ap, subst}
+use mathlib.Core.Path.{_≡_, sym, _∙_, ap, ap₂, subst}
 use mathlib.Core.Bool.{true, false}
 use mathlib.Core.List.{List}
 use native.Mathlib.Omega.{arith}
@@ -22,19 +22,19 @@ use Rattle.book.proofs.Laws.{few-names}
 use Rattle.book.proofs.Taken as Taken
 use Rattle.book_reading.specs.Opening.{blocksRead}
 use Rattle.follow.specs.Follow.{followOf}
-use Rattle.follow.specs.Sample.{wordsOf, Over}
+use Rattle.follow.specs.Sample.{wordsOf, hasText, Over}
 use Rattle.follow.specs.View.{viewOf}
-use Rattle.follow_row.specs.Row.{factsIn, OfWords}
+use Rattle.follow_row.specs.Row.{factsIn, textIn, OfWords}
 use Rattle.follow_table.specs.Table.{rowOf, Keeps}
 use Rattle.chain_sample.proofs.Shown.{view-is}
 use Rattle.declaration_writing.specs.declared.Written.{Written}
 use Rattle.declaration_writing.specs.Write.{fitted, written, bufferAfter, Writes}
 use Rattle.declaration_writing.proofs.Calls.{stopped}
 use Rattle.byte_buffer.specs.Put.{Put}
-use Rattle.intake_sample.specs.Inference.{sampleOf}
+use Rattle.intake_sample.specs.Inference.{sampleOf, textOf}
 use Rattle.intake_sample.proofs.Samples as Sample
-use Rattle.dtd_lines.specs.Lines.{factLines, rowFacts, tableFacts, TableOfWords}
-use Rattle.intake_dtd.specs.Dtd.{dtdOf, dtdAnswer}
+use Rattle.dtd_lines.specs.Lines.{parentFacts, factLines, rowFacts, tableFacts, TableOfWords}
+use Rattle.intake_dtd.specs.Dtd.{dtdOf, factsOf, dtdAnswer}
 use Rattle.intake_dtd.proofs.Agree.{lines-by-facts}
 
 module _ (s : List ℕ) (r : Reading) (read : r ≡ readingOf (takenBook s)) (d : List ℕ) where
@@ -72,9 +72,17 @@ module _ (s : List ℕ) (r : Reading) (read : r ≡ readingOf (takenBook s)) (d 
       unfolding sampleOf of-words row-kept
       over = subst (λ (n : ℕ). Over n (wordsOf p (book .blocks))) count (row-kept .over)
 
-      facts-are : tableFacts (length (book .names)) table p ≡ followOf (length (book .names)) (sampleOf book p)
-      unfolding tableFacts rowFacts sampleOf of-words row-kept
-      facts-are = subst (λ (n : ℕ). viewOf n (factsIn (rowOf table p)) ≡ followOf n (wordsOf p (book .blocks))) count (view-is (r .layout .names) (rowOf table p) few row-kept)
+      follow-is : viewOf (length (book .names)) (factsIn (rowOf table p)) ≡ followOf (length (book .names)) (sampleOf book p)
+      unfolding sampleOf of-words row-kept
+      follow-is = subst (λ (n : ℕ). viewOf n (factsIn (rowOf table p)) ≡ followOf n (wordsOf p (book .blocks))) count (view-is (r .layout .names) (rowOf table p) few row-kept)
+
+      text-is : textIn (rowOf table p) ≡ textOf book p
+      unfolding textOf
+      text-is = let h : p < places = omega (arith, count, few) in kept .rows p h .text ∙ ap (hasText p) (Sample.blocks-are s r read done p (rowOf table p) (kept .rows p h))
+
+      facts-are : tableFacts (length (book .names)) table p ≡ factsOf book p
+      unfolding tableFacts rowFacts factsOf
+      facts-are = ap₂ parentFacts follow-is text-is
 
     -- so its lines are those of the book
     lines-are : lines ≡ dtdOf book

@@ -17,52 +17,46 @@ use Rattle.book.specs.Access.{LaidOut}
 use Rattle.book.specs.Taken.{takenBook, TakenAs}
 use Rattle.book.proofs.Taken.{taken-law}
 use Rattle.book.proofs.Laws.{names-in}
-use Rattle.follow.specs.Follow.{Follow, followOf}
 use Rattle.declaration_spelling.specs.House.{declaration}
 use Rattle.declaration_spelling.specs.Length.{longestDeclaration}
 use Rattle.declaration_text.proofs.Whole.{declaration-short}
 use Rattle.declaration_writing.specs.Write.{fitted}
-use Rattle.intake_sample.specs.Inference.{sampleOf, noWord, chainIn}
-use Rattle.intake_sample.proofs.Samples.{some-word, few, sample-words, sample-chain}
+use Rattle.intake_sample.specs.Inference.{sampleOf, noWord, parentModel}
+use Rattle.intake_sample.proofs.Samples.{some-word, few, sample-words, sample-model}
 use Rattle.dtd_lines.specs.Lines.{factLine, longestLine}
 use Rattle.dtd_lines.proofs.Lines.{lines-bound}
-use Rattle.intake_dtd.specs.Dtd.{lineOf, dtdOf, dtdAnswer, longestDtd}
+use Rattle.intake_dtd.specs.Dtd.{lineOf, dtdOf, factsOf, dtdAnswer, longestDtd}
 use Rattle.intake_dtd.proofs.Agree.{line-by-facts, dtd-by-facts}
 
 module _ (s : List ℕ) (b : Book) (taken : TakenAs s b) where
   laid : LaidOut s (layoutOf b)
   laid = record { book = b; read = taken-law s b .0 taken; same = refl }
 
-  text-short : (p : ℕ) → p < length (b .names) → ¬ (sampleOf b p ≡ []) → length (declaration (b .names) p (chainIn b p)) ≤ longestDeclaration
+  text-short : (p : ℕ) → p < length (b .names) → ¬ (sampleOf b p ≡ []) → length (declaration (b .names) p (parentModel b p)) ≤ longestDeclaration
   unfolding layoutOf laid
   text-short p below some =
-      subst (λ (names : List (List ℕ)). length (declaration names p (chainIn b p)) ≤ longestDeclaration) (names-in s (layoutOf b) laid)
-      (declaration-short s (layoutOf b) laid p below (chainIn b p) (sample-chain s b (taken-law s b .0 taken) p some))
+      subst (λ (names : List (List ℕ)). length (declaration names p (parentModel b p)) ≤ longestDeclaration) (names-in s (layoutOf b) laid)
+      (declaration-short s (layoutOf b) laid p below (parentModel b p) (sample-model s b (taken-law s b .0 taken) p some))
 
   line-short : (p : ℕ) → p < length (b .names) → length (lineOf b p) ≤ longestLine
   unfolding lineOf
   line-short p below = go (noWord (sampleOf b p)) refl
     where
-      go : (none : Bool) → noWord (sampleOf b p) ≡ none → length (cond none [] (declaration (b .names) p (chainIn b p) ++ (10 ∷ []))) ≤ longestLine
+      go : (none : Bool) → noWord (sampleOf b p) ≡ none → length (cond none [] (declaration (b .names) p (parentModel b p) ++ (10 ∷ []))) ≤ longestLine
       go true e = omega arith
       go false e =
-          let h : length (declaration (b .names) p (chainIn b p)) ≤ longestDeclaration = text-short p below (some-word (sampleOf b p) .0 e) in
-          let k : length (declaration (b .names) p (chainIn b p) ++ (10 ∷ [])) ≡ length (declaration (b .names) p (chainIn b p)) + 1 = length-append (declaration (b .names) p (chainIn b p)) (10 ∷ []) in
+          let h : length (declaration (b .names) p (parentModel b p)) ≤ longestDeclaration = text-short p below (some-word (sampleOf b p) .0 e) in
+          let k : length (declaration (b .names) p (parentModel b p) ++ (10 ∷ [])) ≡ length (declaration (b .names) p (parentModel b p)) + 1 = length-append (declaration (b .names) p (parentModel b p)) (10 ∷ []) in
           omega arith
-
-  -- all lines, by the facts of the samples
-  facts : ℕ → Follow
-  facts p = followOf (length (b .names)) (sampleOf b p)
 
   read : IsBook s b
   read = taken-law s b .0 taken
 
   pub dtd-short : length (dtdOf b) ≤ longestDtd
-  unfolding facts
   dtd-short =
       let n : length (b .names) ≤ places = few s b read in
-      let line : (p : ℕ) → p < length (b .names) → length (factLine (b .names) p (facts p)) ≤ longestLine = λ p below. subst (λ (text : List ℕ). length text ≤ longestLine) (sym (line-by-facts b n facts p (sample-words s b read p) refl)) (line-short p below) in
-      let h = lines-bound (b .names) facts (length (b .names)) line (length (b .names)) 0 (omega arith) in
+      let line : (p : ℕ) → p < length (b .names) → length (factLine (b .names) p (factsOf b p)) ≤ longestLine = λ p below. subst (λ (text : List ℕ). length text ≤ longestLine) (sym (line-by-facts b n (factsOf b) p (sample-words s b read p) refl)) (line-short p below) in
+      let h = lines-bound (b .names) (factsOf b) (length (b .names)) line (length (b .names)) 0 (omega arith) in
       omega (arith, h, ap length (dtd-by-facts s b read))
 
 -- so with such a buffer the answer is the book's DTD, or the book's refusal

@@ -12,11 +12,13 @@ use Rattle.book.specs.Taken.{takenBook}
 use Rattle.declaration_spelling.specs.House.{declaration}
 use Rattle.declaration_writing.specs.declared.Written.{Written}
 use Rattle.declaration_writing.specs.Write.{fitted, Writes}
-use Rattle.intake_sample.specs.Inference.{sampleOf, noWord, chainIn}
+use Rattle.follow.specs.Follow.{followOf}
+use Rattle.intake_sample.specs.Inference.{sampleOf, textOf, noWord, parentModel}
+use Rattle.dtd_lines.specs.Lines.{ParentFacts, parentFacts}
 
 -- A parent's declaration and a line feed; nothing for a parent without a block.
 unfoldable pub lineOf : Book → ℕ → List ℕ
-lineOf b parent = cond (noWord (sampleOf b parent)) [] (declaration (b .names) parent (chainIn b parent) ++ (10 ∷ []))
+lineOf b parent = cond (noWord (sampleOf b parent)) [] (declaration (b .names) parent (parentModel b parent) ++ (10 ∷ []))
 
 -- The lines of the k parents from p on, "in rising number".
 unfoldable pub linesFrom : Book → ℕ → ℕ → List ℕ
@@ -27,7 +29,11 @@ linesFrom b p (suc k) = lineOf b p ++ linesFrom b (suc p) k
 unfoldable pub dtdOf : Book → List ℕ
 dtdOf b = linesFrom b 0 (length (b .names))
 
--- The text that is due for any bytes as the book and a buffer of so many bytes: 1 to 7, then 12, else all lines.
+-- The facts of a parent of the book: those of its words, and whether it has text.
+unfoldable pub factsOf : Book → ℕ → ParentFacts
+factsOf b parent = parentFacts (followOf (length (b .names)) (sampleOf b parent)) (textOf b parent)
+
+-- The text that is due for any bytes as the book and a buffer of so many bytes: 1 to 7, 16, then 12, else all lines.
 unfoldable pub dtdAnswer : List ℕ → ℕ → Answer (List ℕ)
 dtdAnswer bytes room = onward (takenBook bytes) (λ b. fitted room (dtdOf b))
 

@@ -14,18 +14,18 @@ use Rattle.book.specs.Layout.{readingOf}
 use Rattle.book.specs.Taken.{takenBook}
 use Rattle.book.proofs.Taken as Taken
 use Rattle.book_reading.specs.Opening.{blocksRead}
-use Rattle.model.specs.declared.Chain.{Chain}
+use Rattle.model.specs.declared.Model.{Model}
 use Rattle.follow.specs.View.{viewOf}
-use Rattle.follow_row.specs.Row.{factsIn, RowKeeps}
-use Rattle.chain_levels.specs.Chain.{chainOf}
+use Rattle.follow_row.specs.Row.{factsIn, textIn, RowKeeps}
+use Rattle.chain_mixed.specs.Mixed.{modelOf}
 use Rattle.chain_sample.specs.Sample.{showWord}
 use Rattle.intake_sample.specs.declared.InferredIn.{InferredIn}
 use Rattle.intake_sample.specs.Inference.{modelIn, modelAnswer, inferred, inferredIn}
-use Rattle.intake_sample.proofs.Samples.{none-shown, some-shown, chain-shown}
+use Rattle.intake_sample.proofs.Samples.{none-shown, some-shown, model-shown}
 
 module _ (s : List ℕ) (p : ℕ) (r : Reading) (read : r ≡ readingOf (takenBook s)) where
   -- the answer a, with the layout that was read
-  ends : (x : InferredIn) (a : Answer Chain) → x ≡ inferredIn r a → modelAnswer s p ≡ a → x ≡ inferredIn (readingOf (takenBook s)) (modelAnswer s p)
+  ends : (x : InferredIn) (a : Answer Model) → x ≡ inferredIn r a → modelAnswer s p ≡ a → x ≡ inferredIn (readingOf (takenBook s)) (modelAnswer s p)
   ends x a e q = e ∙ (λ i. inferredIn (read i) (sym q i))
 
   pub stopped-book : (x : InferredIn) (f : Refusal) → r .outcome ≡ Refused f → x ≡ inferredIn r (refused f) → x ≡ inferredIn (readingOf (takenBook s)) (modelAnswer s p)
@@ -44,15 +44,15 @@ module _ (s : List ℕ) (p : ℕ) (r : Reading) (read : r ≡ readingOf (takenBo
       stopped-none x z e =
           ends x (refused NoBlock) e (rw (Taken.taken s r read done, Taken.parent-passed s r read done p below, none-shown s r read done p row kept z))
 
-      pub model-made : (m : Chain) → showWord places (viewOf (r .layout .names) (factsIn row)) ≡ true → m ≡ chainOf places (viewOf (r .layout .names) (factsIn row)) →
+      pub model-made : (m : Model) → showWord places (viewOf (r .layout .names) (factsIn row)) ≡ true → m ≡ modelOf places (viewOf (r .layout .names) (factsIn row)) (textIn row) →
           record { outcome = Done; layout = r .layout; model = m } ≡ inferredIn (readingOf (takenBook s)) (modelAnswer s p)
       unfolding modelAnswer modelIn inferredIn
       model-made m z e =
           ends _ (given m) refl
-          (rw (Taken.taken s r read done, Taken.parent-passed s r read done p below, some-shown s r read done p row kept z) (ap given (sym (e ∙ chain-shown s r read done p row kept))))
+          (rw (Taken.taken s r read done, Taken.parent-passed s r read done p below, some-shown s r read done p row kept z) (ap given (sym (e ∙ model-shown s r read done p row kept))))
 
 -- ---- the layout left out
 
-pub without-layout : (x : InferredIn) (r : Reading) (a : Answer Chain) → x ≡ inferredIn r a → record { outcome = x .outcome; model = x .model } ≡ inferred a
+pub without-layout : (x : InferredIn) (r : Reading) (a : Answer Model) → x ≡ inferredIn r a → record { outcome = x .outcome; model = x .model } ≡ inferred a
 unfolding inferred inferredIn
 without-layout x r a e = ap (λ (y : InferredIn). record { outcome = y .outcome; model = y .model }) e

@@ -1,7 +1,7 @@
 -- The sample of a parent of a book that is not refused: what the theorem of demand 3 asks of it, and the call's answer.
 -- Assumes nothing.
 use Prim.Native.Nat.{ℕ, _≤_, _<_}
-use mathlib.Core.Path.{_≡_, refl, sym, _∙_, ap, subst}
+use mathlib.Core.Path.{_≡_, refl, sym, _∙_, ap, ap₂, subst}
 use mathlib.Core.Bool.{Bool, true, false, cond, false≢true}
 use mathlib.Core.List.{List, [], _∷_, List·Memᴰ}
 use mathlib.Core.Logic.{_↔_}
@@ -23,25 +23,25 @@ use Rattle.book.proofs.Taken as Taken
 use Rattle.book.proofs.Laws.{few-names, blocks-in, blocks-within}
 use Rattle.book_reading.specs.Opening.{blocksRead}
 use Rattle.book_reading.proofs.Closing.{taken-blocks}
-use Rattle.model.specs.Record.{noFactor, IsChain}
+use Rattle.model.specs.Record.{IsModel}
 use Rattle.model.specs.Accept.{Names}
-use Rattle.follow.specs.Sample.{wordsOf, Over}
+use Rattle.follow.specs.Sample.{wordsOf, hasText, Over}
 use Rattle.follow.proofs.Laws.{over-in, sample-over}
 use Rattle.follow.specs.View.{viewOf}
-use Rattle.follow_row.specs.Row.{factsIn, RowKeeps, OfWords}
+use Rattle.follow_row.specs.Row.{factsIn, textIn, RowKeeps, OfWords}
 use Rattle.follow_row.proofs.Keeps.{row-of-words}
-use Rattle.chain_levels.specs.Chain.{chainOf}
+use Rattle.chain_mixed.specs.Mixed.{modelOf}
 use Rattle.chain_levels.proofs.Tests.{both-ways}
-use Rattle.chain_minimal.proofs.Demand as Demand
-use Rattle.chain_sample.specs.Sample.{chainOfWords, showWord}
-use Rattle.chain_sample.proofs.Shown.{chain-is, shows-is}
-use Rattle.intake_sample.specs.Inference.{sampleOf, noWord, chainIn, modelIn, modelAnswer}
+use Rattle.chain_sample.specs.Sample.{modelOfWords, showWord}
+use Rattle.chain_sample.proofs.Shown.{model-is, shows-is}
+use Rattle.chain_sample.proofs.Models.{words-model}
+use Rattle.intake_sample.specs.Inference.{sampleOf, textOf, noWord, parentModel, modelIn, modelAnswer}
 
 -- a parent with a block is below n where every block's parent is
 parent-below : (n p : ℕ) (bs : List Block) → BlocksBelow n bs → ¬ (wordsOf p bs ≡ []) → p < n
 unfolding wordsOf
 parent-below n p [] h d = absurd (d refl)
-parent-below n p (b ∷ bs) h d = go (eqb (b .parent) p) refl (parent-below n p bs (h .2)) d
+parent-below n p (b ∷ bs) h d = go (eqb (b .parent) p) refl (parent-below n p bs (h .3)) d
   where
     go : (own : Bool) → eqb (b .parent) p ≡ own → (¬ (wordsOf p bs ≡ []) → p < n) → ¬ (cond own (b .word ∷ wordsOf p bs) (wordsOf p bs) ≡ []) → p < n
     go true e ih d = subst (λ (x : ℕ). x < n) (eqb-true (b .parent) p e) (h .0)
@@ -82,13 +82,13 @@ module _ (bytes : List ℕ) (book : Book) (read : IsBook bytes book) where
           parent-below (length (book .names)) parent (book .blocks)
           (subst (BlocksBelow (length (book .names))) (blocks-in bytes (layoutOf book) laid) (blocks-within bytes (layoutOf book) laid)) block
 
-      -- and its chain is one over them
-      pub sample-chain : IsChain places (length (book .names)) (chainIn book parent)
-      unfolding chainIn chainOfWords
-      sample-chain = Demand.is-chain places (length (book .names)) few (let h : places ≤ noFactor = omega arith in h) (sampleOf book parent) sample-names block
+      -- and its model is one over them
+      pub sample-model : IsModel places (length (book .names)) (parentModel book parent)
+      unfolding parentModel
+      sample-model = words-model (length (book .names)) few (sampleOf book parent) sample-names block (textOf book parent)
 
 -- the answer of the call for a book that is taken
-pub answer-given : (bytes : List ℕ) (book : Book) → TakenAs bytes book → (parent : ℕ) → ¬ (sampleOf book parent ≡ []) → modelAnswer bytes parent ≡ given (chainIn book parent)
+pub answer-given : (bytes : List ℕ) (book : Book) → TakenAs bytes book → (parent : ℕ) → ¬ (sampleOf book parent ≡ []) → modelAnswer bytes parent ≡ given (parentModel book parent)
 unfolding modelAnswer modelIn
 answer-given bytes book taken parent block =
     rw (taken, good-parent book parent .1 (has-block bytes book (taken-law bytes book .0 taken) parent block), some-word (sampleOf book parent) .1 block)
@@ -121,9 +121,9 @@ module _ (s : List ℕ) (r : Reading) (read : r ≡ readingOf (takenBook s)) (do
   unfolding sampleOf
   some-shown e = some-word (wordsOf p (book .blocks)) .1 (λ z. both-ways _ e (shows-is (r .layout .names) row few-taken row-kept .1 z))
 
-  -- and give its chain.
-  pub chain-shown : chainOf places (viewOf (r .layout .names) (factsIn row)) ≡ chainIn book p
-  unfolding chainIn sampleOf
-  chain-shown =
-      chain-is (r .layout .names) row few-taken row-kept
-      ∙ ap (λ (n : ℕ). chainOfWords places n (wordsOf p (book .blocks))) (Taken.names-are s r read done)
+  -- and with the mark for text they give its model.
+  pub model-shown : modelOf places (viewOf (r .layout .names) (factsIn row)) (textIn row) ≡ parentModel book p
+  unfolding parentModel sampleOf textOf
+  model-shown =
+      model-is (r .layout .names) row few-taken row-kept (textIn row)
+      ∙ ap₂ (λ (n : ℕ) (b : Bool). modelOfWords places n (wordsOf p (book .blocks)) b) (Taken.names-are s r read done) (kept .text ∙ ap (hasText p) blocks-are)

@@ -17,27 +17,27 @@ use Rattle.book.specs.Access.{LaidOut}
 use Rattle.book.specs.Taken.{takenBook, TakenAs, badParent}
 use Rattle.book.proofs.Taken.{taken-law, good-parent}
 use Rattle.book.proofs.Laws.{names-in}
-use Rattle.model.specs.declared.Chain.{Chain}
-use Rattle.model.specs.Record.{IsChain, dueModel}
+use Rattle.model.specs.declared.Model.{Model}
+use Rattle.model.specs.Record.{IsModel, dueModel}
 use Rattle.declaration_spelling.specs.House.{declaration}
 use Rattle.declaration_writing.specs.declared.Written.{Written}
 use Rattle.declaration_writing.specs.Write.{fitted, written, Writes}
 use Rattle.declaration_writing.proofs.Calls.{stopped}
 use Rattle.intake_sample.specs.declared.InferredIn.{InferredIn}
-use Rattle.intake_sample.specs.Inference.{sampleOf, noWord, chainIn, modelIn, modelAnswer, inferredIn}
+use Rattle.intake_sample.specs.Inference.{sampleOf, noWord, parentModel, modelIn, modelAnswer, inferredIn}
 use Rattle.intake_sample.specs.Writing.{sampleText}
-use Rattle.intake_sample.proofs.Samples.{some-word, sample-chain}
+use Rattle.intake_sample.proofs.Samples.{some-word, sample-model}
 
 -- what a model that is given tells of the book and the parent
-pub record Given (s : List ℕ) (p : ℕ) (m : Chain) : Type 0 where
+pub record Given (s : List ℕ) (p : ℕ) (m : Model) : Type 0 where
   pub book : Book
   pub read : TakenAs s book
   pub below : p < length (book .names)
   pub some : ¬ (sampleOf book p ≡ [])
   pub due : modelIn book p ≡ given m
-  pub is : chainIn book p ≡ m
+  pub is : parentModel book p ≡ m
 
-pub model-given : (s : List ℕ) (p : ℕ) (m : Chain) → modelAnswer s p ≡ given m → Given s p m
+pub model-given : (s : List ℕ) (p : ℕ) (m : Model) → modelAnswer s p ≡ given m → Given s p m
 unfolding modelAnswer modelIn
 model-given s p m e =
     let b = onward-given (takenBook s) (λ b. modelIn b p) m e in
@@ -49,14 +49,14 @@ model-given s p m e =
       below = good-parent (b .0) p .0 (x .0);
       some = some-word (sampleOf (b .0) p) .0 (y .0);
       due = b .2;
-      is = given-same (chainIn (b .0) p) m (y .1);
+      is = given-same (parentModel (b .0) p) m (y .1);
     }
 
 -- a refusal of the model is one of the text
-text-refused : (a : Answer Book) (next : Book → Answer Chain) (text : Book → Chain → Answer (List ℕ)) (f : Refusal) → onward a next ≡ refused f →
+text-refused : (a : Answer Book) (next : Book → Answer Model) (text : Book → Model → Answer (List ℕ)) (f : Refusal) → onward a next ≡ refused f →
     onward a (λ b. onward (next b) (text b)) ≡ refused f
 text-refused (given b) next text f e = rw e
-text-refused (refused g) next text f e = ap refused (refused-same {A = Chain} g f e)
+text-refused (refused g) next text f e = ap refused (refused-same {A = Model} g f e)
 
 module _ (s : List ℕ) (p : ℕ) (x : InferredIn) (call : x ≡ inferredIn (readingOf (takenBook s)) (modelAnswer s p)) where
   outcome-is : x .outcome ≡ outcomeOf (modelAnswer s p)
@@ -85,17 +85,17 @@ module _ (s : List ℕ) (p : ℕ) (x : InferredIn) (call : x ≡ inferredIn (rea
     unfolding layoutOf
     names-are = ap (λ (y : Layout). y .names) layout-is
 
-    chain : IsChain places (length (told .book .names)) (x .model)
-    chain = subst (IsChain places (length (told .book .names))) (told .is) (sample-chain s (told .book) (taken-law s (told .book) .0 (told .read)) p (told .some))
+    model : IsModel places (length (told .book .names)) (x .model)
+    model = subst (IsModel places (length (told .book .names))) (told .is) (sample-model s (told .book) (taken-law s (told .book) .0 (told .read)) p (told .some))
 
-    pub chain-writable : LaidOut s (x .layout) × (p < x .layout .names) × IsChain places (x .layout .names) (x .model)
-    chain-writable = (laid, rw names-are (told .below), rw names-are chain)
+    pub model-writable : LaidOut s (x .layout) × (p < x .layout .names) × IsModel places (x .layout .names) (x .model)
+    model-writable = (laid, rw names-are (told .below), rw names-are model)
 
     text-is : (room : ℕ) → sampleText s p room ≡ fitted room (declaration (namesIn s) p (x .model))
     unfolding sampleText laid
     text-is room =
         ap (λ (a : Answer Book). onward a (λ b. onward (modelIn b p) (λ m. fitted room (declaration (b .names) p m)))) (told .read)
-        ∙ ap (λ (a : Answer Chain). onward a (λ m. fitted room (declaration (told .book .names) p m))) (told .due)
+        ∙ ap (λ (a : Answer Model). onward a (λ m. fitted room (declaration (told .book .names) p m))) (told .due)
         ∙ ap (λ (names : List (List ℕ)). fitted room (declaration names p (x .model))) (sym (names-in s (x .layout) laid))
 
     pub text-written : (d : List ℕ) (w : Written) (f : List ℕ) → Writes (fitted (length d) (declaration (namesIn s) p (x .model))) w d f → Writes (sampleText s p (length d)) w d f

@@ -2,11 +2,11 @@
 use super::Inferred;
 use super::InferredIn;
 use book::Reading;
-use chain_sample::row_chain;
+use chain_sample::row_model;
 use chain_sample::shows_word;
 use follow_parent::take_parent;
 use follow_row::ROW;
-use model::Chain;
+use model::Model;
 use refusal::Outcome;
 use refusal::Refusal;
 ghost use mathlib.Core.Path.{_≡_};
@@ -23,11 +23,11 @@ fn stopped(reading: Reading, refusal: Refusal) -> InferredIn
     InferredIn {
         outcome: Outcome::Refused(refusal),
         layout,
-        model: Chain::empty(),
+        model: Model::empty(),
     }
 }
 
-// 1 to 7, then 8, then 9, else the model.
+// 1 to 7, 16, then 8, then 9, else the model.
 pub fn find_model(bytes: &[u8], parent: usize) -> InferredIn
     ensures { λ r. ⌜ r ≡ inferredIn (readingOf (takenBook (now (bytes .entry)))) (modelAnswer (now (bytes .entry)) parent) ⌝ }
 {
@@ -44,7 +44,7 @@ pub fn find_model(bytes: &[u8], parent: usize) -> InferredIn
     if !shows_word(&row) {
         return stopped(reading, Refusal::NoBlock);
     }
-    let model = row_chain(&row, layout.names);
+    let model = row_model(&row, layout.names);
     InferredIn {
         outcome: Outcome::Done,
         layout,

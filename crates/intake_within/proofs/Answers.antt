@@ -7,14 +7,15 @@ use mathlib.Core.List.{List}
 use native.Mathlib.Omega.{arith}
 use borrow.Author.Tests.{not-false, lt-ltb, le-ltb}
 use lib.ListN.{length}
-use Rattle.refusal.specs.declared.Refusal.the-variants.{BadNameCount, NotAChain, BufferTooShort}
+use Rattle.refusal.specs.declared.Refusal.the-variants.{BadNameCount, NotAModel, BufferTooShort}
 use Rattle.refusal.specs.Answer.{Answer, given, refused}
 use Rattle.nameset.specs.Places.{places, goodCount}
 use Rattle.nameset.proofs.Count.{count-bounds}
 use Rattle.model.specs.declared.Chain.{Chain}
-use Rattle.model.specs.Record.{IsChain}
-use Rattle.model.specs.Check.{isChain}
-use Rattle.model.proofs.ChainLaw.{chain-law}
+use Rattle.model.specs.declared.Model.{Model}
+use Rattle.model.specs.Record.{IsChain, IsModel}
+use Rattle.model.specs.Check.{isModel}
+use Rattle.model.proofs.ModelLaw.{model-law}
 use Rattle.model_language.specs.Step.{Step}
 use Rattle.model_language.proofs.Theorem.{accepts-steps}
 use Rattle.model_inclusion.specs.Inclusion.{longestCounterexample}
@@ -73,24 +74,24 @@ module _ (n : ℕ) (a b : Chain) (c : IsChain places n a) (d : IsChain places n 
 
 -- ---- each way through the checks
 
-module _ (n : ℕ) (a b : Chain) (d₀ : List ℕ) where
-  promised : (x : Answer Bool) (r : Inclusion) (d₁ : List ℕ) → comparisonOf n a b (length d₀) ≡ x → Leaves a b x r d₀ d₁ → ComparesModels n a b r d₀ d₁
-  promised x r d₁ e h = record { leaves = subst (λ (z : Answer Bool). Leaves a b z r d₀ d₁) (sym e) h }
+module _ (n : ℕ) (a b : Model) (d₀ : List ℕ) where
+  promised : (x : Answer Bool) (r : Inclusion) (d₁ : List ℕ) → comparisonOf n a b (length d₀) ≡ x → Leaves (a .chain) (b .chain) x r d₀ d₁ → ComparesModels n a b r d₀ d₁
+  promised x r d₁ e h = record { leaves = subst (λ (z : Answer Bool). Leaves (a .chain) (b .chain) z r d₀ d₁) (sym e) h }
 
   module _ {count : Bool} (e : count ≡ goodCount n) where
     pub stops-count : not count ≡ true → ComparesModels n a b (Refused BadNameCount) d₀ d₀
     unfolding comparisonOf
     stops-count c = promised (refused BadNameCount) _ _ (rw (← e, c)) (refl, refl)
 
-    module _ (c : not count ≡ false) {first : Bool} (f : first ≡ isChain places n a) where
-      pub stops-first : not first ≡ true → ComparesModels n a b (Refused NotAChain) d₀ d₀
+    module _ (c : not count ≡ false) {first : Bool} (f : first ≡ isModel places n a) where
+      pub stops-first : not first ≡ true → ComparesModels n a b (Refused NotAModel) d₀ d₀
       unfolding comparisonOf
-      stops-first k = promised (refused NotAChain) _ _ (rw (← e, c, ← f, k)) (refl, refl)
+      stops-first k = promised (refused NotAModel) _ _ (rw (← e, c, ← f, k)) (refl, refl)
 
-      module _ (k : not first ≡ false) {second : Bool} (g : second ≡ isChain places n b) where
-        pub stops-second : not second ≡ true → ComparesModels n a b (Refused NotAChain) d₀ d₀
+      module _ (k : not first ≡ false) {second : Bool} (g : second ≡ isModel places n b) where
+        pub stops-second : not second ≡ true → ComparesModels n a b (Refused NotAModel) d₀ d₀
         unfolding comparisonOf
-        stops-second h = promised (refused NotAChain) _ _ (rw (← e, c, ← f, k, ← g, h)) (refl, refl)
+        stops-second h = promised (refused NotAModel) _ _ (rw (← e, c, ← f, k, ← g, h)) (refl, refl)
 
         module _ (h : not second ≡ false) where
           pub stops-buffer : length d₀ < longestCounterexample → ComparesModels n a b (Refused BufferTooShort) d₀ d₀
@@ -98,13 +99,12 @@ module _ (n : ℕ) (a b : Chain) (d₀ : List ℕ) where
           stops-buffer l = promised (refused BufferTooShort) _ _ (rw (← e, c, ← f, k, ← g, h, lt-ltb (length d₀) longestCounterexample l)) (refl, refl)
 
           -- past the checks both records are chains over the names
-          pub both-chains : (n ≤ places) × IsChain places n a × IsChain places n b
-          both-chains = (
-            count-bounds n (sym e ∙ not-false count c) .1,
-            chain-law places n a .0 (sym f ∙ not-false first k),
-            chain-law places n b .0 (sym g ∙ not-false second h),
-          )
+          pub both-chains : (n ≤ places) × IsChain places n (a .chain) × IsChain places n (b .chain)
+          both-chains =
+              let one : IsModel places n a = model-law places n a .0 (sym f ∙ not-false first k) in
+              let other : IsModel places n b = model-law places n b .0 (sym g ∙ not-false second h) in
+              (count-bounds n (sym e ∙ not-false count c) .1, one .chain, other .chain)
 
-          pub answers : longestCounterexample ≤ length d₀ → (r : Inclusion) (d₁ : List ℕ) → Leaves a b (given (within n a b)) r d₀ d₁ → ComparesModels n a b r d₀ d₁
+          pub answers : longestCounterexample ≤ length d₀ → (r : Inclusion) (d₁ : List ℕ) → Leaves (a .chain) (b .chain) (given (within n (a .chain) (b .chain))) r d₀ d₁ → ComparesModels n a b r d₀ d₁
           unfolding comparisonOf
-          answers l r d₁ = promised (given (within n a b)) r d₁ (rw (← e, c, ← f, k, ← g, h, le-ltb (length d₀) longestCounterexample l))
+          answers l r d₁ = promised (given (within n (a .chain) (b .chain))) r d₁ (rw (← e, c, ← f, k, ← g, h, le-ltb (length d₀) longestCounterexample l))

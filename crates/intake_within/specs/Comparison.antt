@@ -9,27 +9,29 @@ use mathlib.Core.Bool.{Bool, true, false, not}
 use mathlib.Core.List.{List}
 use lib.Dec.{ltb}
 use lib.ListN.{length}
-use Rattle.refusal.specs.declared.Refusal.the-variants.{BadNameCount, NotAChain, BufferTooShort}
+use Rattle.refusal.specs.declared.Refusal.the-variants.{BadNameCount, NotAModel, BufferTooShort}
 use Rattle.refusal.specs.Table.{stoppedBy}
 use Rattle.refusal.specs.Answer.{Answer, given, refused, refuseIf}
 use Rattle.nameset.specs.Places.{places, goodCount}
 use Rattle.byte_buffer.specs.Put.{wrote}
 use Rattle.model.specs.declared.Chain.{Chain}
-use Rattle.model.specs.Record.{IsChain}
-use Rattle.model.specs.Check.{isChain}
+use Rattle.model.specs.declared.Model.{Model}
+use Rattle.model.specs.Record.{IsModel}
+use Rattle.model.specs.Check.{isModel}
 use Rattle.model_inclusion.specs.Inclusion.{Counterexample, longestCounterexample}
 use Rattle.model_inclusion.specs.Search.{within}
 use Rattle.intake_within.specs.declared.Inclusion.{Inclusion}
 use Rattle.intake_within.specs.declared.Inclusion.the-variants.{Yes, No, Refused}
 
 -- "3, then 10 for the first record, then 10 for the second, then 12 if the buffer has fewer than 65 places, even when
--- the answer is yes"; else whether every word of the first is one of the second. The buffer has `room` places.
-unfoldable pub comparisonOf : ℕ → Chain → Chain → ℕ → Answer Bool
+-- the answer is yes"; else whether every word of the first is one of the second. The buffer has `room` places. "U4
+-- compares words of child names only" (U5): text is looked at by the check of the records alone.
+unfoldable pub comparisonOf : ℕ → Model → Model → ℕ → Answer Bool
 comparisonOf n first second room =
     refuseIf (not (goodCount n)) BadNameCount
-    (refuseIf (not (isChain places n first)) NotAChain
-    (refuseIf (not (isChain places n second)) NotAChain
-    (refuseIf (ltb room longestCounterexample) BufferTooShort (given (within n first second)))))
+    (refuseIf (not (isModel places n first)) NotAModel
+    (refuseIf (not (isModel places n second)) NotAModel
+    (refuseIf (ltb room longestCounterexample) BufferTooShort (given (within n (first .chain) (second .chain))))))
 
 -- The number in paper 01's table, 0 for a call that is not refused.
 unfoldable pub inclusionNumber : Inclusion → ℕ
@@ -50,11 +52,11 @@ inclusionLength (No l) = l
 inclusionLength (Refused f) = stoppedBy f .length
 
 -- Nothing stops the call.
-pub record PassesBoth (n : ℕ) (first second : Chain) (room : ℕ) : Type 0 where
+pub record PassesBoth (n : ℕ) (first second : Model) (room : ℕ) : Type 0 where
   pub some : 0 < n
   pub few : n ≤ places
-  pub first-chain : IsChain places n first
-  pub second-chain : IsChain places n second
+  pub first-model : IsModel places n first
+  pub second-model : IsModel places n second
   pub enough : longestCounterexample ≤ room
 
 -- A counterexample of l names was written to the front of the buffer: any one, "which word is free".
@@ -72,5 +74,5 @@ Leaves first second (given false) r before after = (l : ℕ) × (r ≡ No l) × 
 Leaves first second (refused f) r before after = (r ≡ Refused f) × (after ≡ before)
 
 -- The whole promise of the call, of its answer r.
-pub record ComparesModels (n : ℕ) (first second : Chain) (r : Inclusion) (before after : List ℕ) : Type 0 where
-  pub leaves : Leaves first second (comparisonOf n first second (length before)) r before after
+pub record ComparesModels (n : ℕ) (first second : Model) (r : Inclusion) (before after : List ℕ) : Type 0 where
+  pub leaves : Leaves (first .chain) (second .chain) (comparisonOf n first second (length before)) r before after

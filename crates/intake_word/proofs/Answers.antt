@@ -6,12 +6,12 @@ use mathlib.Core.Bool.{Bool, true, false, not}
 use mathlib.Core.List.{List}
 use lib.ListN.{length}
 use borrow.Author.Tests.{lt-ltb, le-ltb}
-use Rattle.refusal.specs.declared.Refusal.the-variants.{BadNameCount, NotAChain, BadWord}
+use Rattle.refusal.specs.declared.Refusal.the-variants.{BadNameCount, NotAModel, BadWord}
 use Rattle.refusal.specs.Answer.{Answer, given, refused, outcomeOf, outcomeNumber}
 use Rattle.nameset.specs.Places.{places, goodCount}
 use Rattle.book.specs.Book.{allBelow}
-use Rattle.model.specs.declared.Chain.{Chain}
-use Rattle.model.specs.Check.{isChain}
+use Rattle.model.specs.declared.Model.{Model}
+use Rattle.model.specs.Check.{isModel}
 use Rattle.model.specs.Run.{accepts}
 use Rattle.intake_word.specs.declared.Acceptance.the-variants.{Refused}
 use Rattle.intake_word.specs.Acceptance.{badModel, longestWord, badWord, answerOf, acceptance, acceptanceNumber, acceptanceYes, yesDue, AcceptsWord}
@@ -40,7 +40,7 @@ yes-law (given true) = refl
 yes-law (given false) = refl
 yes-law (refused r) = refl
 
-module _ (n : ℕ) (m : Chain) (w : List ℕ) where
+module _ (n : ℕ) (m : Model) (w : List ℕ) where
   promised : (a : Answer Bool) → answerOf n m w ≡ a → AcceptsWord n m w (acceptance a)
   promised a e = rw (← e) record { same = refl; number = number-law (answerOf n m w); yes = yes-law (answerOf n m w) }
 
@@ -49,16 +49,16 @@ module _ (n : ℕ) (m : Chain) (w : List ℕ) where
     unfolding acceptance answerOf
     stops-count c = promised (refused BadNameCount) (rw (← e, c))
 
-    module _ (c : not count ≡ false) {chain : Bool} (f : chain ≡ isChain places n m) where
-      pub stops-model : not chain ≡ true → AcceptsWord n m w (Refused NotAChain)
+    module _ (c : not count ≡ false) {model : Bool} (f : model ≡ isModel places n m) where
+      pub stops-model : not model ≡ true → AcceptsWord n m w (Refused NotAModel)
       unfolding acceptance answerOf badModel
-      stops-model k = promised (refused NotAChain) (rw (← e, c, ← f, k))
+      stops-model k = promised (refused NotAModel) (rw (← e, c, ← f, k))
 
-      module _ (k : not chain ≡ false) {word : Bool} (g : word ≡ badWord n w) where
+      module _ (k : not model ≡ false) {word : Bool} (g : word ≡ badWord n w) where
         pub stops-word : word ≡ true → AcceptsWord n m w (Refused BadWord)
         unfolding acceptance answerOf badModel
         stops-word h = promised (refused BadWord) (rw (← e, c, ← f, k, ← g, h))
 
-        pub answers : word ≡ false → {yes b : Bool} → yes ≡ accepts m w → yes ≡ b → AcceptsWord n m w (acceptance (given b))
+        pub answers : word ≡ false → {yes b : Bool} → yes ≡ accepts (m .chain) w → yes ≡ b → AcceptsWord n m w (acceptance (given b))
         unfolding answerOf badModel
         answers h {b = b} a q = promised (given b) (rw (← e, c, ← f, k, ← g, h, ← a, q))

@@ -8,17 +8,17 @@ use mathlib.Core.Logic.{_↔_, _⊎_, inl, inr}
 use borrow.Author.Tests.{ltb-true, ltb-false, lt-ltb, le-ltb, not-false}
 use lib.Dec.{ltb}
 use lib.ListN.{length}
-use Rattle.refusal.specs.declared.Refusal.the-variants.{BadNameCount, NotAChain, BadWord}
+use Rattle.refusal.specs.declared.Refusal.the-variants.{BadNameCount, NotAModel, BadWord}
 use Rattle.refusal.specs.Answer.{Answer, given, refused}
 use Rattle.refusal.proofs.Answers.{check-given, given-same}
 use Rattle.nameset.specs.Places.{places, goodCount}
 use Rattle.nameset.proofs.Count.{count-bounds, bounds-count}
 use Rattle.book.specs.Book.{allBelow}
-use Rattle.model.specs.declared.Chain.{Chain}
-use Rattle.model.specs.Check.{isChain}
+use Rattle.model.specs.declared.Model.{Model}
+use Rattle.model.specs.Check.{isModel}
 use Rattle.model.specs.Accept.{Accepts, Names}
 use Rattle.model.proofs.Tests.{never}
-use Rattle.model.proofs.ChainLaw.{chain-law}
+use Rattle.model.proofs.ModelLaw.{model-law}
 use Rattle.model.proofs.Acceptance.{accepts-law}
 use Rattle.intake_word.specs.declared.Acceptance.{Acceptance}
 use Rattle.intake_word.specs.declared.Acceptance.the-variants.{Yes}
@@ -70,32 +70,32 @@ yes-given (refused r) e = absurd (never (cc))
 
 -- The call answers yes exactly when nothing stops it and the word is a joining of one part for each factor of the model
 -- in order.
-pub yes-exactly : (n : ℕ) (m : Chain) (w : List ℕ) (r : Acceptance) → AcceptsWord n m w r → (r ≡ Yes) ↔ (Passes n m w × Accepts m w)
+pub yes-exactly : (n : ℕ) (m : Model) (w : List ℕ) (r : Acceptance) → AcceptsWord n m w r → (r ≡ Yes) ↔ (Passes n m w × Accepts (m .chain) w)
 unfolding acceptance answerOf badModel badWord
 yes-exactly n m w r h = (λ e. to (yes-given (answerOf n m w) (sym (h .same) ∙ e)), λ p. h .same ∙ from (p .0) (p .1))
   where
-    to : answerOf n m w ≡ given true → Passes n m w × Accepts m w
+    to : answerOf n m w ≡ given true → Passes n m w × Accepts (m .chain) w
     to e =
         let a = check-given (not (goodCount n)) BadNameCount _ true e in
-        let b = check-given (badModel n m) NotAChain _ true (a .1) in
+        let b = check-given (badModel n m) NotAModel _ true (a .1) in
         let c = check-given (badWord n w) BadWord _ true (b .1) in
         let count = count-bounds n (not-false (goodCount n) (a .0)) in
         let word = good-word n w (c .0) in (
           record {
             some = count .0;
             few = count .1;
-            chain = chain-law places n m .0 (not-false (isChain places n m) (b .0));
+            model = model-law places n m .0 (not-false (isModel places n m) (b .0));
             short = word .0;
             names = word .1;
           },
-          accepts-law m w .0 (given-same _ _ (c .1)),
+          accepts-law (m .chain) w .0 (given-same _ _ (c .1)),
         )
 
-    from : Passes n m w → Accepts m w → acceptance (answerOf n m w) ≡ Yes
+    from : Passes n m w → Accepts (m .chain) w → acceptance (answerOf n m w) ≡ Yes
     from p a = rw (
       bounds-count n (p .some) (p .few),
-      chain-law places n m .1 (p .chain),
+      model-law places n m .1 (p .model),
       le-ltb longestWord (length w) (p .short),
       names-law n w .1 (p .names),
-      accepts-law m w .1 a,
+      accepts-law (m .chain) w .1 a,
     )

@@ -1,8 +1,9 @@
 // The call that says whether a model accepts a word. It has no requirement: it says for every input what it answers.
-use model::Chain;
+use model::Model;
 use refusal::Refusal;
 ghost use mathlib.Core.Path.{_≡_};
 ghost use Prim.Native.Nat.{_<_};
+ghost use Rattle.model.specs.Record.{modelWith};
 ghost use Rattle.model.specs.Build.{ofRows};
 ghost use Rattle.intake_word.specs.Acceptance.{badWord, AcceptsWord};
 
@@ -28,21 +29,22 @@ fn bad_word(names: usize, word: &[u8]) -> bool
     }
 }
 
-// The answer for the record of these rows: 3, then 10, then 11, else yes or no.
+// The answer for the record of these rows with this text byte: 3, then 10, then 11, else yes or no.
 fn rows_accept_word<'a>(
     names: usize,
     count: usize,
     factor: &'a [u8],
     mode: &'a [u8],
+    text: u8,
     word: &[u8],
 ) -> Acceptance
-    ensures { λ r. ⌜ AcceptsWord names (ofRows count (now (factor .entry)) (now (mode .entry))) (now (word .entry)) r ⌝ }
+    ensures { λ r. ⌜ AcceptsWord names (modelWith (ofRows count (now (factor .entry)) (now (mode .entry))) text) (now (word .entry)) r ⌝ }
 {
     if !nameset::good_count(names) {
         return Acceptance::Refused(Refusal::BadNameCount);
     }
-    if !model_check::rows_are_chain(names, count, factor, mode) {
-        return Acceptance::Refused(Refusal::NotAChain);
+    if !model_check::rows_are_model(names, count, factor, mode, text) {
+        return Acceptance::Refused(Refusal::NotAModel);
     }
     if bad_word(names, word) {
         return Acceptance::Refused(Refusal::BadWord);
@@ -55,10 +57,10 @@ fn rows_accept_word<'a>(
 }
 
 // Whether the model accepts the word. Here its two rows are copied, once for the call; all below borrows them.
-pub fn accepts_word(names: usize, model: Chain, word: &[u8]) -> Acceptance
+pub fn accepts_word(names: usize, model: Model, word: &[u8]) -> Acceptance
     ensures { λ r. ⌜ AcceptsWord names model (now (word .entry)) r ⌝ }
 {
-    let factor = model.factor;
-    let mode = model.mode;
-    rows_accept_word(names, model.count, &factor, &mode, word)
+    let factor = model.chain.factor;
+    let mode = model.chain.mode;
+    rows_accept_word(names, model.chain.count, &factor, &mode, model.text, word)
 }

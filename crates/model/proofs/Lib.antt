@@ -5,3 +5,4 @@ pub mod ChainLaw
 pub mod Acceptance
 pub mod Empty
 pub mod Building
+pub mod ModelLaw

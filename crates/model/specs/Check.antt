@@ -1,5 +1,5 @@
--- A means: the check of a model record; `chain-law` in proofs/ChainLaw.antt says that it passes exactly the chains. `size`
--- is the number of places.
+-- A means: the check of a model record; `chain-law` in proofs/ChainLaw.antt says that `isChain` passes exactly the
+-- chains, `model-law` in proofs/ModelLaw.antt that `isModel` passes exactly the models. `size` is the number of places.
 -- Assumes nothing.
 use Prim.Native.Nat.{ℕ, zero, suc}
 use mathlib.Core.Bool.{Bool, true, false, _&&_, _||_}
@@ -7,7 +7,8 @@ use mathlib.Core.List.{List}
 use lib.Dec.{eqb, ltb, leb}
 use lib.ListN.{length, getD}
 use Rattle.model.specs.declared.Chain.{Chain}
-use Rattle.model.specs.Record.{noFactor}
+use Rattle.model.specs.declared.Model.{Model}
+use Rattle.model.specs.Record.{noFactor, modeOf}
 
 -- Every number below n passes the test.
 unfoldable pub everyBelow : ℕ → (ℕ → Bool) → Bool
@@ -46,3 +47,17 @@ unfoldable pub isChain : ℕ → ℕ → Chain → Bool
 isChain size n m =
     eqb (length (m .factor)) size && (eqb (length (m .mode)) size && (leb (m .count) size
     && (allPlaced size n (m .count) (m .factor) && (allNamed n (m .count) (m .factor) && allKnown size (m .count) (m .mode)))))
+
+-- Whether a chain of so many factors, the first of this mode, may have text.
+unfoldable pub mayHaveText : ℕ → ℕ → Bool
+mayHaveText count mode = eqb count 0 || (eqb count 1 && eqb mode 3)
+
+-- Whether the text byte fits such a chain.
+unfoldable pub textFits : ℕ → ℕ → ℕ → Bool
+textFits zero count mode = true
+textFits (suc zero) count mode = mayHaveText count mode
+textFits (suc (suc t)) count mode = false
+
+-- Whether m is a model over n names.
+unfoldable pub isModel : ℕ → ℕ → Model → Bool
+isModel size n m = isChain size n (m .chain) && textFits (m .text) (m .chain .count) (modeOf (m .chain) 0)

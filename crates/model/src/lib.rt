@@ -1,5 +1,5 @@
-// The model record, the record under construction, and the states of a run through a word.
-mod build; // build.rt: the record under construction
+// The model record, its chain under construction, and the states of a run through a word.
+mod build; // build.rt: the chain under construction
 
 ghost use mathlib.Core.Path.{_≡_};
 ghost use lib.ListN.{getD};
@@ -15,6 +15,14 @@ pub struct Chain {
     pub count: usize,
     pub factor: [u8; PLACES],
     pub mode: [u8; PLACES],
+}
+
+// A model: its chain, and 1 where text is allowed, else 0 (paper 02, U5). In C it is one flat record with the text
+// behind the modes.
+#[repr(C)]
+pub struct Model {
+    pub chain: Chain,
+    pub text: u8,
 }
 
 // Where a run through a word stands: in which factor, and whether the word has a name of it already.

@@ -2,14 +2,13 @@
 -- Assumes nothing.
 use Prim.Native.Nat.{ℕ, zero, suc, _≤_, _<_}
 use mathlib.Core.Path.{_≡_, refl, sym, _∙_}
-use mathlib.Core.Bool.{Bool, true, false, not, _&&_, false≢true}
+use mathlib.Core.Bool.{Bool, true, false, _&&_, false≢true}
 use mathlib.Core.List.{List, [], _∷_}
 use native.Mathlib.Omega.{arith}
 use native.Mathlib.Nat.{le-of-suc-le-suc}
-use native.Mathlib.Decide.{ℕ-discrete}
 use lib.Dec.{eqb, leb}
 use lib.ListN.{length, getD}
-use borrow.Author.Tests.{leb-true, eq-eqb, ne-eqb}
+use borrow.Author.Tests.{leb-true}
 use Rattle.name.specs.Class.{between, startByte, laterByte, classOf}
 use Rattle.name.specs.Rule.{longestName, goodLength, allLater, goodBytes, isName}
 use Rattle.name.specs.Word.{wordByte}
@@ -19,26 +18,30 @@ both : (a b : Bool) → (a && b) ≡ true → (a ≡ true) × (b ≡ true)
 both true b e = (refl, e)
 both false b e = absurd (false≢true e)
 
--- a byte's class tells whether it is in words
-pub class-word : (class byte : ℕ) → class ≡ classOf byte → not (eqb class 0) ≡ wordByte byte
+-- a byte of names is in words
+later-word : (byte : ℕ) → laterByte byte ≡ true → wordByte byte ≡ true
 unfolding wordByte
-class-word class byte e = go (ℕ-discrete class 0)
-  where
-    go : Dec (class ≡ 0) → not (eqb class 0) ≡ laterByte byte
-    go (yes z) = rw (eq-eqb class 0 z) (sym (class-neither byte (sym e ∙ z)))
-    go (no n) = rw (ne-eqb class 0 n) (sym (class-later byte (λ q. n (e ∙ q))))
+later-word byte e = rw e
+
+-- a byte's class tells whether it is in words: any of a name, and of the others `#` alone
+pub class-word : (class byte : ℕ) → class ≡ classOf byte → (class ≡ 0 → ⊥) → true ≡ wordByte byte
+class-word class byte e n = sym (later-word byte (class-later byte (λ q. n (e ∙ q))))
+
+pub class-no-word : (class byte : ℕ) → class ≡ classOf byte → class ≡ 0 → eqb byte 35 ≡ wordByte byte
+unfolding wordByte
+class-no-word class byte e z = rw (class-neither byte (sym e ∙ z))
 
 -- ---- a name
 
 later-bytes : (bs : List ℕ) → allLater bs ≡ true → (k : ℕ) → k < length bs → wordByte (getD bs k 0) ≡ true
-unfolding allLater wordByte
+unfolding allLater
 later-bytes [] e k h = absurd (omega arith)
-later-bytes (b ∷ bs) e zero h = both (laterByte b) (allLater bs) e .0
+later-bytes (b ∷ bs) e zero h = later-word b (both (laterByte b) (allLater bs) e .0)
 later-bytes (b ∷ bs) e (suc k) h = later-bytes bs (both (laterByte b) (allLater bs) e .1) k (le-of-suc-le-suc h)
 
 start-word : (b : ℕ) → startByte b ≡ true → wordByte b ≡ true
-unfolding wordByte laterByte
-start-word b e = rw e
+unfolding laterByte
+start-word b e = later-word b (rw e)
 
 -- each byte of a name is a byte of words
 pub name-bytes : (w : List ℕ) → isName w ≡ true → (k : ℕ) → k < length w → wordByte (getD w k 0) ≡ true

@@ -2,10 +2,11 @@
 -- every byte of a name is one.
 -- Assumes nothing.
 use Prim.Native.Nat.{ℕ}
-use mathlib.Core.Bool.{Bool}
+use mathlib.Core.Bool.{Bool, _||_}
+use lib.Dec.{eqb}
 use Rattle.name.specs.Class.{laterByte}
 
--- A byte of a word: those that may be in a name. A text is cut into words by this test alone, and `isName` then says of
--- a whole word whether it is a name.
+-- A byte of a word: those that may be in a name, and `#`, with which the word `#PCDATA` begins. A text is cut into
+-- words by this test alone, and `isName` then says of a whole word whether it is a name.
 unfoldable pub wordByte : ℕ → Bool
-wordByte byte = laterByte byte
+wordByte byte = laterByte byte || eqb byte 35

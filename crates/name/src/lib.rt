@@ -12,6 +12,9 @@ const NEITHER: u8 = 0;
 
 const START: u8 = 2;
 
+// `#`, with which the word `#PCDATA` begins.
+const HASH: u8 = 35;
+
 // The class of each byte value: 0 neither, 1 later only, 2 start.
 const CLASSES: [u8; 256] = [
     0, 0, 0, 0, 0, 0, 0, 0, 0, 0, 0, 0, 0, 0, 0, 0,
@@ -52,7 +55,10 @@ pub fn in_word(classes: &[u8; 256], byte: u8) -> bool
     requires { ⌜ now classes ≡ classTable ⌝ }
     ensures { λ r. ⌜ r ≡ wordByte byte ⌝ }
 {
-    class_in(classes, byte) != NEITHER
+    if class_in(classes, byte) != NEITHER {
+        return true;
+    }
+    byte == HASH
 }
 
 // Whether a name may have this many bytes.

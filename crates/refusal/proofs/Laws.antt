@@ -8,7 +8,7 @@ use mathlib.Core.List.{List, [], _∷_, map}
 use native.Mathlib.Omega.{arith}
 use lib.ListN.{getD}
 use Rattle.refusal.specs.declared.Refusal.{Refusal}
-use Rattle.refusal.specs.declared.Refusal.the-variants.{BookTooLong, BytesMissing, BadNameCount, BadName, NameNotAbove, NumberNotBelow, BytesLeftOver, BadParent, NoBlock, NotAChain, BadWord, BufferTooShort, NotADeclaration, UnknownName, NameTwice}
+use Rattle.refusal.specs.declared.Refusal.the-variants.{BookTooLong, BytesMissing, BadNameCount, BadName, NameNotAbove, NumberNotBelow, BytesLeftOver, BadParent, NoBlock, NotAModel, BadWord, BufferTooShort, NotADeclaration, UnknownName, NameTwice, BadText}
 use Rattle.refusal.specs.declared.Outcome.{Outcome}
 use Rattle.refusal.specs.declared.Outcome.the-variants.{Done, Refused}
 use Rattle.refusal.specs.Table.{numberOf}
@@ -26,12 +26,13 @@ rows =
     ∷ BytesLeftOver
     ∷ BadParent
     ∷ NoBlock
-    ∷ NotAChain
+    ∷ NotAModel
     ∷ BadWord
     ∷ BufferTooShort
     ∷ NotADeclaration
     ∷ UnknownName
     ∷ NameTwice
+    ∷ BadText
     ∷ []
 
 -- the outcome that a number tells
@@ -50,12 +51,13 @@ row-of NumberNotBelow = refl
 row-of BytesLeftOver = refl
 row-of BadParent = refl
 row-of NoBlock = refl
-row-of NotAChain = refl
+row-of NotAModel = refl
 row-of BadWord = refl
 row-of BufferTooShort = refl
 row-of NotADeclaration = refl
 row-of UnknownName = refl
 row-of NameTwice = refl
+row-of BadText = refl
 
 pub refused-alike : (r q : Refusal) → Refused r ≡ Refused q → r ≡ q
 refused-alike r q e = cc

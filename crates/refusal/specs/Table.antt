@@ -1,13 +1,14 @@
--- To be believed: the number of each refusal, and what a refused call answers (paper 01, "Where a call stops").
+-- To be believed: the number of each refusal, and what a refused call answers (paper 01, "Where a call stops";
+-- paper 02 from 16 on).
 -- Assumes nothing.
 use Prim.Native.Nat.{ℕ}
 use mathlib.Core.Bool.{Bool, false, _||_}
 use mathlib.Core.List.{List, [], _∷_}
 use lib.Dec.{eqb}
 use Rattle.refusal.specs.declared.Refusal.{Refusal}
-use Rattle.refusal.specs.declared.Refusal.the-variants.{BookTooLong, BytesMissing, BadNameCount, BadName, NameNotAbove, NumberNotBelow, BytesLeftOver, BadParent, NoBlock, NotAChain, BadWord, BufferTooShort, NotADeclaration, UnknownName, NameTwice}
+use Rattle.refusal.specs.declared.Refusal.the-variants.{BookTooLong, BytesMissing, BadNameCount, BadName, NameNotAbove, NumberNotBelow, BytesLeftOver, BadParent, NoBlock, NotAModel, BadWord, BufferTooShort, NotADeclaration, UnknownName, NameTwice, BadText}
 
--- The number in the table's second column.
+-- The number that the papers give it.
 abbrev pub numberOf : Refusal → ℕ
 numberOf BookTooLong = 1
 numberOf BytesMissing = 2
@@ -18,16 +19,17 @@ numberOf NumberNotBelow = 6
 numberOf BytesLeftOver = 7
 numberOf BadParent = 8
 numberOf NoBlock = 9
-numberOf NotAChain = 10
+numberOf NotAModel = 10
 numberOf BadWord = 11
 numberOf BufferTooShort = 12
 numberOf NotADeclaration = 13
 numberOf UnknownName = 14
 numberOf NameTwice = 15
+numberOf BadText = 16
 
--- The numbers of the refusals that concern the book: rows 1 to 7.
+-- The numbers of the refusals that concern the book: 1 to 7, 16.
 abbrev pub bookNumbers : List ℕ
-bookNumbers = 1 ∷ 2 ∷ 3 ∷ 4 ∷ 5 ∷ 6 ∷ 7 ∷ []
+bookNumbers = 1 ∷ 2 ∷ 3 ∷ 4 ∷ 5 ∷ 6 ∷ 7 ∷ 16 ∷ []
 
 -- Whether a number is in a list.
 abbrev pub listed : ℕ → List ℕ → Bool

@@ -3,7 +3,7 @@ ghost use mathlib.Core.Path.{_≡_};
 ghost use Rattle.refusal.specs.Table.{numberOf};
 ghost use Rattle.refusal.specs.Answer.{outcomeNumber};
 
-// One variant for each number of paper 01's table, in the table's order. The comments are the refusals' texts:
+// One variant for each number of papers 01 and 02, by rising number. The comments are the refusals' texts:
 // tests/refusals_check.py compares every other place that has a number, a name or a text with this list.
 pub enum Refusal {
     // 1: the book has more than 60,000 bytes.
@@ -24,8 +24,8 @@ pub enum Refusal {
     BadParent,
     // 9: no block in the book has the parent whose model is wanted from the sample.
     NoBlock,
-    // 10: the model record is not a chain over the names.
-    NotAChain,
+    // 10: the model record is not a chain over the names, or its text byte does not fit the chain.
+    NotAModel,
     // 11: the word has more than 255 names, or a number that is not below the count of names.
     BadWord,
     // 12: the output buffer is shorter than the text to be written, or has fewer than 65 places for a word.
@@ -36,6 +36,8 @@ pub enum Refusal {
     UnknownName,
     // 15: the model in the text has a name twice.
     NameTwice,
+    // 16: a text byte in the book is above 1.
+    BadText,
 }
 
 // How a call ended, where its answer's values stand beside it.
@@ -44,7 +46,7 @@ pub enum Outcome {
     Refused(Refusal),
 }
 
-// The refusal's number in paper 01's table.
+// The refusal's number in the papers.
 pub fn number(refusal: Refusal) -> u8
     ensures { λ r. ⌜ r ≡ numberOf refusal ⌝ }
 {
@@ -58,12 +60,13 @@ pub fn number(refusal: Refusal) -> u8
         Refusal::BytesLeftOver => 7,
         Refusal::BadParent => 8,
         Refusal::NoBlock => 9,
-        Refusal::NotAChain => 10,
+        Refusal::NotAModel => 10,
         Refusal::BadWord => 11,
         Refusal::BufferTooShort => 12,
         Refusal::NotADeclaration => 13,
         Refusal::UnknownName => 14,
         Refusal::NameTwice => 15,
+        Refusal::BadText => 16,
     }
 }
 

@@ -2,6 +2,7 @@
 use intake_word::Acceptance;
 use libc::STDOUT_FILENO;
 use model::Chain;
+use model::Model;
 
 fn line(answer: Acceptance) -> u8 {
     match answer {
@@ -17,8 +18,8 @@ fn show(answer: Acceptance) {
     io::write_all(STDOUT_FILENO, b"\n");
 }
 
-// A record of three names, a, b, k, with the factor of each and the modes of three factors.
-fn record_of(count: usize, a: u8, b: u8, k: u8, first: u8, second: u8, third: u8) -> Chain {
+// A chain of three names, a, b, k, with the factor of each and the modes of three factors.
+fn chain_of(count: usize, a: u8, b: u8, k: u8, first: u8, second: u8, third: u8) -> Chain {
     let mut m = Chain {
         count,
         factor: [255u8; 64],
@@ -33,8 +34,18 @@ fn record_of(count: usize, a: u8, b: u8, k: u8, first: u8, second: u8, third: u8
     m
 }
 
+// A record with a text byte.
+fn with_text(chain: Chain, text: u8) -> Model {
+    Model { chain, text }
+}
+
+// A record of three names without text.
+fn record_of(count: usize, a: u8, b: u8, k: u8, first: u8, second: u8, third: u8) -> Model {
+    with_text(chain_of(count, a, b, k, first, second, third), 0)
+}
+
 // (a?,k*,b?)
-fn sample() -> Chain {
+fn sample() -> Model {
     record_of(3, 0, 2, 1, 1, 3, 1)
 }
 
@@ -103,13 +114,35 @@ fn bad_records() {
 
 // The last places of a record.
 fn last_places() {
-    let mut factor = sample();
+    let mut factor = chain_of(3, 0, 2, 1, 1, 3, 1);
     factor.factor[63] = 0;
-    show(intake_word::accepts_word(63, factor, b""));
-    show(intake_word::accepts_word(64, factor, b"\x3f\x02"));
-    let mut mode = sample();
+    show(intake_word::accepts_word(63, with_text(factor, 0), b""));
+    show(intake_word::accepts_word(64, with_text(factor, 0), b"\x3f\x02"));
+    let mut mode = chain_of(3, 0, 2, 1, 1, 3, 1);
     mode.mode[63] = 1;
-    show(intake_word::accepts_word(3, mode, b""));
+    show(intake_word::accepts_word(3, with_text(mode, 0), b""));
+}
+
+// Words of (#PCDATA) and of (#PCDATA|a|k)*: text makes no difference to child names.
+fn text_words() {
+    let none = with_text(chain_of(0, 255, 255, 255, 0, 0, 0), 1);
+    show(intake_word::accepts_word(3, none, b""));
+    show(intake_word::accepts_word(3, none, b"\x00"));
+    let mixed = with_text(chain_of(1, 0, 255, 0, 3, 0, 0), 1);
+    show(intake_word::accepts_word(3, mixed, b""));
+    show(intake_word::accepts_word(3, mixed, b"\x02\x00\x00\x02"));
+    show(intake_word::accepts_word(3, mixed, b"\x01"));
+}
+
+// Text bytes that do not fit: 2, 255, and 1 with a mode below 3 or with two factors.
+fn text_limits() {
+    let mixed = chain_of(1, 0, 255, 0, 3, 0, 0);
+    show(intake_word::accepts_word(3, with_text(mixed, 2), b""));
+    show(intake_word::accepts_word(3, with_text(mixed, 255), b""));
+    show(intake_word::accepts_word(3, with_text(chain_of(1, 0, 255, 0, 2, 0, 0), 1), b"\x00"));
+    show(intake_word::accepts_word(3, with_text(chain_of(1, 0, 255, 255, 0, 0, 0), 1), b"\x00"));
+    show(intake_word::accepts_word(3, with_text(chain_of(2, 0, 255, 1, 3, 3, 0), 1), b""));
+    show(intake_word::accepts_word(3, with_text(chain_of(2, 0, 255, 1, 3, 3, 0), 0), b""));
 }
 
 // Of two refusals the first of 3, 10, 11 is given.
@@ -129,4 +162,6 @@ fn main() {
     bad_records();
     last_places();
     order();
+    text_words();
+    text_limits();
 }

@@ -1,9 +1,11 @@
 // Reads cases from standard input and prints a line for each. A case is a label, a book and a text, each behind its
 // length in three bytes, the low one first. The line has the label, the refusal's number (0 for none), N, M, the number
-// of the name that is the text (or -), and each block as its parent, a colon and the number of its children.
+// of the name that is the text (or -), and each block as its parent, its text byte and the number of its children, with
+// colons between them.
 use book::Found;
 use book::HEAD_SIZE;
 use book::Layout;
+use book::TEXT_AT;
 use book_blocks::BlockStep;
 use book_blocks::block_at;
 use book_bytes::wide;
@@ -20,7 +22,7 @@ fn print_found(found: Found) {
     }
 }
 
-// Each block's parent and number of children.
+// Each block's parent, text byte and number of children.
 fn print_blocks(bytes: &[u8], layout: Layout)
     requires { ⌜ length (now bytes) ≤ longestBook ⌝ }
 {
@@ -29,7 +31,7 @@ fn print_blocks(bytes: &[u8], layout: Layout)
     while 0 < left {
         match block_at(bytes, layout.names, at) {
             BlockStep::Block(size) => {
-                print_block(wide(bytes[at]), size);
+                print_block(wide(bytes[at]), wide(bytes[at + TEXT_AT]), size);
                 at = at + HEAD_SIZE + size;
             }
             BlockStep::Stopped(_) => {
@@ -40,9 +42,11 @@ fn print_blocks(bytes: &[u8], layout: Layout)
     }
 }
 
-fn print_block(parent: usize, children: usize) {
+fn print_block(parent: usize, text: usize, children: usize) {
     test_lines::print(b" ");
     test_lines::print_number(parent);
+    test_lines::print(b":");
+    test_lines::print_number(text);
     test_lines::print(b":");
     test_lines::print_number(children);
 }

@@ -1,10 +1,12 @@
-// Prints the follow facts of some parents of a small book on standard input, and those of one word.
+// Prints the follow facts of some parents of a small book on standard input, with whether each has text, and the facts
+// of one word.
 use follow::Facts;
 use follow_row::EMPTY;
 use follow_row::ENDS;
 use follow_row::FOLLOWS;
 use follow_row::ROW;
 use follow_row::STARTS;
+use follow_row::TEXT;
 use nameset::NameSet;
 use nameset::ROWS;
 use nameset::row_at;
@@ -32,7 +34,7 @@ fn print_set(label: &[u8], names: NameSet) {
     test_lines::print(b"\n");
 }
 
-// The facts that a row keeps.
+// What a row keeps.
 fn print_row(row: &[u64])
     requires { ⌜ length (now row) ≡ rowSize ⌝ }
 {
@@ -43,6 +45,9 @@ fn print_row(row: &[u64])
     print_set(b"after 3 ", row_at(row, FOLLOWS + 3));
     if row[EMPTY] == 1 {
         test_lines::print(b"empty\n");
+    }
+    if row[TEXT] == 1 {
+        test_lines::print(b"text\n");
     }
 }
 

@@ -5,7 +5,8 @@
 // commas beside bars, and marks one after the other; commas, bars and brackets that lack a neighbour; texts that end
 // early; other words where the model stands; the rule for names; spaces in each place where they may stand; spaces
 // where none may stand, or where one is missing; tabs and carriage returns in these places; bytes that are no white
-// space; bytes behind `>`; the longest declaration, and the same with a name of 33 bytes.
+// space; bytes behind `>`; `#PCDATA` alone and with names; other marks behind it, other places of it, and other words
+// like it; the longest declaration, and the same with a name of 33 bytes.
 
 // One line.
 fn tell(text: &[u8]) {

@@ -1,7 +1,7 @@
 // Declarations read by a book of five names: one line with a book that is cut short, then each line of standard input
 // with the whole book. In a line the byte 1F stands for a line feed. Each line of output has the refusal's number, the
-// parent's number, the count of factors, the factor of each of the five names, the mode of each of the first five
-// factors, and the text between `[` and `]`. `tests/reading_cases.py` has the texts and what is due of each.
+// parent's number, the count of factors, the text byte, the factor of each of the five names, the mode of each of the
+// first five factors, and the text between `[` and `]`. `tests/reading_cases.py` has the texts and what is due of each.
 use declaration_reading::Declaration;
 
 // How many names the book has.
@@ -25,11 +25,12 @@ fn tell(read: Declaration, text: &[u8]) {
     let outcome = read.outcome;
     test_lines::print_field(refusal::outcome_number(outcome) as usize);
     test_lines::print_field(read.parent);
-    test_lines::print_field(read.model.count);
+    test_lines::print_field(read.model.chain.count);
+    test_lines::print_field(read.model.text as usize);
     test_lines::print(b"| ");
-    test_lines::print_row(&read.model.factor, NAMES);
+    test_lines::print_row(&read.model.chain.factor, NAMES);
     test_lines::print(b"| ");
-    test_lines::print_row(&read.model.mode, NAMES);
+    test_lines::print_row(&read.model.chain.mode, NAMES);
     test_lines::print_text(text);
 }
 

@@ -2,6 +2,7 @@
 // buffer: a dot where nothing was written.
 use declaration_writing::Written;
 use model::Chain;
+use model::Model;
 
 // The names a, b and c, and no block.
 fn small_book() -> [u8; 10] {
@@ -21,12 +22,12 @@ fn empty() -> Chain {
     }
 }
 
-// The model (b?).
-fn one_name() -> Chain {
+// The chain (b) with a mode.
+fn one_name(own: u8) -> Chain {
     let mut factor = [255u8; 64];
     let mut mode = [0u8; 64];
     factor[1] = 0;
-    mode[0] = 1;
+    mode[0] = own;
     Chain {
         count: 1,
         factor,
@@ -34,7 +35,21 @@ fn one_name() -> Chain {
     }
 }
 
-// The model ((a|c)*,b+).
+// The chain (a|b) with a mode.
+fn two_names(own: u8) -> Chain {
+    let mut factor = [255u8; 64];
+    let mut mode = [0u8; 64];
+    factor[0] = 0;
+    factor[1] = 0;
+    mode[0] = own;
+    Chain {
+        count: 1,
+        factor,
+        mode,
+    }
+}
+
+// The chain ((a|c)*,b+).
 fn two_factors() -> Chain {
     let mut factor = [255u8; 64];
     let mut mode = [0u8; 64];
@@ -50,7 +65,7 @@ fn two_factors() -> Chain {
     }
 }
 
-// 64 names in 32 pairs, each with a mark: the longest model there is.
+// 64 names in 32 pairs, each with a mark: the longest chain there is.
 fn pairs() -> Chain {
     let mut factor = [255u8; 64];
     let mut mode = [0u8; 64];
@@ -68,6 +83,11 @@ fn pairs() -> Chain {
     }
 }
 
+// A chain with a text byte.
+fn model(chain: Chain, text: u8) -> Model {
+    Model { chain, text }
+}
+
 // One line: how the call ended, and the whole buffer.
 fn report(written: Written, buffer: &[u8]) {
     let outcome = written.outcome;
@@ -77,37 +97,37 @@ fn report(written: Written, buffer: &[u8]) {
     test_lines::print(b"\n");
 }
 
-fn in_40(book: &[u8], parent: usize, m: Chain) {
+fn in_40(book: &[u8], parent: usize, m: Model) {
     let mut buffer = [b'.'; 40];
     let written = declaration_writing::write_declaration(book, parent, m, &mut buffer);
     report(written, &buffer);
 }
 
-fn in_17(book: &[u8], parent: usize, m: Chain) {
+fn in_17(book: &[u8], parent: usize, m: Model) {
     let mut buffer = [b'.'; 17];
     let written = declaration_writing::write_declaration(book, parent, m, &mut buffer);
     report(written, &buffer);
 }
 
-fn in_16(book: &[u8], parent: usize, m: Chain) {
+fn in_16(book: &[u8], parent: usize, m: Model) {
     let mut buffer = [b'.'; 16];
     let written = declaration_writing::write_declaration(book, parent, m, &mut buffer);
     report(written, &buffer);
 }
 
-fn in_2252(book: &[u8], parent: usize, m: Chain) {
+fn in_2252(book: &[u8], parent: usize, m: Model) {
     let mut buffer = [b'.'; 2252];
     let written = declaration_writing::write_declaration(book, parent, m, &mut buffer);
     report(written, &buffer);
 }
 
-fn in_2253(book: &[u8], parent: usize, m: Chain) {
+fn in_2253(book: &[u8], parent: usize, m: Model) {
     let mut buffer = [b'.'; 2253];
     let written = declaration_writing::write_declaration(book, parent, m, &mut buffer);
     report(written, &buffer);
 }
 
-fn in_2260(book: &[u8], parent: usize, m: Chain) {
+fn in_2260(book: &[u8], parent: usize, m: Model) {
     let mut buffer = [b'.'; 2260];
     let written = declaration_writing::write_declaration(book, parent, m, &mut buffer);
     report(written, &buffer);
@@ -116,47 +136,74 @@ fn in_2260(book: &[u8], parent: usize, m: Chain) {
 // The declaration fits, or it does not.
 fn written_cases() {
     let book = small_book();
-    in_40(&book, 0, empty());
-    in_40(&book, 2, one_name());
-    in_17(&book, 2, one_name());
+    in_40(&book, 0, model(empty(), 0));
+    in_40(&book, 2, model(one_name(1), 0));
+    in_17(&book, 2, model(one_name(1), 0));
 }
 
 fn short_cases() {
     let book = small_book();
-    in_16(&book, 2, one_name());
-    in_40(&book, 1, two_factors());
+    in_16(&book, 2, model(one_name(1), 0));
+    in_40(&book, 1, model(two_factors(), 0));
+}
+
+// Text and no name.
+fn text_cases() {
+    let book = small_book();
+    in_40(&book, 0, model(empty(), 1));
+    in_16(&book, 0, model(empty(), 1));
+}
+
+// Text among names, and the same names without text.
+fn mixed_cases() {
+    let book = small_book();
+    in_40(&book, 2, model(one_name(3), 1));
+    in_40(&book, 2, model(two_names(3), 1));
+    in_40(&book, 2, model(two_names(3), 0));
+}
+
+// Text beside two factors, beside a factor without a star, and a text byte of 2.
+fn bad_text_cases() {
+    let book = small_book();
+    in_40(&book, 1, model(two_factors(), 1));
+    in_40(&book, 2, model(two_names(2), 1));
+    in_40(&book, 2, model(two_names(3), 2));
 }
 
 // 8 before 10, 10 before 12.
 fn parent_cases() {
     let book = small_book();
-    in_40(&book, 3, two_factors());
-    in_40(&book, 256, two_factors());
-    in_16(&book, 3, pairs());
+    in_40(&book, 3, model(two_factors(), 0));
+    in_40(&book, 256, model(two_factors(), 0));
+    in_16(&book, 3, model(pairs(), 0));
 }
 
 fn record_cases() {
     let book = small_book();
-    in_16(&book, 0, pairs());
+    in_16(&book, 0, model(pairs(), 0));
+    in_16(&book, 0, model(empty(), 2));
 }
 
 // The book is checked first.
 fn book_cases() {
     let book = cut_book();
-    in_16(&book, 3, pairs());
+    in_16(&book, 3, model(pairs(), 0));
 }
 
 // The longest declaration, in a buffer that is one byte short, one that it fills, and a longer one.
 fn main() {
     written_cases();
     short_cases();
+    text_cases();
+    mixed_cases();
+    bad_text_cases();
     parent_cases();
     record_cases();
     book_cases();
     let mut space = io::buffer();
     let got = libc::read(0, &mut space);
     let n = io::count(got, &space);
-    in_2252(&space[..n], 63, pairs());
-    in_2253(&space[..n], 63, pairs());
-    in_2260(&space[..n], 63, pairs());
+    in_2252(&space[..n], 63, model(pairs(), 0));
+    in_2253(&space[..n], 63, model(pairs(), 0));
+    in_2260(&space[..n], 63, model(pairs(), 0));
 }

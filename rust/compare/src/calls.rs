@@ -186,18 +186,20 @@ impl Call {
         }
     }
 
-    /// What kind of answer it is, for the count of what was reached. A refused call on two records also tells which of them are
-    /// bad, or what a longer buffer would get.
+    /// What kind of answer it is, for the count of what was reached. With `-text` a record that is asked allows text, or it is
+    /// refused for its text byte alone.
     pub fn kind_of(&self, answer: &Answer) -> String {
         let kind = answer.kind();
-        let Call::Within { names, first, second, .. } = self else { return kind };
-        let more = match &kind[..] {
-            "10" => match [first, second].map(|record| record.is_chain(*names)) {
-                [false, true] => "-first",
-                [true, false] => "-second",
-                _ => "-both",
-            },
-            "12" => counterexample(*names, first, second).map_or("-yes", |_| "-no"),
+        let of_text = |fits: bool| if fits { "-text" } else { "" };
+        let more = match (self, &kind[..]) {
+            (Call::AcceptsWord { names, record, .. }, "10") => of_text(record.is_chain(*names)),
+            (Call::AcceptsWord { record, .. }, "yes" | "no") => of_text(record.text == 1),
+            (Call::WriteDeclaration { book, record, .. }, "10") => {
+                of_text(second::book::read(book).is_ok_and(|book| record.is_chain(book.names.len())))
+            }
+            (Call::Within { first, second, .. }, "yes" | "no" | "empty") => of_text(first.text + second.text > 0),
+            (Call::Within { names, first, second, .. }, "10") => bad_of_two(*names, first, second),
+            (Call::Within { names, first, second, .. }, "12") => counterexample(*names, first, second).map_or("-yes", |_| "-no"),
             _ => "",
         };
         kind + more
@@ -247,6 +249,36 @@ impl Call {
     }
 }
 
+/// Which of two records is bad, or both, and whether one is so by its text byte alone.
+fn bad_of_two(names: usize, first: &Record, second: &Record) -> &'static str {
+    match [first, second].map(|record| (record.is_model(names), record.is_chain(names))) {
+        [(false, false), (true, _)] => "-first",
+        [(false, true), (true, _)] => "-first-text",
+        [(true, _), (false, false)] => "-second",
+        [(true, _), (false, true)] => "-second-text",
+        _ => "-both",
+    }
+}
+
+/// What a model allows: `text` alone, names and text `mixed`, or no text, `0`.
+fn content(record: &Record) -> &'static str {
+    match (record.text, record.count) {
+        (0, _) => "0",
+        (_, 0) => "text",
+        _ => "mixed",
+    }
+}
+
+/// The same of one declaration or several: `mixed` where one is so, else `text` where one is so.
+fn content_of_text(text: &[u8]) -> &'static str {
+    let has = |part: &[u8]| text.windows(part.len()).any(|bytes| bytes == part);
+    match (has(b"(#PCDATA|"), has(b"(#PCDATA)")) {
+        (true, _) => "mixed",
+        (_, true) => "text",
+        _ => "0",
+    }
+}
+
 impl Answer {
     /// What kind of answer it is by itself. A no on two records that the empty word shows is `empty`, and one with a word of 65
     /// names `longest`; since the second implementation finds a shortest word, such a no needs that many.
@@ -256,7 +288,8 @@ impl Answer {
             Answer::Inclusion(0, false, MOST_COUNTEREXAMPLE, _) => String::from("longest"),
             Answer::Verdict(0, yes) | Answer::Inclusion(0, yes, ..) => String::from(if *yes { "yes" } else { "no" }),
             Answer::Written(0, 0, _) => String::from("nothing"),
-            Answer::Model(0, _) | Answer::Written(0, ..) | Answer::Read(0, ..) => String::from("0"),
+            Answer::Written(0, length, after) => String::from(content_of_text(&after[..*length])),
+            Answer::Model(0, record) | Answer::Read(0, _, record) => String::from(content(record)),
             Answer::Model(n, _)
             | Answer::Verdict(n, _)
             | Answer::Inclusion(n, ..)
@@ -264,7 +297,7 @@ impl Answer {
             | Answer::Read(n, ..) => n.to_string(),
             Answer::Printed(out) => match out.strip_prefix(b"refused ") {
                 Some(number) => String::from_utf8_lossy(number).trim().to_string(),
-                None => String::from(if out.is_empty() { "nothing" } else { "0" }),
+                None => String::from(if out.is_empty() { "nothing" } else { content_of_text(out) }),
             },
             Answer::Nobody => String::from("nobody"),
         }

@@ -165,7 +165,7 @@ fn damaged(c: &mut Chance, case: u64) -> Vec<Due> {
 
 fn records(c: &mut Chance, _: u64) -> Vec<Due> {
     let n = count(c);
-    let good = chain(c, n);
+    let good = model(c, n);
     let mut word = accepted_word(c, &good);
     if c.once_in(6) && n > 0 {
         // Up to and above the longest word of the call, by names of a factor that repeats if there is one.
@@ -201,7 +201,7 @@ fn writing(c: &mut Chance, _: u64) -> Vec<Due> {
     let parts = Parts { names: names(c, n), blocks: vec![] };
     let book = parts.bytes();
     let parent = c.below(n);
-    let good = chain(c, n);
+    let good = model(c, n);
     let text = second::declaration::written(&parts.names, parent, &good);
     let mut calls = Vec::new();
     for buffer in buffers(c, text.len()) {
@@ -222,7 +222,7 @@ fn texts(c: &mut Chance, _: u64) -> Vec<Due> {
     let n = count(c);
     let names = names(c, n);
     let book = bytes_of(&names, &[]);
-    let record = chain(c, n);
+    let record = model(c, n);
     let parent = c.below(n);
     let good = spelling(c, &names, parent, &record);
     let due = Answer::Read(0, parent, record);
@@ -236,9 +236,13 @@ fn texts(c: &mut Chance, _: u64) -> Vec<Due> {
     }
     if c.once_in(100) {
         // No limit on a text's length.
-        let factors: Vec<Vec<u8>> = (0..c.from_to(60, 3000)).map(|i| names[i % n].clone()).collect();
-        let text = [b"<!ELEMENT ", &names[0][..], b" (", &factors.join(&b", "[..]), b")>"].concat();
-        calls.push((Call::ReadDeclaration { book, text }, None));
+        let held: Vec<Vec<u8>> = (0..c.from_to(60, 3000)).map(|i| names[i % n].clone()).collect();
+        let list = [b" (", &held.join(&b", "[..])[..], b")>"].concat();
+        let mixed = [b" (#PCDATA | ", &held.join(&b"|"[..])[..], b")*>"].concat();
+        for model in [list, mixed] {
+            let text = [b"<!ELEMENT ", &names[0][..], &model].concat();
+            calls.push((Call::ReadDeclaration { book: book.clone(), text }, None));
+        }
     }
     calls
 }
@@ -252,108 +256,156 @@ fn two_bytes(n: usize) -> Vec<u8> {
     vec![(n % 256) as u8, (n / 256) as u8]
 }
 
-/// Books on both sides of each limit, with the refusal that paper 01 gives them, 0 for none.
-fn limit_books() -> Vec<(Vec<u8>, u8)> {
-    let a = [two_bytes(1), named(b"a")].concat();
-    let ab = [two_bytes(2), named(b"a"), named(b"b")].concat();
-    let of = |parts: &[&[u8]]| parts.concat();
+/// Books with the refusal that the papers give them, 0 for none.
+type Books = Vec<(Vec<u8>, u8)>;
+
+/// Books of one part after the other, each as bytes.
+fn joined(books: &[(&[&[u8]], u8)]) -> Books {
+    books.iter().map(|(parts, number)| (parts.concat(), *number)).collect()
+}
+
+/// Books on both sides of each limit of the names.
+fn name_books() -> Books {
     let many = |n: usize| -> Vec<u8> {
-        let mut all = two_bytes(n);
-        for i in 0..n {
-            all.extend(named(&[b'A' + (i / 26) as u8, b'a' + (i % 26) as u8]));
-        }
-        all.extend(two_bytes(0));
-        all
+        let name = |i: usize| named(&[b'A' + (i / 26) as u8, b'a' + (i % 26) as u8]);
+        [two_bytes(n), (0..n).flat_map(name).collect(), two_bytes(0)].concat()
     };
-    let mut books = vec![
-        (vec![], 2),
-        (vec![1], 2),
-        (vec![0, 0], 3),
-        (vec![65, 0], 3),
-        (vec![0, 1], 3),
-        (vec![1, 1], 3),
-        (vec![255, 255], 3),
-        (many(1), 0),
-        (many(64), 0),
-        (many(65), 3),
-        (vec![1, 0], 2),
-        (vec![1, 0, 0], 4),
-        (vec![1, 0, 33], 4),
-        (vec![1, 0, 255], 4),
-        (vec![1, 0, 32], 2),
-        (of(&[&[1, 0], &named(&[b'a'; 32]), &[0, 0]]), 0),
-        (of(&[&[1, 0], &named(&[b'a'; 33]), &[0, 0]]), 4),
-        (of(&[&[1, 0, 2, b'9']]), 2),
-        (of(&[&[1, 0, 2, b'a']]), 2),
-        (of(&[&[2, 0], &named(b"ab"), &named(b"ab"), &[0, 0]]), 5),
-        (of(&[&[2, 0], &named(b"b"), &named(b"a"), &[0, 0]]), 5),
-        (of(&[&[2, 0], &named(b"ab"), &named(b"a"), &[0, 0]]), 5),
-        (of(&[&[2, 0], &named(b"a"), &named(b"ab"), &[0, 0]]), 0),
-        (of(&[&[2, 0], &named(b"B"), &named(b"a"), &[0, 0]]), 0),
-        (of(&[&[2, 0], &named(b"a-"), &named(b"a."), &[0, 0]]), 0),
-        (of(&[&[2, 0], &named(b"b"), &named(b"a!"), &[0, 0]]), 4),
-        (a.clone(), 2),
-        (of(&[&a, &[0]]), 2),
-        (of(&[&a, &[0, 0]]), 0),
-        (of(&[&a, &[0, 0, 0]]), 7),
-        (of(&[&a, &[255, 255]]), 2),
-        (of(&[&a, &[255, 255, 1, 0]]), 6),
-        (of(&[&a, &[1, 0]]), 2),
-        (of(&[&a, &[1, 0, 0]]), 2),
-        (of(&[&a, &[1, 0, 0, 0]]), 0),
-        (of(&[&a, &[1, 0, 0, 0, 0]]), 7),
-        (of(&[&a, &[1, 0, 0, 255], &[0; 255]]), 0),
-        (of(&[&a, &[1, 0, 0, 255], &[0; 254]]), 2),
-        (of(&[&ab, &[1, 0, 1, 0]]), 0),
-        (of(&[&ab, &[1, 0, 2, 0]]), 6),
-        (of(&[&ab, &[1, 0, 2]]), 6),
-        (of(&[&ab, &[1, 0, 0, 1, 1]]), 0),
-        (of(&[&ab, &[1, 0, 0, 1, 2]]), 6),
-        (of(&[&ab, &[1, 0, 0, 2, 9]]), 2),
-        (of(&[&ab, &[1, 0, 0, 1, 2, 0]]), 6),
-        (of(&[&ab, &[2, 0, 0, 1, 1, 1, 1, 9]]), 6),
-        (vec![0; 60_001], 1),
-        (vec![255; 100_000], 1),
-    ];
+    let mut books = joined(&[
+        (&[], 2),
+        (&[&[1]], 2),
+        (&[&[0, 0]], 3),
+        (&[&[65, 0]], 3),
+        (&[&[0, 1]], 3),
+        (&[&[1, 1]], 3),
+        (&[&[255, 255]], 3),
+        (&[&[1, 0]], 2),
+        (&[&[1, 0, 0]], 4),
+        (&[&[1, 0, 33]], 4),
+        (&[&[1, 0, 255]], 4),
+        (&[&[1, 0, 32]], 2),
+        (&[&[1, 0], &named(&[b'a'; 32]), &[0, 0]], 0),
+        (&[&[1, 0], &named(&[b'a'; 33]), &[0, 0]], 4),
+        (&[&[1, 0, 2, b'9']], 2),
+        (&[&[1, 0, 2, b'a']], 2),
+        (&[&[2, 0], &named(b"ab"), &named(b"ab"), &[0, 0]], 5),
+        (&[&[2, 0], &named(b"b"), &named(b"a"), &[0, 0]], 5),
+        (&[&[2, 0], &named(b"ab"), &named(b"a"), &[0, 0]], 5),
+        (&[&[2, 0], &named(b"a"), &named(b"ab"), &[0, 0]], 0),
+        (&[&[2, 0], &named(b"B"), &named(b"a"), &[0, 0]], 0),
+        (&[&[2, 0], &named(b"a-"), &named(b"a."), &[0, 0]], 0),
+        (&[&[2, 0], &named(b"b"), &named(b"a!"), &[0, 0]], 4),
+        (&[&[0; 60_001]], 1),
+        (&[&[255; 100_000]], 1),
+    ]);
+    books.extend([(many(1), 0), (many(64), 0), (many(65), 3)]);
+    books
+}
+
+/// Books on both sides of each limit of the blocks.
+fn block_books() -> Books {
+    let a = &[two_bytes(1), named(b"a")].concat()[..];
+    let ab = &[two_bytes(2), named(b"a"), named(b"b")].concat()[..];
+    joined(&[
+        (&[a], 2),
+        (&[a, &[0]], 2),
+        (&[a, &[0, 0]], 0),
+        (&[a, &[0, 0, 0]], 7),
+        (&[a, &[255, 255]], 2),
+        (&[a, &[255, 255, 1, 0]], 6),
+        (&[a, &[1, 0]], 2),
+        (&[a, &[1, 0, 0]], 2),
+        (&[a, &[1, 0, 0, 0]], 2),
+        (&[a, &[1, 0, 0, 0, 0]], 0),
+        (&[a, &[1, 0, 0, 0, 0, 0]], 7),
+        (&[a, &[1, 0, 0, 0, 255], &[0; 255]], 0),
+        (&[a, &[1, 0, 0, 0, 255], &[0; 254]], 2),
+        (&[ab, &[1, 0, 1, 0, 0]], 0),
+        (&[ab, &[1, 0, 2, 0, 0]], 6),
+        (&[ab, &[1, 0, 2]], 6),
+        (&[ab, &[1, 0, 0, 0, 1, 1]], 0),
+        (&[ab, &[1, 0, 0, 0, 1, 2]], 6),
+        (&[ab, &[1, 0, 0, 0, 2, 9]], 2),
+        (&[ab, &[1, 0, 0, 0, 1, 2, 0]], 6),
+        (&[ab, &[2, 0, 0, 0, 1, 1, 1, 0, 1, 9]], 6),
+        // The text byte comes behind the parent and before the child count, in each block.
+        (&[a, &[1, 0, 0, 1]], 2),
+        (&[a, &[1, 0, 0, 2]], 16),
+        (&[a, &[1, 0, 0, 2, 1]], 16),
+        (&[a, &[1, 0, 0, 2, 1, 1]], 16),
+        (&[a, &[1, 0, 0, 2, 0, 0]], 16),
+        (&[a, &[1, 0, 1, 2]], 6),
+        (&[a, &[1, 0, 0, 1, 1]], 2),
+        (&[a, &[1, 0, 0, 1, 1, 1]], 6),
+        (&[a, &[1, 0, 0, 1, 0, 2]], 7),
+        (&[ab, &[2, 0, 0, 1, 0, 1, 2]], 16),
+        (&[ab, &[2, 0, 0, 1, 1, 1, 1, 255, 0]], 16),
+        (&[ab, &[2, 0, 0, 0, 1, 2, 1, 2, 0]], 6),
+        (&[ab, &[2, 0, 0, 2, 0, 2, 0, 0]], 16),
+        (&[ab, &[2, 0, 0, 0, 0, 0, 1, 0]], 0),
+    ])
+}
+
+/// Every byte as a name's first and second byte, and as a text byte.
+fn byte_books() -> Books {
+    let mut books = Books::new();
     for b in 0..=255u8 {
-        let good = START.contains(&b);
-        books.push((of(&[&[1, 0], &named(&[b]), &[0, 0]]), if good { 0 } else { 4 }));
-        books.push((of(&[&[1, 0], &named(&[b'a', b]), &[0, 0]]), if LATER.contains(&b) { 0 } else { 4 }));
-    }
-    // 60,000 bytes and one more: 6 bytes, then 233 blocks of 257 and one of what is left.
-    for size in [60_000, 60_001] {
-        let mut book = of(&[&a, &two_bytes(234)]);
-        for _ in 0..233 {
-            book.extend([0, 255]);
-            book.extend([0; 255]);
-        }
-        let rest = size - book.len() - 2;
-        book.extend([0, rest as u8]);
-        book.extend(vec![0; rest]);
-        assert_eq!(book.len(), size);
-        books.push((book, if size == 60_000 { 0 } else { 1 }));
+        let number = |good: bool, bad: u8| if good { 0 } else { bad };
+        books.extend(joined(&[
+            (&[&[1, 0], &named(&[b]), &[0, 0]], number(START.contains(&b), 4)),
+            (&[&[1, 0], &named(&[b'a', b]), &[0, 0]], number(LATER.contains(&b), 4)),
+            (&[&[1, 0], &named(b"a"), &[1, 0, 0, b, 0]], number(b <= 1, 16)),
+        ]));
     }
     books
 }
 
+/// A book of 60,000 bytes and one of one byte more: 6 bytes, then 232 blocks of 258 and one of what is left.
+fn longest_books() -> Books {
+    [(60_000, 0), (60_001, 1)]
+        .map(|(size, number)| {
+            let block = [&[0, 0, 255][..], &[0; 255]].concat();
+            let mut book = [two_bytes(1), named(b"a"), two_bytes(233), block.repeat(232)].concat();
+            let rest = size - book.len() - 3;
+            book.extend([0, 0, rest as u8]);
+            book.extend(vec![0; rest]);
+            assert_eq!(book.len(), size);
+            (book, number)
+        })
+        .into()
+}
+
+/// Books on both sides of each limit.
+fn limit_books() -> Books {
+    [name_books(), block_books(), longest_books()].concat()
+}
+
+/// A refused book refuses every call, with the same number.
+fn refusal_due(call: &Call, number: u8) -> Answer {
+    match call {
+        Call::ModelOfParent { .. } => Answer::Model(number, EMPTY),
+        Call::WriteFromSample { buffer, .. } | Call::WriteDeclaration { buffer, .. } | Call::WriteDtd { buffer, .. } => {
+            Answer::Written(number, 0, buffer.clone())
+        }
+        Call::Dtd { .. } => Answer::Printed(format!("refused {number}\n").into_bytes()),
+        _ => Answer::Read(number, 0, EMPTY),
+    }
+}
+
 fn limits(c: &mut Chance, _: u64) -> Vec<Due> {
     let mut calls = Vec::new();
-    for (i, (book, number)) in limit_books().into_iter().enumerate() {
+    let mut add = |call: Call, number: u8| {
+        let due = (number != 0).then(|| refusal_due(&call, number));
+        calls.push((call, due));
+    };
+    let at_limits = limit_books().into_iter().map(|one| (one, true));
+    // Of the books for each byte one in eight is tried through the program too.
+    let of_bytes = byte_books().into_iter().enumerate().map(|(i, one)| (one, i % 8 == 0));
+    for ((book, number), to_program) in at_limits.chain(of_bytes) {
         for call in calls_of_book(c, &book, 0) {
-            // A refused book refuses every call, with the same number.
-            let due = (number != 0).then(|| match &call {
-                Call::ModelOfParent { .. } => Answer::Model(number, EMPTY),
-                Call::WriteFromSample { buffer, .. } | Call::WriteDeclaration { buffer, .. } | Call::WriteDtd { buffer, .. } => {
-                    Answer::Written(number, 0, buffer.clone())
-                }
-                _ => Answer::Read(number, 0, EMPTY),
-            });
-            calls.push((call, due));
+            add(call, number);
         }
-        // Names' bytes are tried once through the program in eight.
-        if i < 48 || i % 8 == 0 || book.len() > 1000 {
-            let due = (number != 0).then(|| Answer::Printed(format!("refused {number}\n").into_bytes()));
-            calls.push((Call::Dtd { book }, due));
+        if to_program {
+            add(Call::Dtd { book }, number);
         }
     }
     calls.extend(forms::white_space());
@@ -380,7 +432,7 @@ pub fn letters() -> Vec<Vec<u8>> {
 }
 
 /// The longest declaration and the longest DTD, which has that declaration for each of 64 parents, each with a buffer one byte
-/// short of it too; and the longest output of the program.
+/// short of it too; the longest output of the program; and the longest declaration with text.
 fn longest() -> Vec<Due> {
     let names: Vec<String> = (0..64).map(|i| format!("n{i:031}")).collect();
     let pairs: Vec<String> = names.chunks(2).map(|pair| format!("({})*", pair.join("|"))).collect();
@@ -389,7 +441,7 @@ fn longest() -> Vec<Due> {
     assert_eq!((texts[0].len(), printed.len()), (2253, dtds::LONGEST));
 
     // A word for each pair makes it a loop group of its own.
-    let words = |parent| (0..64).step_by(2).map(move |i| Block { parent, word: vec![i, i + 1, i] });
+    let words = |parent| (0..64).step_by(2).map(move |i| Block { parent, text: 0, word: vec![i, i + 1, i] });
     let blocks: Vec<Block> = (0..64).flat_map(words).collect();
     let names: Vec<Vec<u8>> = names.into_iter().map(String::into_bytes).collect();
     let record = Record::of(&(0..32).map(|i| (vec![2 * i, 2 * i + 1], 3)).collect::<Vec<_>>());
@@ -397,13 +449,26 @@ fn longest() -> Vec<Due> {
     let write = |size| Call::WriteDeclaration { book: book.clone(), parent: 0, record, buffer: vec![1; size] };
     let write_dtd = |size| Call::WriteDtd { book: book.clone(), buffer: vec![1; size] };
     let short = dtds::LONGEST - 1;
-    vec![
+    let mut calls = longest_with_text(&names);
+    calls.extend([
         (write(2252), Some(Answer::Written(12, 0, vec![1; 2252]))),
         (write(2253), Some(Answer::Written(0, 2253, texts[0].clone().into_bytes()))),
         (write_dtd(short), Some(Answer::Written(12, 0, vec![1; short]))),
         (write_dtd(dtds::LONGEST), Some(Answer::Written(0, dtds::LONGEST, printed.clone().into_bytes()))),
         (Call::Dtd { book: book.clone() }, Some(Answer::Printed(printed.into_bytes()))),
-    ]
+    ]);
+    calls
+}
+
+/// The longest declaration with text, which has all of these 64 names, written and read.
+fn longest_with_text(names: &[Vec<u8>]) -> Vec<Due> {
+    let text = [b"<!ELEMENT ", &names[0][..], b" (#PCDATA|", &names.join(&b'|'), b")*>"].concat();
+    assert_eq!(text.len(), 2166);
+    let (book, parent, record) = (bytes_of(names, &[]), 0, Record::with_text((0..64).collect()));
+    let write = |(buffer, due)| (Call::WriteDeclaration { book: book.clone(), parent, record, buffer }, Some(due));
+    let mut calls: Vec<Due> = exact_short_longer(&text).into_iter().map(write).collect();
+    calls.push((Call::ReadDeclaration { book, text }, Some(Answer::Read(0, parent, record))));
+    calls
 }
 
 /// Buffers for a text with what is due of them: exact, one byte short, and with bytes behind the text.
@@ -418,12 +483,11 @@ fn exact_short_longer(text: &[u8]) -> [(Vec<u8>, Answer); 3] {
     })
 }
 
-/// What the papers write out: the samples of paper 01, what stands under them, its example, and texts of declarations. Then pairs
-/// of records for request U4 of paper 02.
-fn paper(_: &mut Chance, _: u64) -> Vec<Due> {
-    let parent = 25;
-    let mut calls: Vec<Due> = Vec::new();
-    let samples: &[(&str, &str, Record)] = &[
+/// Samples with their models and records, the words in letters: those of paper 01, and with `#` before a word with text those of
+/// request U5 of paper 02.
+fn samples() -> Vec<(&'static str, &'static str, Record)> {
+    let text = |names: &str| Record::with_text(word(names));
+    vec![
         ("-", "EMPTY", EMPTY),
         ("a", "(a)", record(&[("a", 0)])),
         ("- a", "(a?)", record(&[("a", 1)])),
@@ -436,61 +500,106 @@ fn paper(_: &mut Chance, _: u64) -> Vec<Due> {
         ("kkb a", "(a?,k*,b?)", record(&[("a", 1), ("k", 3), ("b", 1)])),
         ("ac bbc", "(a?,b*,c)", record(&[("a", 1), ("b", 3), ("c", 0)])),
         ("abc ade abe", "(a,(b|d),(c|e))", record(&[("a", 0), ("bd", 0), ("ce", 0)])),
-    ];
-    for (sample, model, record) in samples {
-        let blocks: Vec<Block> = sample.split(' ').map(|w| Block { parent, word: word(w) }).collect();
-        let book = bytes_of(&letters(), &blocks);
-        let text = format!("<!ELEMENT z {model}>").into_bytes();
-        let parent = parent as usize;
-        calls.push((Call::ModelOfParent { book: book.clone(), parent }, Some(Answer::Model(0, *record))));
-        let line = [&text[..], b"\n"].concat();
-        for (buffer, due) in exact_short_longer(&line) {
-            calls.push((Call::WriteDtd { book: book.clone(), buffer }, Some(due)));
-        }
-        calls.push((Call::Dtd { book: book.clone() }, Some(Answer::Printed(line))));
-        for w in sample.split(' ') {
-            calls.push((Call::AcceptsWord { names: 26, record: *record, word: word(w) }, Some(Answer::Verdict(0, true))));
-        }
-        for (buffer, due) in exact_short_longer(&text) {
-            let call = Call::WriteFromSample { book: book.clone(), parent, buffer: buffer.clone() };
-            calls.push((call, Some(due.clone())));
-            calls.push((Call::WriteDeclaration { book: book.clone(), parent, record: *record, buffer }, Some(due)));
-        }
-        calls.push((Call::ReadDeclaration { book, text }, Some(Answer::Read(0, parent, *record))));
-    }
+        ("#-", "(#PCDATA)", text("")),
+        ("#- -", "(#PCDATA)", text("")),
+        ("- - #-", "(#PCDATA)", text("")),
+        ("#a", "(#PCDATA|a)*", text("a")),
+        ("#- a", "(#PCDATA|a)*", text("a")),
+        ("b #-", "(#PCDATA|b)*", text("b")),
+        ("#zb", "(#PCDATA|b|z)*", text("bz")),
+        ("cba #d", "(#PCDATA|a|b|c|d)*", text("abcd")),
+    ]
+}
 
-    let m = samples[9].2;
-    for (w, yes) in [("-", true), ("akkb", true), ("ka", false)] {
-        calls.push((Call::AcceptsWord { names: 26, record: m, word: word(w) }, Some(Answer::Verdict(0, yes))));
+/// What is due of a sample, its model and its record.
+fn calls_of_sample(sample: &str, model: &str, record: Record) -> Vec<Due> {
+    let mut calls: Vec<Due> = Vec::new();
+    let (parent, names) = (25, 26);
+    let words: Vec<(u8, Vec<u8>)> =
+        sample.split(' ').map(|w| (u8::from(w.starts_with('#')), word(w.trim_start_matches('#')))).collect();
+    let blocks: Vec<Block> = words.iter().map(|(text, word)| Block { parent: 25, text: *text, word: word.clone() }).collect();
+    let book = bytes_of(&letters(), &blocks);
+    let text = format!("<!ELEMENT z {model}>").into_bytes();
+    calls.push((Call::ModelOfParent { book: book.clone(), parent }, Some(Answer::Model(0, record))));
+    let line = [&text[..], b"\n"].concat();
+    for (buffer, due) in exact_short_longer(&line) {
+        calls.push((Call::WriteDtd { book: book.clone(), buffer }, Some(due)));
     }
+    calls.push((Call::Dtd { book: book.clone() }, Some(Answer::Printed(line))));
+    for (_, word) in words {
+        calls.push((Call::AcceptsWord { names, record, word }, Some(Answer::Verdict(0, true))));
+    }
+    for (buffer, due) in exact_short_longer(&text) {
+        let call = Call::WriteFromSample { book: book.clone(), parent, buffer: buffer.clone() };
+        calls.push((call, Some(due.clone())));
+        calls.push((Call::WriteDeclaration { book: book.clone(), parent, record, buffer }, Some(due)));
+    }
+    calls.push((Call::ReadDeclaration { book, text }, Some(Answer::Read(0, parent, record))));
+    calls
+}
+
+/// What stands under the samples of paper 01, and words of records with text.
+fn words() -> Vec<Due> {
+    let chain = record(&[("a", 1), ("k", 3), ("b", 1)]);
     let star = record(&[("a", 3)]);
-    calls.push((Call::AcceptsWord { names: 1, record: star, word: vec![0; 255] }, Some(Answer::Verdict(0, true))));
-    calls.push((Call::AcceptsWord { names: 1, record: star, word: vec![0; 256] }, Some(Answer::Verdict(11, false))));
-    for (names, number, yes) in [(0, 3, false), (1, 0, true), (64, 0, true), (65, 3, false)] {
-        calls.push((Call::AcceptsWord { names, record: EMPTY, word: vec![] }, Some(Answer::Verdict(number, yes))));
+    let (text, mixed) = (Record::with_text(vec![]), Record::with_text(word("ac")));
+    let mut calls = Vec::new();
+    let mut add = |names: usize, record: Record, word: Vec<u8>, number: u8, yes: bool| {
+        calls.push((Call::AcceptsWord { names, record, word }, Some(Answer::Verdict(number, yes))));
+    };
+    for (w, yes) in [("-", true), ("akkb", true), ("ka", false)] {
+        add(26, chain, word(w), 0, yes);
     }
+    add(1, star, vec![0; 255], 0, true);
+    add(1, star, vec![0; 256], 11, false);
+    for (names, number, yes) in [(0, 3, false), (1, 0, true), (64, 0, true), (65, 3, false)] {
+        add(names, EMPTY, vec![], number, yes);
+    }
+    for (w, of_text, of_mixed) in [("-", true, true), ("a", false, true), ("cac", false, true), ("ab", false, false)] {
+        add(26, text, word(w), 0, of_text);
+        add(26, mixed, word(w), 0, of_mixed);
+    }
+    for bad in bad_texts() {
+        add(26, bad, vec![], 10, false);
+        add(26, bad, vec![0; 256], 10, false);
+    }
+    calls
+}
 
-    // The three samples of one feed; a block with both contribution and leaver is turned away.
+/// Records that are chains over the names a and b, and whose text byte does not fit.
+pub fn bad_texts() -> Vec<Record> {
+    let with = |text: u8, factors: &[(&str, u8)]| Record { text, ..record(factors) };
+    let mut bad = vec![with(1, &[("a", 3), ("b", 3)]), with(2, &[]), with(255, &[]), with(2, &[("ab", 3)]), with(2, &[("a", 0)])];
+    bad.extend((0..3).map(|mode| with(1, &[("ab", mode)])));
+    bad
+}
+
+/// The three samples of one feed; a block with both contribution and leaver is turned away.
+fn feed() -> Vec<Due> {
     let feed: Vec<Vec<u8>> =
         ["contribution", "entry", "leaver", "member", "reason", "total"].iter().map(|n| n.as_bytes().to_vec()).collect();
-    let blocks: Vec<Block> = [[3u8, 0, 5], [3, 2, 4], [3, 0, 4]].iter().map(|w| Block { parent: 1, word: w.to_vec() }).collect();
-    let book = bytes_of(&feed, &blocks);
+    let block = |word: &[u8; 3]| Block { parent: 1, text: 0, word: word.to_vec() };
+    let book = bytes_of(&feed, &[[3, 0, 5], [3, 2, 4], [3, 0, 4]].each_ref().map(block));
     let model = Record::of(&[(vec![3], 0), (vec![0, 2], 0), (vec![4, 5], 0)]);
     let text = b"<!ELEMENT entry (member,(contribution|leaver),(reason|total))>";
     let no_block = bytes_of(&feed, &[]);
+    let mut calls = Vec::new();
     for (book, printed) in [(book.clone(), [&text[..], b"\n"].concat()), (no_block, vec![])] {
         for (buffer, due) in exact_short_longer(&printed) {
             calls.push((Call::WriteDtd { book: book.clone(), buffer }, Some(due)));
         }
         calls.push((Call::Dtd { book }, Some(Answer::Printed(printed))));
     }
-    calls.push((Call::ModelOfParent { book: book.clone(), parent: 1 }, Some(Answer::Model(0, model))));
-    calls.push((Call::ModelOfParent { book: book.clone(), parent: 0 }, Some(Answer::Model(9, EMPTY))));
-    calls.push((Call::ModelOfParent { book: book.clone(), parent: 6 }, Some(Answer::Model(8, EMPTY))));
+    for (parent, due) in [(1, Answer::Model(0, model)), (0, Answer::Model(9, EMPTY)), (6, Answer::Model(8, EMPTY))] {
+        calls.push((Call::ModelOfParent { book: book.clone(), parent }, Some(due)));
+    }
     calls.push((Call::AcceptsWord { names: 6, record: model, word: vec![3, 0, 2, 4] }, Some(Answer::Verdict(0, false))));
-
-    calls.extend(longest());
-    calls.extend(forms::texts());
-    calls.extend(pairs::written_down());
     calls
+}
+
+/// What the papers write out: the samples, what stands under them, the example of paper 01, and texts of declarations. Then pairs
+/// of records for request U4 of paper 02.
+fn paper(_: &mut Chance, _: u64) -> Vec<Due> {
+    let of_samples = samples().into_iter().flat_map(|(sample, model, record)| calls_of_sample(sample, model, record));
+    of_samples.chain(words()).chain(feed()).chain(longest()).chain(forms::texts()).chain(pairs::written_down()).collect()
 }

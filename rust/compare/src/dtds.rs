@@ -33,7 +33,7 @@ fn many_parents(c: &mut Chance) -> Parts {
     let most = if c.once_in(4) { 64 } else { 6 };
     let mut blocks: Vec<Block> = Vec::new();
     for parent in some_names(c, n, most) {
-        blocks.extend(sample(c, n).into_iter().map(|word| Block { parent, word }));
+        blocks.extend(self::blocks(c, n, parent));
     }
     match c.below(4) {
         0 => blocks.sort_by_key(|block| block.parent),
@@ -62,10 +62,12 @@ fn refused_books(c: &mut Chance, parts: &Parts) -> Vec<Due> {
     // The count of all blocks, and the bytes of those before.
     let blocks_at = bytes_of(&parts.names, &[]).len();
     let cut = [&good[..blocks_at], &bytes_of(&parts.names, &parts.blocks[..before])[blocks_at..]].concat();
+    let parent = parts.blocks[before].parent;
     let far_parent = [&cut[..], &[n as u8, 0]].concat();
-    let far_child = [&cut[..], &[parts.blocks[before].parent, 2, 0, n as u8]].concat();
+    let bad_text = [&cut[..], &[parent, 2]].concat();
+    let far_child = [&cut[..], &[parent, 1, 2, 0, n as u8]].concat();
     let left_over = [&good[..], &[0]].concat();
-    let bad = [(&cut, 2), (&far_parent, 6), (&far_child, 6), (&left_over, 7)];
+    let bad = [(&cut, 2), (&far_parent, 6), (&bad_text, 16), (&far_child, 6), (&left_over, 7)];
     let mut calls: Vec<Due> = bad.map(|(book, number)| refused(c, book.clone(), number, room)).into();
     // The book's refusal comes before that of the buffer.
     calls.extend(bad.map(|(book, number)| refused(c, book.clone(), number, 0)));

@@ -1,11 +1,12 @@
-//! Declarations to read. With the answers written down: the texts that paper 01 and request U1 of paper 02 name, texts near them,
-//! and every byte where white space has to be, may be or may not be. And every beginning with every token and every ending.
+//! Declarations to read. With the answers written down: the texts that paper 01 and requests U1 and U5 of paper 02 name,
+//! texts near them, and every byte where white space has to be, may be or may not be. And every beginning with every token and
+//! every ending.
 
 use crate::calls::{Answer, Call};
-use crate::cases::{letters, record, Due, Factors};
+use crate::cases::{letters, record, word, Due, Factors};
 use crate::make::{LATER, WHITE};
 use second::book::bytes_of;
-use second::record::EMPTY;
+use second::record::{Record, EMPTY};
 
 /// Models that are read.
 const READ: &[(&str, Factors)] = &[
@@ -35,6 +36,20 @@ const READ: &[(&str, Factors)] = &[
     ("((a|b)*)", &[("ab", 3)]),
 ];
 
+/// Models with text that are read, and their names.
+const READ_WITH_TEXT: &[(&str, &str)] = &[
+    ("(#PCDATA)", ""),
+    ("(#PCDATA)*", ""),
+    ("( #PCDATA )", ""),
+    ("\t(\n#PCDATA\r)*  ", ""),
+    ("(#PCDATA|a)*", "a"),
+    ("( #PCDATA | a )*", "a"),
+    ("(#PCDATA|a|b)*", "ab"),
+    ("(#PCDATA|b|a)*", "ab"),
+    ("(#PCDATA|z|a)*\r\n", "az"),
+    ("(#PCDATA\t|c\n|\ra|b )*", "abc"),
+];
+
 /// Models that are refused, with their numbers.
 const REFUSED: &[(u8, &[&str])] = &[
     (13, &["()", "()*", "(,a)", "(a,)", "(|a)", "(a|)", "(a b)", "a", "a*", "(a", "a)", "(a))", "(a)b", "(a)(b)", "(a;b)"]),
@@ -43,7 +58,13 @@ const REFUSED: &[(u8, &[&str])] = &[
     (13, &["(a ?)", "(a) *", "(a|b) *", "(a|b)\n*", "(a)\t?", "((a|b) *)", "((a) ?)", "((a)\r+,b)", "(a\n*)"]),
     (13, &["((a?),b)", "((a*))", "((a)|b)", "(a|(b))", "((a)|(b))", "((a,b))", "((a),(b,c))", "((),a)"]),
     (13, &["(((a)))", "(((a|b)))", "(((a)),b)", "ANY", "EMPTYx", "EMPTY EMPTY", "(EMPTY", "EMPTY()"]),
-    (13, &["(9)", "(9)*", "(a|-b)", "((.a),b)", "(#PCDATA)", "(#PCDATA|a)*"]),
+    (13, &["(9)", "(9)*", "(a|-b)", "((.a),b)", "(#)", "(#a)", "(a|#)*"]),
+    (13, &["(#PCDATA)+", "(#PCDATA)?", "(#PCDATA|a)", "(a|#PCDATA)*", "(#PCDATA,a)*", "((#PCDATA))", "(#PCDATA|(a))*"]),
+    (13, &["(#PCDATA) *", "#PCDATA", "(#PCDATA|#PCDATA)*", "(#PCDATA|a)+", "(#PCDATA|a?)*", "(#PCDATAx)", "(# PCDATA)"]),
+    (13, &["(#pcdata)", "#PCDATA*", "(#PCDATA", "(#PCDATA|)*", "(#PCDATA|a) *", "(#PCDATA)**", "(#PCDATA|a)**", "(#PCDATA*)"]),
+    (13, &["(#PCDATA|a)?", "(#PCDATA a)*", "((#PCDATA)*)", "((#PCDATA|a)*)", "(a,#PCDATA)", "(#PCDATA|a,b)*", "(#PCDATA|9)*"]),
+    (14, &["(PCDATA)", "(#PCDATA|aa)*", "(#PCDATA|a|a|aa)*", "(#PCDATA|PCDATA)*"]),
+    (15, &["(#PCDATA|a|a)*", "(#PCDATA|b|a|b)*", "(#PCDATA|z|z)*"]),
     (14, &["(aa)", "(aa)*", "(a|aa)", "((aa))", "((aa)?,b)", "(a,a,aa)", "(a|a|aa)+", "((a),(a),aa)", "(aa,aa)"]),
     (15, &["(a,a)", "((a|a))", "(a|a)", "(a|b|a)*", "((a),a)", "(a,(a)?)", "((a),(a))", "((a),(b|a)*)"]),
 ];
@@ -77,6 +98,11 @@ const NO_TEXTS: &[&[u8]] = &[
     b"<!ELEMENT z (a|\0b)>",
 ];
 
+/// The record with text and these names in letters.
+fn with_text(names: &str) -> Record {
+    Record::with_text(word(names))
+}
+
 /// What is due of a text that is refused.
 fn refused(number: u8) -> Answer {
     Answer::Read(number, 0, EMPTY)
@@ -88,18 +114,20 @@ pub fn texts() -> Vec<Due> {
     let call = |text: &[u8], due: Answer| (Call::ReadDeclaration { book: book.clone(), text: text.to_vec() }, Some(due));
     let of_model = |model: &str, due: Answer| call(format!("<!ELEMENT z {model}>").as_bytes(), due);
     let mut calls: Vec<Due> = READ.iter().map(|(model, factors)| of_model(model, Answer::Read(0, 25, record(factors)))).collect();
+    calls.extend(READ_WITH_TEXT.iter().map(|(model, names)| of_model(model, Answer::Read(0, 25, with_text(names)))));
     for (number, models) in REFUSED {
         calls.extend(models.iter().map(|model| of_model(model, refused(*number))));
     }
     calls.extend(NO_TEXTS.iter().map(|text| call(text, refused(13))));
     // An unknown parent, where the names of the model are good, unknown or there twice.
-    for model in ["EMPTY", "(a)*", "(a|b)", "(a|aa)", "(a|a)", "((a),a)"] {
+    for model in ["EMPTY", "(a)*", "(a|b)", "(a|aa)", "(a|a)", "((a),a)", "(#PCDATA)", "(#PCDATA|a|a)*"] {
         calls.push(call(format!("<!ELEMENT zz {model}>").as_bytes(), refused(14)));
     }
     // A name of 32 bytes is good, and not in the book; one of 33 is bad.
     for (size, number) in [(32, 14), (33, 13)] {
         let long = "x".repeat(size);
-        for model in [format!("({long})"), format!("({long})?"), format!("(a|{long})*"), format!("((\n{long}),a)")] {
+        let of_text = format!("(#PCDATA|{long})*");
+        for model in [format!("({long})"), format!("({long})?"), format!("(a|{long})*"), format!("((\n{long}),a)"), of_text] {
             calls.push(of_model(&model, refused(number)));
         }
     }
@@ -113,6 +141,10 @@ const PLACED: &[(&str, Factors)] = &[
     ("<!ELEMENT_z_~(~a~|~b~)^*~>", &[("ab", 3)]),
     ("<!ELEMENT_z_(~a^+~,~(~b~)^?~,~(~d~|~c~)^*~)~>", &[("a", 2), ("b", 1), ("cd", 3)]),
 ];
+
+/// The same of models with text, and their names.
+const PLACED_WITH_TEXT: &[(&str, &str)] =
+    &[("<!ELEMENT_z_~(~#^P^CDATA~)~>", ""), ("<!ELEMENT_z_~(~#PCDATA~)^*~>", ""), ("<!ELEMENT_z_~(~#PCDATA~|~b~|~a~)^*~>", "ab")];
 
 /// The text with these bytes at one of its places. Of the others only those that need it have white space.
 fn with_bytes(text: &str, place: usize, bytes: &[u8]) -> Vec<u8> {
@@ -133,14 +165,16 @@ fn with_bytes(text: &str, place: usize, bytes: &[u8]) -> Vec<u8> {
 pub fn white_space() -> Vec<Due> {
     let book = bytes_of(&letters(), &[]);
     let mut calls: Vec<Due> = Vec::new();
-    for (text, factors) in PLACED {
+    let of_factors = PLACED.iter().map(|(text, factors)| (text, record(factors)));
+    let of_text = PLACED_WITH_TEXT.iter().map(|(text, names)| (text, with_text(names)));
+    for (text, record) in of_factors.chain(of_text) {
         let mut call = |at: usize, bytes: &[u8], due: Option<Answer>| {
             calls.push((Call::ReadDeclaration { book: book.clone(), text: with_bytes(text, at, bytes) }, due));
         };
         for (at, place) in text.bytes().enumerate().filter(|(_, place)| b"_~^".contains(place)) {
             for byte in 0..=255 {
                 let due = match (place, WHITE.contains(&byte)) {
-                    (b'_' | b'~', true) => Some(Answer::Read(0, 25, record(factors))),
+                    (b'_' | b'~', true) => Some(Answer::Read(0, 25, record)),
                     (b'_', false) | (b'^', true) => Some(refused(13)),
                     _ if LATER.contains(&byte) || b"?+*".contains(&byte) => None,
                     _ => Some(refused(13)),
@@ -157,17 +191,56 @@ pub fn white_space() -> Vec<Due> {
 
 /// Beginnings of declarations behind `<!ELEMENT`, one for each place of the grammar.
 const BEGINNINGS: &[&str] = &[
-    "", " z", " z EMPTY", " z (", " z (a", " z (a|", " z (a|b", " z (a)", " z (a)*", " z (a,", " z (a,b", " z (a?", " z ((",
-    " z ((a", " z ((a|", " z ((a)", " z (a)>",
+    "",
+    " z",
+    " z EMPTY",
+    " z (",
+    " z (a",
+    " z (a|",
+    " z (a|b",
+    " z (a)",
+    " z (a)*",
+    " z (a,",
+    " z (a,b",
+    " z (a?",
+    " z ((",
+    " z ((a",
+    " z ((a|",
+    " z ((a)",
+    " z (a)>",
+    " z (#PCDATA",
+    " z (#PCDATA|",
+    " z (#PCDATA|a",
+    " z (#PCDATA|a)",
+    " z (#PCDATA)",
 ];
 
 /// Each token, a byte that is none, and nothing.
-const TOKENS: &[&str] = &["c", "EMPTY", "(", ")", ",", "|", ">", "?", "+", "*", "#", ""];
+const TOKENS: &[&str] = &["c", "EMPTY", "#PCDATA", "(", ")", ",", "|", ">", "?", "+", "*", "#", ""];
 
 /// Endings: for each place one or more that end a declaration.
 const ENDINGS: &[&str] = &[
-    "", ">", "*>", ")>", ")*>", "))>", ")*)>", "d)>", "d)*>", "d))>", "|d)>", "|d)*>", "|d))>", ",d)>", ",(d))>", "(d)>",
-    "(d))>", "z (d)>", "z EMPTY>", "EMPTY>",
+    "",
+    ">",
+    "*>",
+    ")>",
+    ")*>",
+    "))>",
+    ")*)>",
+    "d)>",
+    "d)*>",
+    "d))>",
+    "|d)>",
+    "|d)*>",
+    "|d))>",
+    ",d)>",
+    ",(d))>",
+    "(d)>",
+    "(d))>",
+    "z (d)>",
+    "z EMPTY>",
+    "EMPTY>",
+    "z (#PCDATA)>",
 ];
 
 /// Every token between every beginning and every ending, with and without white space before it and behind it.

@@ -8,12 +8,13 @@ use std::collections::BTreeSet;
 pub const START: &[u8] = b"ABCDEFGHIJKLMNOPQRSTUVWXYZabcdefghijklmnopqrstuvwxyz_";
 pub const LATER: &[u8] = b"ABCDEFGHIJKLMNOPQRSTUVWXYZabcdefghijklmnopqrstuvwxyz_0123456789-.";
 
-/// A good name. Many are short, some have the full 32 bytes, and `EMPTY` and `ANY` are names too.
+/// A good name. Many are short, some have the full 32 bytes, and `EMPTY`, `ANY` and `PCDATA` are names too.
 pub fn name(c: &mut Chance) -> Vec<u8> {
     match c.below(24) {
         0 => return b"EMPTY".to_vec(),
         1 => return b"ANY".to_vec(),
         2 => return b"ELEMENT".to_vec(),
+        3 => return b"PCDATA".to_vec(),
         _ => {}
     }
     let size = match c.below(6) {
@@ -76,11 +77,36 @@ pub fn chain(c: &mut Chance, n: usize) -> Record {
     Record::of(&factors)
 }
 
-/// A record that is no chain over n names, or may be none.
+/// A model with text over n names: one of six without names.
+pub fn model_with_text(c: &mut Chance, n: usize) -> Record {
+    let most = if c.once_in(4) { 64 } else { 8 };
+    Record::with_text(if c.once_in(6) { vec![] } else { some_names(c, n, most) })
+}
+
+/// A model over n names, one of three with text.
+pub fn model(c: &mut Chance, n: usize) -> Record {
+    if c.once_in(3) {
+        model_with_text(c, n)
+    } else {
+        chain(c, n)
+    }
+}
+
+/// Makes the text byte one that fits no chain, or may not fit this one.
+fn damage_text_byte(c: &mut Chance, r: &mut Record) {
+    match c.below(5) {
+        0 => r.text = *c.pick(&[2, 3, 128, 255]),
+        1 => r.text = c.byte(),
+        2 if r.count == 1 => (r.text, r.mode[0]) = (1, c.below(4) as u8),
+        _ => r.text = 1,
+    }
+}
+
+/// A record that is no model over n names, or may be none.
 pub fn damaged_record(c: &mut Chance, n: usize, good: &Record) -> Record {
     let mut r = *good;
     let place = c.below(64);
-    match c.below(12) {
+    match c.below(15) {
         0 => r.count = *c.pick(&[0, r.count + 1, r.count.wrapping_sub(1), 64, 65, 256, 256 + r.count, usize::MAX]),
         1 => r.factor[place] = c.byte(),
         2 => r.factor[place] = r.count as u8,
@@ -100,6 +126,7 @@ pub fn damaged_record(c: &mut Chance, n: usize, good: &Record) -> Record {
                 }
             }
         }
+        11..=13 => damage_text_byte(c, &mut r),
         _ => {
             r.count = c.below(70);
             for x in 0..64 {
@@ -275,15 +302,27 @@ impl Parts {
     }
 }
 
+/// The blocks of a parent with a sample over n names. Of three parents one has text in some of them or in all, and of three with
+/// text one has no children.
+pub fn blocks(c: &mut Chance, n: usize, parent: u8) -> Vec<Block> {
+    let mut words = sample(c, n);
+    let has_text = c.once_in(3);
+    if has_text && c.once_in(3) {
+        words.iter_mut().for_each(Vec::clear);
+    }
+    let sure = c.below(words.len());
+    let among = *c.pick(&[1, 2, 9 * words.len()]);
+    let block = |(i, word)| Block { parent, text: u8::from(has_text && (i == sure || c.once_in(among))), word };
+    words.into_iter().enumerate().map(block).collect()
+}
+
 /// A small book: a few parents with samples of several shapes, their blocks in any order.
 pub fn small_book(c: &mut Chance) -> Parts {
     let n = count(c);
     let names = names(c, n);
-    let mut blocks = Vec::new();
+    let mut blocks: Vec<Block> = Vec::new();
     for parent in some_names(c, n, 4) {
-        for word in sample(c, n) {
-            blocks.push(Block { parent, word });
-        }
+        blocks.extend(self::blocks(c, n, parent));
     }
     if c.once_in(15) {
         blocks.clear();
@@ -292,7 +331,7 @@ pub fn small_book(c: &mut Chance) -> Parts {
     Parts { names, blocks }
 }
 
-/// A book of exactly `size` bytes: many blocks, some of them long.
+/// A book of exactly `size` bytes: many blocks, some of them long. Every fourth parent has text in some of its blocks.
 pub fn large_book(c: &mut Chance, size: usize) -> Parts {
     let n = c.from_to(1, 64);
     let names = names(c, n);
@@ -300,7 +339,7 @@ pub fn large_book(c: &mut Chance, size: usize) -> Parts {
     let parents = some_names(c, n, 64);
     let shape = c.below(3);
     let mut blocks: Vec<Block> = Vec::new();
-    while left >= 2 {
+    while left >= 3 {
         let parent = *c.pick(&parents);
         let words = match shape {
             0 => sample(c, n),
@@ -308,19 +347,17 @@ pub fn large_book(c: &mut Chance, size: usize) -> Parts {
             _ => vec![(0..255).map(|i| ((i * n / 255) as u8 + c.below(2) as u8).min(n as u8 - 1)).collect()],
         };
         for mut word in words {
-            if left < 2 {
+            if left < 3 {
                 break;
             }
-            word.truncate(left - 2);
-            left -= 2 + word.len();
-            blocks.push(Block { parent, word });
+            word.truncate(left - 3);
+            left -= 3 + word.len();
+            blocks.push(Block { parent, text: u8::from(parent % 4 == 1 && c.once_in(3)), word });
         }
     }
-    // One byte that no block can fill lengthens the shortest word.
-    if left == 1 {
-        let shortest = blocks.iter_mut().min_by_key(|b| b.word.len()).unwrap();
-        shortest.word.push(0);
-    }
+    // One byte or two that no block can fill lengthen the shortest word.
+    let shortest = blocks.iter_mut().min_by_key(|b| b.word.len()).unwrap();
+    shortest.word.extend(vec![0; left]);
     Parts { names, blocks }
 }
 
@@ -345,11 +382,12 @@ pub fn damaged_book(c: &mut Chance, good: &[u8]) -> Vec<u8> {
     b
 }
 
-/// A book with bad names or numbers where all else is good: names out of order, twice or misspelled, or a number not below N.
+/// A book with bad names, numbers or text bytes where all else is good: names out of order, twice or misspelled, a number not
+/// below N, or a text byte above 1.
 pub fn damaged_parts(c: &mut Chance, parts: &mut Parts) -> Vec<u8> {
     let n = parts.names.len();
     let i = c.below(n);
-    match c.below(5) {
+    match c.below(6) {
         0 if i + 1 < n => parts.names.swap(i, i + 1),
         1 if i + 1 < n => parts.names[i + 1] = parts.names[i].clone(),
         2 => {
@@ -360,6 +398,10 @@ pub fn damaged_parts(c: &mut Chance, parts: &mut Parts) -> Vec<u8> {
         3 if !parts.blocks.is_empty() => {
             let k = c.below(parts.blocks.len());
             parts.blocks[k].parent = *c.pick(&[n as u8 - 1, n as u8, 255]);
+        }
+        4 if !parts.blocks.is_empty() => {
+            let k = c.below(parts.blocks.len());
+            parts.blocks[k].text = *c.pick(&[0, 1, 2, 3, 255]);
         }
         _ if !parts.blocks.is_empty() => {
             let k = c.below(parts.blocks.len());
@@ -373,6 +415,9 @@ pub fn damaged_parts(c: &mut Chance, parts: &mut Parts) -> Vec<u8> {
     }
     parts.bytes()
 }
+
+/// What stands for text in a declaration.
+pub const PCDATA: &[u8] = b"#PCDATA";
 
 /// White space of a declaration: production 3 of XML 1.0.
 pub const WHITE: &[u8] = b" \t\r\n";
@@ -410,13 +455,35 @@ fn factor(c: &mut Chance, names: &[Vec<u8>], r: &Record, i: usize, bracketed: bo
     }
 }
 
+/// A model with text: its names in any order, and a star, which may also be there without names.
+fn text_model(c: &mut Chance, names: &[Vec<u8>], r: &Record, t: &mut Vec<u8>) {
+    let mut held = r.names_of(0);
+    c.shuffle(&mut held);
+    t.push(b'(');
+    any_white(c, t);
+    t.extend(PCDATA);
+    any_white(c, t);
+    for x in held {
+        t.push(b'|');
+        any_white(c, t);
+        t.extend(&names[x as usize]);
+        any_white(c, t);
+    }
+    t.push(b')');
+    if r.count > 0 || c.once_in(3) {
+        t.push(b'*');
+    }
+}
+
 /// A spelling of a declaration that the reader takes.
 pub fn spelling(c: &mut Chance, names: &[Vec<u8>], parent: usize, r: &Record) -> Vec<u8> {
     let mut t = b"<!ELEMENT".to_vec();
     some_white(c, &mut t);
     t.extend(&names[parent]);
     some_white(c, &mut t);
-    if r.count == 0 {
+    if r.text == 1 {
+        text_model(c, names, r, &mut t);
+    } else if r.count == 0 {
         t.extend(b"EMPTY");
     } else if r.count == 1 && c.once_in(2) {
         factor(c, names, r, 0, true, &mut t);
@@ -494,15 +561,61 @@ fn bracket(c: &mut Chance, t: &mut Vec<u8>) {
     }
 }
 
+/// What may be by mistake where `#PCDATA` is due.
+const MISSPELLED: &[&[u8]] = &[
+    b"",
+    b"PCDATA",
+    b"#pcdata",
+    b"# PCDATA",
+    b"#P CDATA",
+    b"#PCDAT",
+    b"#PCDATAx",
+    b"#PCDATA.",
+    b"##PCDATA",
+    b"#PCDATA#",
+    b"#PCDATA*",
+    b"#PCDATA a",
+    b"#PCDATA,",
+    b"(#PCDATA)",
+    b"#PCDATA|#PCDATA",
+];
+
+/// Puts `#PCDATA` before a name or behind it. Where it is there already, it is misspelled or exchanged with a name, or what is
+/// behind the last bracket is changed.
+fn damage_pcdata(c: &mut Chance, t: &mut Vec<u8>) {
+    let places = name_places(t);
+    let Some(of_model) = places.get(1..).filter(|some| !some.is_empty()) else { return };
+    let &(a, b) = c.pick(of_model);
+    let Some(at) = t.windows(PCDATA.len()).position(|bytes| bytes == PCDATA) else {
+        let (to, new) = *c.pick(&[(a, &b"#PCDATA|"[..]), (a, b"#PCDATA,"), (b, b"|#PCDATA"), (a, b"#")]);
+        t.splice(to..to, new.iter().copied());
+        return;
+    };
+    match c.below(4) {
+        0 => drop(t.splice(at..at + PCDATA.len(), c.pick(MISSPELLED).iter().copied())),
+        1 if at + PCDATA.len() < a => {
+            let name = t[a..b].to_vec();
+            t.splice(a..b, PCDATA.iter().copied());
+            t.splice(at..at + PCDATA.len(), name);
+        }
+        _ => {
+            let close = t.iter().rposition(|b| *b == b')').unwrap_or(0) + 1;
+            let star = usize::from(t.get(close) == Some(&b'*'));
+            let new = *c.pick(&[&b""[..], b"*", b"?", b"+", b" *", b"**"]);
+            t.splice(close..close + star, new.iter().copied());
+        }
+    }
+}
+
 /// A text near a good one: bytes changed, brackets, marks or white space added, names replaced by others of the book, by unknown
-/// ones or by bad ones.
+/// ones or by bad ones, `#PCDATA` put in or changed.
 pub fn damaged_text(c: &mut Chance, names: &[Vec<u8>], good: &[u8]) -> Vec<u8> {
     let mut t = good.to_vec();
     if t.is_empty() {
         return t;
     }
     let at = c.below(t.len());
-    match c.below(16) {
+    match c.below(20) {
         0 => drop(t.remove(at)),
         1 => t.insert(at, *c.pick(BYTES)),
         2 => t[at] = *c.pick(BYTES),
@@ -513,6 +626,7 @@ pub fn damaged_text(c: &mut Chance, names: &[Vec<u8>], good: &[u8]) -> Vec<u8> {
         7..=10 => rename(c, names, &mut t),
         11 | 12 => beside_sign(c, &mut t),
         13 | 14 => bracket(c, &mut t),
+        15..=18 => damage_pcdata(c, &mut t),
         _ => {
             // A piece twice: brackets, commas and names with them.
             let to = c.from_to(at, (at + 12).min(t.len()));

@@ -1,8 +1,9 @@
 //! Calls on two records: every pair of chains over three names; pairs by chance over up to 64 names, most of them near each other
-//! or one wider than the other; records, counts and buffers that are refused; and pairs whose answers are written down.
+//! or one wider than the other, some with text; records, counts and buffers that are refused; and pairs whose answers are written
+//! down.
 
 use crate::calls::{Answer, Call};
-use crate::cases::{record, word, Due, Factors};
+use crate::cases::{bad_texts, record, word, Due, Factors};
 use crate::chance::Chance;
 use crate::make::*;
 use second::calls::MOST_COUNTEREXAMPLE;
@@ -187,10 +188,23 @@ fn once_more(c: &mut Chance, n: usize) -> (Record, Record) {
     (first, second)
 }
 
-/// Two chains over n names.
+/// Records with and without text that accept the same words, with one name more and with names by chance.
+fn with_text(c: &mut Chance, n: usize) -> (Record, Record) {
+    let first = model_with_text(c, n);
+    match c.below(3) {
+        0 => (first, Record { text: 0, ..first }),
+        1 => {
+            let more = new_name(c, n, &list_of(&first));
+            (first, Record::with_text(first.names_of(0).into_iter().chain(more).collect()))
+        }
+        _ => (first, model_with_text(c, n)),
+    }
+}
+
+/// Two models over n names.
 fn pair(c: &mut Chance, n: usize) -> (Record, Record) {
     let first = if c.once_in(2) { full_chain(c, n) } else { chain(c, n) };
-    match c.below(8) {
+    match c.below(10) {
         0 => (first, chain(c, n)),
         1 => (first, full_chain(c, n)),
         2 => of_samples(c, n),
@@ -199,6 +213,8 @@ fn pair(c: &mut Chance, n: usize) -> (Record, Record) {
             let second = near(c, n, &first);
             (first, near(c, n, &second))
         }
+        5 => (first, model_with_text(c, n)),
+        6 => with_text(c, n),
         _ => (first, near(c, n, &first)),
     }
 }
@@ -275,19 +291,29 @@ fn repeats_at(factor: u8) -> Record {
     Record::of(&(0..64).map(|i| (vec![63 - i], if i == factor { 2 } else { 0 })).collect::<Vec<_>>())
 }
 
-/// Pairs with their answers, and the limits of the buffer and of the word's length.
+/// The record, and the same with text where that is a model too.
+fn with_and_without_text(record: Record) -> Vec<Record> {
+    [record, Record { text: 1, ..record }].into_iter().filter(|record| record.is_model(26)).collect()
+}
+
+/// Two records with the word that shows a no, if there is one, and buffers on both sides of the limit.
+fn answered(first: Record, second: Record, shown_by: Option<&str>) -> Vec<Due> {
+    let refused = [0, 1, 64].map(|size| kept(26, first, second, vec![0xa5; size], 12));
+    let answered = [65, 66, 300].map(|size| match shown_by {
+        None => kept(26, first, second, vec![0xa5; size], 0),
+        Some(letters) => shown(26, first, second, vec![0xa5; size], &word(letters)),
+    });
+    refused.into_iter().chain(answered).collect()
+}
+
+/// Pairs with their answers, which text does not change, and the limits of the buffer and of the word's length.
 pub fn written_down() -> Vec<Due> {
     let mut calls = Vec::new();
     for (first, second, shown_by) in PAIRS {
-        let (first, second) = (record(first), record(second));
-        for size in [0, 1, 64] {
-            calls.push(kept(26, first, second, vec![0xa5; size], 12));
-        }
-        for size in [65, 66, 300] {
-            calls.push(match shown_by {
-                None => kept(26, first, second, vec![0xa5; size], 0),
-                Some(letters) => shown(26, first, second, vec![0xa5; size], &word(letters)),
-            });
+        for first in with_and_without_text(record(first)) {
+            for second in with_and_without_text(record(second)) {
+                calls.extend(answered(first, second, *shown_by));
+            }
         }
     }
     for factor in 0..64 {
@@ -297,7 +323,9 @@ pub fn written_down() -> Vec<Due> {
         calls.push(kept(64, repeats_at(64), repeats_at(factor), vec![0xa5; 65], 0));
     }
     let bad = Record { count: 1, ..EMPTY };
-    for (names, first, second, number) in [(0, bad, bad, 3), (65, EMPTY, EMPTY, 3), (1, bad, EMPTY, 10), (64, EMPTY, bad, 10)] {
+    let mut refused = vec![(0, bad, bad, 3), (65, EMPTY, EMPTY, 3), (1, bad, EMPTY, 10), (64, EMPTY, bad, 10)];
+    refused.extend(bad_texts().into_iter().flat_map(|bad| [(2, bad, EMPTY, 10), (2, EMPTY, bad, 10), (65, bad, bad, 3)]));
+    for (names, first, second, number) in refused {
         for size in [0, 65] {
             calls.push(kept(names, first, second, vec![0xa5; size], number));
         }

@@ -43,11 +43,11 @@ mod library {
     use curlewsong::{raw, Model};
 
     fn to(record: &Record) -> Model {
-        Model { count: record.count, factor: record.factor, mode: record.mode }
+        Model { count: record.count, factor: record.factor, mode: record.mode, text: record.text }
     }
 
     fn back(model: Model) -> Record {
-        Record { count: model.count, factor: model.factor, mode: model.mode }
+        Record { count: model.count, factor: model.factor, mode: model.mode, text: model.text }
     }
 
     impl Calls for Proved {

@@ -4,11 +4,13 @@
 use crate::calls::{Answer, Call};
 use crate::cases::Due;
 use crate::chance::Chance;
+use crate::make::PCDATA;
 use second::book::bytes_of;
 use second::record::{Record, EMPTY};
 use std::collections::BTreeSet;
 
-/// Models in symbols: `a` and `b` make names, `*` is a mark, the space is white space, and the others are signs.
+/// Models in symbols: `a` and `b` make names, `#` is `#PCDATA`, `*` is a mark, the space is white space, and the others are
+/// signs.
 type Models = BTreeSet<Vec<u8>>;
 
 /// Which models there are, and what their symbols are in a text.
@@ -26,9 +28,16 @@ struct Alphabet {
 
 const ALL: Alphabet = Alphabet { front: b"", symbols: b"ab(),|* ", most: 6, b: b"b", mark: b'*', white: b' ' };
 
-/// Longer models of fewer symbols, such as `(a|a) *`, `((a|a))*` and `((a) ,a)*`; then those of every symbol, with each mark and
-/// each white space.
+/// With `#PCDATA` those that have it anywhere, such as `(a|#)*`, and longer ones that begin with it, such as `(#|(a))*`, with
+/// each mark. Without it longer models of fewer symbols, such as `(a|a) *`, `((a|a))*` and `((a) ,a)*`; then those of every other
+/// symbol, with each mark and each white space.
 const ALPHABETS: &[Alphabet] = &[
+    Alphabet { symbols: b"a#()|*", ..ALL },
+    Alphabet { symbols: b"a#()|* ", most: 5, ..ALL },
+    Alphabet { front: b"(#|", symbols: b"ab)|* ", most: 5, ..ALL },
+    Alphabet { front: b"(#", symbols: b"a()|* ", most: 4, mark: b'?', white: b'\n', ..ALL },
+    Alphabet { front: b"(#", symbols: b"a()|* ", most: 4, mark: b'+', white: b'\t', ..ALL },
+    Alphabet { front: b"(#", symbols: b"a(),|* ", ..ALL },
     Alphabet { front: b"(", symbols: b"a(),|* ", ..ALL },
     Alphabet { front: b"(", symbols: b"a(),|*", most: 7, ..ALL },
     Alphabet { front: b"((a", symbols: b"a(),|* ", ..ALL },
@@ -110,6 +119,7 @@ impl Alphabet {
         for symbol in model {
             match symbol {
                 b'b' => text.extend(self.b),
+                b'#' => text.extend(PCDATA),
                 b'*' => text.push(self.mark),
                 b' ' => text.push(self.white),
                 _ => text.push(*symbol),
@@ -144,7 +154,8 @@ impl Alphabet {
         if all.iter().collect::<BTreeSet<_>>().len() < all.len() {
             return Answer::Read(15, 0, EMPTY);
         }
-        Answer::Read(0, parent, Record::of(&factors))
+        let text = model.contains(&b'#');
+        Answer::Read(0, parent, if text { Record::with_text(all) } else { Record::of(&factors) })
     }
 
     /// The mode that the mark gives.
@@ -166,7 +177,17 @@ impl Alphabet {
         let list = self.bracketed(&white, &factor, b',');
         let empty = if self.b == b"EMPTY" { self.one(b'b') } else { Models::new() };
         let content = &(&empty | &self.sequence(&[&group, &mark])) | &list;
-        self.sequence(&[&white, &content, &white])
+        self.sequence(&[&white, &(&content | &self.mixed(&white, &name)), &white])
+    }
+
+    /// '(' S* '#PCDATA' S* ')' '*'? | '(' S* '#PCDATA' (S* '|' S* Name)+ S* ')*'
+    fn mixed(&self, white: &Models, name: &Models) -> Models {
+        let star = if self.mark == b'*' { self.one(b'*') } else { Models::new() };
+        let front = self.sequence(&[&self.one(b'('), white, &self.one(b'#')]);
+        let later = self.sequence(&[white, &self.one(b'|'), white, name]);
+        let close = self.sequence(&[white, &self.one(b')')]);
+        let alone = self.sequence(&[&front, &close, &(&star | &nothing())]);
+        &alone | &self.sequence(&[&front, &later, &self.any_number(&later), &close, &star])
     }
 
     /// '(' S* part (S* sign S* part)* S* ')'
@@ -175,9 +196,9 @@ impl Alphabet {
         self.sequence(&[&self.one(b'('), white, part, &self.any_number(&later), white, &self.one(b')')])
     }
 
-    /// One symbol, where the alphabet has it.
+    /// One symbol, where the alphabet or the front has it.
     fn one(&self, symbol: u8) -> Models {
-        self.symbols.iter().filter(|s| **s == symbol).map(|s| vec![*s]).collect()
+        self.symbols.iter().chain(self.front).filter(|s| **s == symbol).map(|s| vec![*s]).collect()
     }
 
     /// One of each, one after the other; not those that are too long.

@@ -1,18 +1,20 @@
 //! The comparison finds wrong programs: the traps and worthless versions of paper 01, answers that are wrong at one limit,
-//! readers that take less or more than request U1 of paper 02 allows, DTDs that are not those of request U2, and answers on two
-//! records that are not those of request U4. Each is the second implementation with one fault.
+//! readers that take less or more than request U1 of paper 02 allows, DTDs that are not those of request U2, answers on two
+//! records that are not those of request U4, and text that is not that of request U5. Each is the second implementation with one
+//! fault.
 
 use compare::calls::{Calls, Second};
 use compare::cases::{Kind, KINDS};
-use compare::make::{LATER, WHITE};
+use compare::make::{LATER, PCDATA, WHITE};
 use compare::{run, run_kinds, Reached, SEED};
-use second::book::{self, Block, Book};
+use second::book::{self, bytes_of, Block, Book};
 use second::calls::MOST_COUNTEREXAMPLE;
 use second::chain::Graph;
 use second::declaration::written;
 use second::facts::{Facts, Point};
 use second::record::{Record, EMPTY, NONE};
 use second::within::counterexample;
+use std::collections::BTreeSet;
 
 /// The faults, each named once: `Fault`, with `None` for the right program, and `FAULTS`.
 macro_rules! faults {
@@ -40,6 +42,16 @@ faults! {
     AlwaysEmpty,
     ModelOfAllParents,
     RefusedModelNotEmpty,
+    // Of text in a sample.
+    TextNotLookedAt,
+    TextOfFirstBlockAlone,
+    TextForgottenByNextBlock,
+    TextOfAnotherParent,
+    TextWithoutChildrenIsEmpty,
+    TextBesideChain,
+    MixedWithoutOneName,
+    MixedOfTextBlocksAlone,
+    MixedIsPlus,
     // Of numbers.
     ParentCut,
     NamesCut,
@@ -51,6 +63,17 @@ faults! {
     OrderOfNamesUnchecked,
     LeftOverTaken,
     SixtyThousandRefused,
+    TextByteBehindChildCount,
+    TextByteBeforeParent,
+    TextByteOneRefused,
+    TextByteTwoTaken,
+    TextByteIsNumber,
+    // Of records with text.
+    TextOfTwoFactorsTaken,
+    TextOfOtherModeTaken,
+    TextByteTwoOfRecordTaken,
+    MixedRecordRefused,
+    TextRecordRefused,
     // Of words.
     AlwaysYes,
     LongWordTaken,
@@ -97,6 +120,9 @@ faults! {
     RefusedYes,
     RefusedLength,
     RefusedWord,
+    TextOfFirstUnchecked,
+    TextOfSecondUnchecked,
+    TextCompared,
     // Of the writer.
     OneByteShortTaken,
     ExactRefused,
@@ -104,6 +130,10 @@ faults! {
     RefusedWrites,
     LengthOneMore,
     NothingWritten,
+    StarNotWritten,
+    StarWithoutNamesWritten,
+    PcdataWrittenLast,
+    TextNotWritten,
     // Of the whole DTD: the facts of all parents,
     WordForNextParent,
     WordForParentOfBlockBefore,
@@ -111,6 +141,8 @@ faults! {
     LastBlockNotAdded,
     EmptyWordNotAdded,
     FactsOfParentsBefore,
+    TextOfBlockBefore,
+    TextOfEmptyWordNotAdded,
     // its lines,
     NoBlockIsEmptyLine,
     LastParentLeftOut,
@@ -145,6 +177,16 @@ faults! {
     ThreeBracketsTaken,
     BracketsInGroupTaken,
     NoNameTaken,
+    MixedWithoutStarTaken,
+    MixedPlusTaken,
+    PcdataBehindNameTaken,
+    PcdataTwiceTaken,
+    PcdataWithCommaTaken,
+    PcdataInBracketsTaken,
+    PcdataInLowerCaseTaken,
+    PcdataInTwoPartsTaken,
+    PcdataWithLettersTaken,
+    MarkInMixedTaken,
     // texts that it refuses,
     TabRefused,
     ReturnRefused,
@@ -156,17 +198,24 @@ faults! {
     WholeNameRefused,
     OneNameGroupRefused,
     RepeatInWholeGroup,
+    PcdataStarRefused,
+    MixedRefused,
     // and what it answers.
     WholeMarkLost,
     OneNameGroupMarkLost,
     RepeatBeforeUnknown,
     RefusedParent,
     SixtyFourFactors,
+    PcdataStarIsFactor,
+    TextLostInReading,
+    TextKeptWhereRefused,
+    TextKeptAfterReading,
 }
 
 use Fault::*;
 
-struct Wrong(Fault);
+/// The fault, and the text byte of the model that was read last.
+struct Wrong(Fault, u8);
 
 impl Wrong {
     fn is(&self, fault: Fault) -> bool {
@@ -226,14 +275,60 @@ impl Wrong {
         Record::of(&factors)
     }
 
+    /// The model of a parent with these blocks.
+    fn model_of(&self, blocks: &[&Block]) -> Record {
+        let has_text = |block: &&Block| block.text == 1;
+        let words = || blocks.iter().map(|block| &block.word[..]);
+        let text = match self.0 {
+            TextNotLookedAt => false,
+            TextOfFirstBlockAlone => blocks.first().is_some_and(has_text),
+            TextForgottenByNextBlock => blocks.last().is_some_and(has_text),
+            _ => blocks.iter().any(has_text),
+        };
+        if !text {
+            return self.chain(&Facts::of(words()));
+        }
+        let names = |blocks: &[&Block]| blocks.iter().flat_map(|block| block.word.clone()).collect::<BTreeSet<u8>>();
+        let all = names(blocks);
+        let held = match self.0 {
+            TextWithoutChildrenIsEmpty if all.is_empty() => return EMPTY,
+            TextBesideChain => return Record { text: 1, ..self.chain(&Facts::of(words())) },
+            MixedWithoutOneName => all.into_iter().skip(1).collect(),
+            MixedOfTextBlocksAlone => names(&blocks.iter().copied().filter(has_text).collect::<Vec<_>>()),
+            _ => all,
+        };
+        let mut record = Record::with_text(held.into_iter().collect());
+        if self.is(MixedIsPlus) && record.count > 0 {
+            record.mode[0] = 2;
+        }
+        record
+    }
+
     fn model(&self, bytes: &[u8], parent: u8) -> Record {
-        let book = book::read(bytes).unwrap();
+        let mut book = book::read(bytes).unwrap();
+        if self.is(TextOfAnotherParent) {
+            let text = book.blocks.iter().map(|block| block.text).max().unwrap_or(0);
+            book.blocks.iter_mut().for_each(|block| block.text = text);
+        }
         match self.0 {
             AlwaysEmpty => EMPTY,
             OneStarredGroup => Record::of(&[((0..book.names.len() as u8).collect(), 3)]),
-            ModelOfAllParents => self.chain(&Facts::of(book.blocks.iter().map(|b| &b.word[..]))),
-            _ => self.chain(&Facts::of(book.sample(parent))),
+            ModelOfAllParents => self.model_of(&book.blocks.iter().collect::<Vec<_>>()),
+            _ => self.model_of(&book.blocks_of(parent)),
         }
+    }
+
+    /// The record that is checked in the place of one with text.
+    fn checked(&self, record: &Record) -> Record {
+        let text = match (self.0, record.text, record.count) {
+            (TextOfTwoFactorsTaken, 1, 2..) => 0,
+            (TextOfOtherModeTaken, 1, 1) => 0,
+            (TextByteTwoOfRecordTaken, 2, _) => 0,
+            (MixedRecordRefused, 1, 1) => 2,
+            (TextRecordRefused, 1, 0) => 2,
+            _ => record.text,
+        };
+        Record { text, ..*record }
     }
 
     /// A refusal of the book, with the faults of books.
@@ -241,10 +336,35 @@ impl Wrong {
         match (self.0, number) {
             (LengthBeforeMissing, 2) if bytes.len() < 6 => 4,
             (OrderOfNamesUnchecked, 5) => 0,
+            (TextByteBehindChildCount, 16) if first_bad_block(bytes).len() == 2 => 2,
+            (TextByteBeforeParent, 6) if first_bad_block(bytes).get(1).is_some_and(|text| *text > 1) => 16,
+            (TextByteOneRefused, n) if n != 16 && book::read(bytes).is_ok_and(|b| b.blocks.iter().any(|b| b.text == 1)) => 16,
+            (TextByteTwoTaken, 16) if first_bad_block(bytes)[1] == 2 => 0,
+            (TextByteIsNumber, 16) => 6,
             (LeftOverTaken, 7) => 0,
             (SixtyThousandRefused, n) if bytes.len() == 60_000 && n == 0 => 1,
             (_, n) => n,
         }
+    }
+
+    /// A declaration as it is written.
+    fn spelled(&self, text: &[u8]) -> Vec<u8> {
+        let mut t = text.to_vec();
+        let mixed = has(text, b"#PCDATA|");
+        match self.0 {
+            StarNotWritten if mixed => replace(&mut t, b")*>", b")>"),
+            StarWithoutNamesWritten => replace(&mut t, b"(#PCDATA)", b"(#PCDATA)*"),
+            PcdataWrittenLast if mixed => {
+                replace(&mut t, b"#PCDATA|", b"");
+                replace(&mut t, b")*>", b"|#PCDATA)*>");
+            }
+            TextNotWritten => {
+                replace(&mut t, b"(#PCDATA)", b"EMPTY");
+                replace(&mut t, b"#PCDATA|", b"");
+            }
+            _ => {}
+        }
+        t
     }
 
     fn put(&self, text: &[u8], buffer: &mut [u8]) -> (u8, usize) {
@@ -298,7 +418,7 @@ impl Calls for Wrong {
 
     fn accepts_word(&mut self, names: usize, record: &Record, word: &[u8]) -> (u8, bool) {
         let names = if self.is(NamesCut) { names % 256 } else { names };
-        let mut record = *record;
+        let mut record = self.checked(record);
         if self.is(CountCut) {
             record.count %= 256;
         }
@@ -333,17 +453,17 @@ impl Calls for Wrong {
 
     fn write_declaration(&mut self, bytes: &[u8], parent: usize, record: &Record, buffer: &mut [u8]) -> (u8, usize) {
         let mut whole = [0u8; 4096];
-        let (number, length) = Second.write_declaration(bytes, parent, record, &mut whole);
+        let (number, length) = Second.write_declaration(bytes, parent, &self.checked(record), &mut whole);
         if number != 0 {
             return (self.number(bytes, number), 0);
         }
-        self.put(&whole[..length], buffer)
+        self.put(&self.spelled(&whole[..length]), buffer)
     }
 
     fn write_from_sample(&mut self, bytes: &[u8], parent: usize, buffer: &mut [u8]) -> (u8, usize) {
         let (number, record) = self.model_of_parent(bytes, parent);
         match book::read(bytes) {
-            Ok(book) if number == 0 => self.put(&written(&book.names, parent, &record), buffer),
+            Ok(book) if number == 0 => self.put(&self.spelled(&written(&book.names, parent, &record)), buffer),
             _ => (number, 0),
         }
     }
@@ -389,8 +509,9 @@ fn beside(chain: &Record, before: Option<u8>, behind: Option<u8>) -> bool {
 /// The faults of two records.
 impl Wrong {
     fn refusal_of_two(&self, names: usize, first: &Record, second: &Record, places: usize) -> u8 {
-        let bad_first = !first.is_chain(names) && !self.is(FirstUnchecked);
-        let bad_second = !second.is_chain(names) && !self.is(SecondUnchecked);
+        let good = |record: &Record, without: bool| if without { record.is_chain(names) } else { record.is_model(names) };
+        let bad_first = !good(first, self.is(TextOfFirstUnchecked)) && !self.is(FirstUnchecked);
+        let bad_second = !good(second, self.is(TextOfSecondUnchecked)) && !self.is(SecondUnchecked);
         let wanted = match self.0 {
             BufferOf64Taken => 64,
             BufferOf65Refused => 66,
@@ -464,7 +585,7 @@ impl Wrong {
 
     fn answer_on_two(&self, n: usize, first: &Record, second: &Record, buffer: &mut [u8]) -> (u8, bool, usize) {
         let unchecked = !first.is_chain(n) || !second.is_chain(n);
-        if unchecked || self.is(NeverWithin) {
+        if unchecked || self.is(NeverWithin) || (self.is(TextCompared) && first.text > second.text) {
             return (0, false, 0);
         }
         let (first, second) = if self.is(TurnedRound) { (second, first) } else { (first, second) };
@@ -495,24 +616,29 @@ impl Wrong {
 
 /// The faults of the whole DTD.
 impl Wrong {
-    /// The facts of all parents with a block, by one pass over the blocks.
-    fn facts_of_all(&self, book: &Book) -> Vec<Option<Facts>> {
-        let mut all: Vec<Option<Facts>> = book.names.iter().map(|_| Option::None).collect();
+    /// The blocks of all parents with a block, by one pass over them.
+    fn blocks_of_all(&self, book: &Book) -> Vec<Option<Vec<Block>>> {
+        let mut all: Vec<Option<Vec<Block>>> = book.names.iter().map(|_| Option::None).collect();
         let last = book.blocks.len().wrapping_sub(1);
         for (i, block) in book.blocks.iter().enumerate() {
             let parent = block.parent as usize;
-            let (before, next) = (book.blocks[i.saturating_sub(1)].parent as usize, (parent + 1) % all.len());
+            let (before, next) = (&book.blocks[i.saturating_sub(1)], (parent + 1) % all.len());
             let to = match self.0 {
                 FirstBlockNotAdded if i == 0 => continue,
                 LastBlockNotAdded if i == last => continue,
                 EmptyWordNotAdded if block.word.is_empty() => continue,
                 // Where these parents have no block so far, the word goes where it belongs.
                 WordForNextParent if all[next].is_some() => next,
-                WordForParentOfBlockBefore => before,
+                WordForParentOfBlockBefore => before.parent as usize,
                 _ => parent,
             };
+            let text = match self.0 {
+                TextOfBlockBefore => before.text,
+                TextOfEmptyWordNotAdded if block.word.is_empty() => 0,
+                _ => block.text,
+            };
             all[parent].get_or_insert_default();
-            all[to].get_or_insert_default().add(&block.word);
+            all[to].get_or_insert_default().push(Block { text, ..block.clone() });
         }
         all
     }
@@ -527,15 +653,15 @@ impl Wrong {
             ParentsByFirstBlock => parents.sort_by_key(first),
             _ => {}
         }
-        let all = self.facts_of_all(book);
+        let all = self.blocks_of_all(book);
         let mut out = Vec::new();
         for parent in parents {
             let record = match &all[parent] {
                 Some(_) if self.is(FactsOfParentsBefore) => {
                     let upto = |block: &&Block| block.parent as usize <= parent;
-                    self.chain(&Facts::of(book.blocks.iter().filter(upto).map(|block| &block.word[..])))
+                    self.model_of(&book.blocks.iter().filter(upto).collect::<Vec<_>>())
                 }
-                Some(facts) => self.chain(facts),
+                Some(blocks) => self.model_of(&blocks.iter().collect::<Vec<_>>()),
                 Option::None if self.is(NoBlockIsEmptyLine) => EMPTY,
                 Option::None => continue,
             };
@@ -603,15 +729,21 @@ fn book_so_far(bytes: &[u8]) -> Option<Book> {
     let mut book = book::read(&[bytes.get(..at)?, &[0, 0]].concat()).ok()?;
     let good = |x: &u8| (*x as usize) < book.names.len();
     let mut left = bytes.get(at + 2..)?;
-    while let Some((&[parent, size], rest)) = left.split_first_chunk() {
+    while let Some((&[parent, text, size], rest)) = left.split_first_chunk() {
         let Some((word, rest)) = rest.split_at_checked(size as usize) else { break };
-        if !good(&parent) || !word.iter().all(good) {
+        if !good(&parent) || text > 1 || !word.iter().all(good) {
             break;
         }
-        book.blocks.push(Block { parent, word: word.to_vec() });
+        book.blocks.push(Block { parent, text, word: word.to_vec() });
         left = rest;
     }
     Some(book)
+}
+
+/// What is behind the blocks of that book.
+fn first_bad_block(bytes: &[u8]) -> &[u8] {
+    let good = book_so_far(bytes).map_or(bytes.len(), |book| bytes_of(&book.names, &book.blocks).len());
+    &bytes[good..]
 }
 
 /// The faults of the reader.
@@ -647,9 +779,36 @@ impl Wrong {
                 }
             }
             NoNameTaken => replace(&mut t, b"()", b"EMPTY"),
-            _ => self.whole_mark_instead(&mut t),
+            _ => {
+                self.whole_mark_instead(&mut t);
+                self.pcdata_instead(&mut t);
+            }
         }
         t
+    }
+
+    /// The same where the fault is about text.
+    fn pcdata_instead(&self, t: &mut Vec<u8>) {
+        let Some(close) = t.iter().rposition(|b| *b == b')') else { return };
+        match self.0 {
+            MixedWithoutStarTaken => t.insert(close + 1, b'*'),
+            MixedPlusTaken => replace(t, b")+", b")*"),
+            PcdataBehindNameTaken if has(t, PCDATA) => {
+                replace(t, b"|#PCDATA", b"");
+                replace(t, b"(", b"(#PCDATA|");
+            }
+            PcdataTwiceTaken => replace(t, b"#PCDATA|#PCDATA", PCDATA),
+            PcdataWithCommaTaken if has(t, PCDATA) => replace(t, b",", b"|"),
+            PcdataInBracketsTaken => replace(t, b"((#PCDATA)", b"(#PCDATA"),
+            PcdataInLowerCaseTaken => replace(t, b"#pcdata", PCDATA),
+            PcdataInTwoPartsTaken => replace(t, b"# PCDATA", PCDATA),
+            PcdataWithLettersTaken => LATER.iter().for_each(|&b| replace(t, &[PCDATA, &[b]].concat(), PCDATA)),
+            MarkInMixedTaken if has(t, PCDATA) => MARKS.iter().for_each(|&mark| {
+                replace(t, &[mark, b'|'], b"|");
+                replace(t, &[mark, b')'], b")");
+            }),
+            _ => {}
+        }
     }
 
     /// The same where the fault is about a mark behind the whole model.
@@ -679,12 +838,14 @@ impl Wrong {
             WholeNameRefused => one_bracket && !whole_group && whole_mark(text).is_some(),
             OneNameGroupRefused => inner(text).iter().any(|&(from, to)| !text[from..to].contains(&b'|')),
             RepeatInWholeGroup => whole_group && number == 15,
+            PcdataStarRefused => has(text, PCDATA) && !text.contains(&b'|') && whole_mark(text).is_some(),
+            MixedRefused => has(text, PCDATA) && text.contains(&b'|'),
             _ => false,
         }
     }
 
     /// The answer on a text that has the form.
-    fn answers(&self, text: &[u8], number: u8, parent: usize, mut record: Record) -> (u8, usize, Record) {
+    fn answers(&mut self, text: &[u8], number: u8, parent: usize, mut record: Record) -> (u8, usize, Record) {
         let all = factors(text).concat();
         let twice = (0..all.len()).any(|i| all[..i].contains(&all[i]));
         match (self.0, number) {
@@ -697,6 +858,13 @@ impl Wrong {
             (RepeatBeforeUnknown, 14) if twice => return (15, 0, EMPTY),
             (RefusedParent, 14 | 15) => return (number, 1, record),
             (SixtyFourFactors, 15) if factors(text).len() > 64 => return (13, 0, EMPTY),
+            (PcdataStarIsFactor, 0) if record.text == 1 && whole_mark(text).is_some() => (record.count, record.mode[0]) = (1, 3),
+            (TextLostInReading, 0) => record.text = 0,
+            (TextKeptWhereRefused, 14 | 15) if has(text, PCDATA) => record.text = 1,
+            (TextKeptAfterReading, 0) => {
+                self.1 |= record.text;
+                record.text = self.1;
+            }
             _ => {}
         }
         (number, parent, record)
@@ -728,22 +896,27 @@ fn inner(text: &[u8]) -> Vec<(usize, usize)> {
 
 /// The names of each factor of a text that has the form.
 fn factors(text: &[u8]) -> Vec<Vec<&[u8]>> {
-    let model = text.iter().position(|b| *b == b'(').map_or(&text[..0], |at| &text[at..]);
+    let front = if has(text, PCDATA) { b'|' } else { b'(' };
+    let model = text.iter().position(|b| *b == front).map_or(&text[..0], |at| &text[at..]);
     let words = |part| <[u8]>::split(part, |b| !LATER.contains(b));
     model.split(|b| *b == b',').map(|part| words(part).filter(|word| !word.is_empty()).collect()).collect()
+}
+
+fn has(text: &[u8], part: &[u8]) -> bool {
+    text.windows(part.len()).any(|bytes| bytes == part)
 }
 
 #[test]
 fn no_fault_is_found_in_the_second_implementation() {
     let mut reached = Reached::default();
-    run(SEED, 1, &mut Wrong(None), &mut reached).unwrap();
+    run(SEED, 1, &mut Wrong(None, 0), &mut reached).unwrap();
     assert_eq!(reached.missing(), Vec::<String>::new());
     assert_eq!(NONE, 255);
 }
 
 /// These kinds find the fault.
 fn found(fault: Fault, kinds: &[Kind]) {
-    let found = run_kinds(kinds, SEED, 1, &mut Wrong(fault), &mut Reached::default());
+    let found = run_kinds(kinds, SEED, 1, &mut Wrong(fault, 0), &mut Reached::default());
     let said = found.expect_err(&format!("{fault:?} is not found"));
     let first = said.lines().next().unwrap();
     println!("{fault:?}: {first}");
@@ -797,6 +970,8 @@ fn every_fault_of_the_reader_is_found_by_chance_and_by_short_models() {
         NoBreakSpaceTaken,
         OtherThanSpaceBeforeParent,
         SixtyFourFactors,
+        PcdataInLowerCaseTaken,
+        PcdataInTwoPartsTaken,
     ];
     for fault in faults(LineFeedBehindTaken, None) {
         found(fault, kind("texts"));

@@ -9,6 +9,8 @@ pub struct Model {
     pub count: usize,
     pub factor: [u8; PLACES],
     pub mode: [u8; PLACES],
+    /// 1 where text is allowed, 0 where not. A call takes any byte, and refuses with 10 one that does not fit the factors.
+    pub text: u8,
 }
 
 #[repr(C)]

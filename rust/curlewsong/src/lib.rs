@@ -1,5 +1,5 @@
 //! Safe calls of the proved static library. Each takes any input, returns, and answers a value or the number of a refusal, which
-//! is that of paper 01's table (include/curlewsong.h has it). A refused call leaves its buffer as it was.
+//! is that of the papers (include/curlewsong.h has them). A refused call leaves its buffer as it was.
 //!
 //! The calls ask nothing of their input, so these functions test nothing: they hand over slices as pointers and lengths, which is
 //! what makes them safe, and take the answers apart.
@@ -20,10 +20,10 @@ pub const LONGEST_DTD: usize = 144_256;
 /// The most names of the word that shows that a model is not within another: a buffer needs this many places.
 pub const LONGEST_COUNTEREXAMPLE: usize = 65;
 
-/// The model that accepts the empty word alone; also what a refused call has in the place of a model.
-pub const EMPTY: Model = Model { count: 0, factor: [NONE; PLACES], mode: [0; PLACES] };
+/// The model that accepts the empty word alone and allows no text; also what a refused call has in the place of a model.
+pub const EMPTY: Model = Model { count: 0, factor: [NONE; PLACES], mode: [0; PLACES], text: 0 };
 
-/// A refusal, by its number in paper 01's table.
+/// A refusal, by its number in the papers.
 #[derive(Clone, Copy, PartialEq, Eq, Debug)]
 pub struct Refusal(pub u8);
 
@@ -39,12 +39,13 @@ impl std::fmt::Display for Refusal {
             7 => "the book has bytes left over after its last block",
             8 => "the parent asked for is not below the count of names",
             9 => "no block in the book has the parent whose model is wanted from the sample",
-            10 => "the model record is not a chain over the names",
+            10 => "the model record is not a chain over the names, or its text byte does not fit the chain",
             11 => "the word has more than 255 names, or a number that is not below the count of names",
             12 => "the output buffer is shorter than the text to be written, or has fewer than 65 places for a word",
             13 => "the text does not have the form of a declaration",
             14 => "a name in the text, the parent's included, is not in the book",
             15 => "the model in the text has a name twice",
+            16 => "a text byte in the book is above 1",
             _ => "no refusal of this table",
         };
         write!(f, "refused {}: {reason}", self.0)

@@ -1,6 +1,7 @@
-//! What the engineer's card says where it cannot be read or written. Needs the static library.
+//! What the engineer's card says of text, and where it cannot be read or written. Needs the static library.
 
 use std::fs::OpenOptions;
+use std::io::Write;
 use std::process::{Command, Stdio};
 
 const BOOK: &str = concat!(env!("CARGO_MANIFEST_DIR"), "/../../samples/feed.book");
@@ -29,4 +30,55 @@ fn a_card_that_cannot_be_written_is_no_success() {
     let (reader, writer) = std::io::pipe().unwrap();
     drop(reader);
     assert_eq!(card(BOOK, writer.into()), (Some(1), String::new()));
+}
+
+/// The status and the card of a book on standard input.
+fn card_of(book: &[u8]) -> (Option<i32>, String) {
+    let mut child =
+        Command::new(env!("CARGO_BIN_EXE_card")).stdin(Stdio::piped()).stdout(Stdio::piped()).spawn().expect("the card starts");
+    child.stdin.take().unwrap().write_all(book).unwrap();
+    let done = child.wait_with_output().unwrap();
+    (done.status.code(), String::from_utf8(done.stdout).unwrap())
+}
+
+#[test]
+fn a_parent_with_text() {
+    // The parents a with text and the children b and c in different blocks, b with text alone, and c with neither.
+    let names = [3, 0, 1, b'a', 1, b'b', 1, b'c'];
+    let blocks = [4, 0, 0, 1, 1, 1, 0, 0, 1, 2, 1, 1, 0, 2, 0, 0];
+    let said = "<!ELEMENT a (#PCDATA|b|c)*>\n  mixed content: 1 of 2 blocks has text; any number of its names in any order\n  \
+                allowed together, in no block together: b with c\n\
+                <!ELEMENT b (#PCDATA)>\n<!ELEMENT c EMPTY>\n\
+                parents with a block: 3; declared, read back and with no lost loop or text: 3\n";
+    assert_eq!(card_of(&[&names[..], &blocks].concat()), (Some(0), said.to_string()));
+}
+
+/// The book of three blocks of `entry`: member, contribution, total; member, contribution, reason; member, leaver, reason.
+fn entries(texts: [u8; 3]) -> Vec<u8> {
+    let mut book = vec![6, 0];
+    for name in ["contribution", "entry", "leaver", "member", "reason", "total"] {
+        book.push(name.len() as u8);
+        book.extend(name.bytes());
+    }
+    book.extend([3, 0]);
+    for (text, word) in texts.into_iter().zip([[3, 0, 5], [3, 0, 4], [3, 2, 4]]) {
+        book.extend([1, text, 3]);
+        book.extend(word);
+    }
+    book
+}
+
+#[test]
+fn a_stray_text_hides_no_pair() {
+    for (texts, have) in [([0, 0, 1], "1 of 3 blocks has"), ([1, 0, 1], "2 of 3 blocks have")] {
+        let said = format!(
+            "<!ELEMENT entry (#PCDATA|contribution|leaver|member|reason|total)*>\n  \
+             mixed content: {have} text; any number of its names in any order\n  \
+             allowed together, in no block together: contribution with leaver\n  \
+             allowed together, in no block together: leaver with total\n  \
+             allowed together, in no block together: reason with total\n\
+             parents with a block: 1; declared, read back and with no lost loop or text: 1\n"
+        );
+        assert_eq!(card_of(&entries(texts)), (Some(0), said));
+    }
 }

@@ -9,7 +9,7 @@ fn book() -> Vec<u8> {
         book.push(name.len() as u8);
         book.extend(name.bytes());
     }
-    book.extend([3, 0, 1, 3, 3, 0, 5, 1, 3, 3, 2, 4, 1, 3, 3, 0, 4]);
+    book.extend([3, 0, 1, 0, 3, 3, 0, 5, 1, 0, 3, 3, 2, 4, 1, 0, 3, 3, 0, 4]);
     book
 }
 
@@ -117,7 +117,7 @@ fn written_and_read() {
 }
 
 /// The names a, b and c; two blocks of c and two of a, by turns; none of b.
-const TWO_PARENTS: &[u8] = &[3, 0, 1, b'a', 1, b'b', 1, b'c', 4, 0, 2, 1, 0, 0, 2, 1, 1, 2, 2, 0, 1, 0, 0];
+const TWO_PARENTS: &[u8] = &[3, 0, 1, b'a', 1, b'b', 1, b'c', 4, 0, 2, 0, 1, 0, 0, 0, 2, 1, 1, 2, 0, 2, 0, 1, 0, 0, 0];
 
 #[test]
 fn the_whole_dtd() {
@@ -140,11 +140,14 @@ fn the_whole_dtd() {
 
 #[test]
 fn no_dtd() {
-    // The last child is missing; a number is too large; bytes are left over.
+    // The last child count is missing; a child is too large; bytes are left over; a text byte is too large.
     let last = TWO_PARENTS.len() - 1;
-    for (bad, number) in
-        [(TWO_PARENTS[..last].to_vec(), 2), ([&TWO_PARENTS[..last], &[1, 3]].concat(), 6), ([TWO_PARENTS, &[0]].concat(), 7)]
-    {
+    for (bad, number) in [
+        (TWO_PARENTS[..last].to_vec(), 2),
+        ([&TWO_PARENTS[..last], &[1, 3]].concat(), 6),
+        ([TWO_PARENTS, &[0]].concat(), 7),
+        ([&TWO_PARENTS[..last - 1], &[2]].concat(), 16),
+    ] {
         let mut buffer = [7; 99];
         assert_eq!(write_dtd(&bad, &mut buffer), Err(Refusal(number)));
         assert_eq!(raw::write_dtd(&bad, &mut buffer), (number, 0));
@@ -155,7 +158,62 @@ fn no_dtd() {
     assert_eq!(write_dtd(&[1, 0, 1, b'a', 0, 0], &mut []), Ok(0));
 }
 
+/// The names a, b and c: a with text and the children c and b in different blocks, b with text alone, c with neither.
+const TEXT_BOOK: &[u8] = &[3, 0, 1, b'a', 1, b'b', 1, b'c', 4, 0, 0, 1, 1, 2, 0, 0, 1, 1, 1, 1, 0, 2, 0, 0];
+
+#[test]
+fn text_from_a_sample() {
+    let mixed = Model { text: 1, ..chain(&[(&[1, 2], 3)]) };
+    let text = Model { text: 1, ..EMPTY };
+    let lines = ["<!ELEMENT a (#PCDATA|b|c)*>", "<!ELEMENT b (#PCDATA)>", "<!ELEMENT c EMPTY>"];
+    for (parent, (model, line)) in [mixed, text, EMPTY].into_iter().zip(lines).enumerate() {
+        assert_eq!(model_of_parent(TEXT_BOOK, parent), Ok(model));
+        let mut buffer = vec![7; line.len()];
+        assert_eq!(write_from_sample(TEXT_BOOK, parent, &mut buffer), Ok(line.len()));
+        assert_eq!(buffer, line.as_bytes());
+        buffer.fill(7);
+        assert_eq!(write_declaration(TEXT_BOOK, parent, model, &mut buffer), Ok(line.len()));
+        assert_eq!(buffer, line.as_bytes());
+        assert_eq!(read_declaration(TEXT_BOOK, &buffer), Ok((parent, model)));
+    }
+    let mut buffer = [7; LONGEST_DTD];
+    let size = write_dtd(TEXT_BOOK, &mut buffer).unwrap();
+    assert_eq!(buffer[..size], *[lines.join("\n").as_bytes(), b"\n"].concat());
+    assert_eq!(read_declaration(TEXT_BOOK, b"<!ELEMENT a ( #PCDATA\t| c|b )*>"), Ok((0, mixed)));
+    assert_eq!(read_declaration(TEXT_BOOK, b"<!ELEMENT b (#PCDATA)*>"), Ok((1, text)));
+    for (bad, number) in [("(#PCDATA|b)", 13), ("(b|#PCDATA)*", 13), ("(#PCDATA|d)*", 14), ("(#PCDATA|b|b)*", 15)] {
+        let text = format!("<!ELEMENT a {bad}>");
+        assert_eq!(raw::read_declaration(TEXT_BOOK, text.as_bytes()), (number, 0, EMPTY), "{bad}");
+    }
+}
+
+#[test]
+fn records_with_text() {
+    let mixed = Model { text: 1, ..chain(&[(&[0, 1], 3)]) };
+    let text = Model { text: 1, ..EMPTY };
+    assert_eq!(accepts_word(2, mixed, &[1, 0, 1]), Ok(true));
+    assert_eq!(accepts_word(2, text, &[]), Ok(true));
+    assert_eq!(accepts_word(2, text, &[0]), Ok(false));
+    // Words alone are compared.
+    assert_eq!(within(2, text, EMPTY), Ok(Inclusion::Yes));
+    assert_eq!(within(2, mixed, Model { text: 0, ..mixed }), Ok(Inclusion::Yes));
+    assert_eq!(within(2, EMPTY, text), Ok(Inclusion::Yes));
+    let bad = [
+        Model { text: 2, ..EMPTY },
+        Model { text: 255, ..mixed },
+        Model { text: 1, ..chain(&[(&[0, 1], 2)]) },
+        Model { text: 1, ..chain(&[(&[0], 3), (&[1], 3)]) },
+    ];
+    for bad in bad {
+        assert_eq!(accepts_word(2, bad, &[]), Err(Refusal(10)), "{bad:?}");
+        assert_eq!(within(2, bad, text), Err(Refusal(10)), "{bad:?}");
+        assert_eq!(within(2, text, bad), Err(Refusal(10)), "{bad:?}");
+        assert_eq!(raw::write_declaration(TEXT_BOOK, 0, bad, &mut [7; 99]), (10, 0), "{bad:?}");
+    }
+}
+
 #[test]
 fn reasons() {
+    assert_eq!(Refusal(16).to_string(), "refused 16: a text byte in the book is above 1");
     assert_eq!(Refusal(9).to_string(), "refused 9: no block in the book has the parent whose model is wanted from the sample");
 }

@@ -15,7 +15,7 @@
 //! --list prints what is timed: lines of figure, who and kind, with tabs between. A kind is one of books or of pairs.
 //! --once makes N calls of one of these and prints nothing: for a count of instructions (tools/instructions.py).
 
-use plain::books::KINDS;
+use plain::books::{timed_parent, KINDS};
 use plain::inclusion::LONGEST_COUNTEREXAMPLE;
 use plain::pairs::{self, Pairs};
 use std::collections::BTreeMap;
@@ -42,7 +42,7 @@ const FIGURES: &[&str] = &[WHOLE, ONE_AT_A_TIME, MODEL, WORD, SHORT, WRITTEN, RE
 /// How often all figures of a book are timed, one after the other.
 const ROUNDS: usize = 4;
 
-/// What is timed on one book: the book, its first parent with a block, that parent's model and declaration, and a word.
+/// What is timed on one book: the book, one of its parents, that parent's model and declaration, and a word.
 struct Input {
     book: Vec<u8>,
     parent: usize,
@@ -53,8 +53,7 @@ struct Input {
 
 impl Input {
     fn of(book: Vec<u8>) -> Input {
-        let parent = (0..64).find(|&p| plain::model_of_parent(&book, p).is_ok()).unwrap();
-        let model = plain::model_of_parent(&book, parent).unwrap();
+        let (parent, model) = timed_parent(&book);
         let mut buffer = [0u8; plain::declaration::LONGEST];
         let size = plain::write_declaration(&book, parent, &model, &mut buffer).unwrap();
         Input { parent, model, text: buffer[..size].to_vec(), word: plain::a_word(&model), book }
@@ -115,7 +114,7 @@ fn plain_works(input: &Input) -> Vec<Work<'_>> {
 
 #[cfg(feature = "library")]
 fn to_library(model: &plain::Model) -> curlewsong::Model {
-    curlewsong::Model { count: model.count, factor: model.factor, mode: model.mode }
+    curlewsong::Model { count: model.count, factor: model.factor, mode: model.mode, text: model.text }
 }
 
 #[cfg(feature = "library")]

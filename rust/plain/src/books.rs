@@ -1,5 +1,7 @@
 //! Books for the benchmark, each near 60,000 bytes and the same in every run.
 
+use crate::{model_of_parent, Model, PLACES};
+
 /// The limit that the books come close to.
 pub const SIZE: usize = 60_000;
 
@@ -13,8 +15,11 @@ impl Next {
     }
 }
 
+/// A block: its parent, whether it has text, and its word.
+type Block = (u8, bool, Vec<u8>);
+
 /// A book with these names, rising, and as many of the blocks as fit.
-fn book(names: &[String], mut block: impl FnMut(usize) -> (u8, Vec<u8>)) -> Vec<u8> {
+fn book(names: &[String], mut block: impl FnMut(usize) -> Block) -> Vec<u8> {
     let mut out = (names.len() as u16).to_le_bytes().to_vec();
     for name in names {
         out.push(name.len() as u8);
@@ -24,11 +29,11 @@ fn book(names: &[String], mut block: impl FnMut(usize) -> (u8, Vec<u8>)) -> Vec<
     out.extend([0, 0]);
     let mut m = 0u16;
     loop {
-        let (parent, word) = block(m as usize);
-        if out.len() + 2 + word.len() > SIZE {
+        let (parent, text, word) = block(m as usize);
+        if out.len() + 3 + word.len() > SIZE {
             break;
         }
-        out.extend([parent, word.len() as u8]);
+        out.extend([parent, u8::from(text), word.len() as u8]);
         out.extend(word);
         m += 1;
     }
@@ -43,36 +48,36 @@ fn names(n: usize) -> Vec<String> {
 /// Words of no name to three, for all 64 parents.
 pub fn short_words() -> Vec<u8> {
     let mut next = Next(1);
-    book(&names(64), |i| ((i % 64) as u8, (0..next.below(4)).map(|_| next.below(64) as u8).collect()))
+    book(&names(64), |i| ((i % 64) as u8, false, (0..next.below(4)).map(|_| next.below(64) as u8).collect()))
 }
 
 /// Words of 255 names, which rise slowly and repeat, for all 64 parents.
 pub fn long_words() -> Vec<u8> {
     let mut next = Next(2);
-    book(&names(64), |i| ((i % 64) as u8, (0..255).map(|k| ((k / 4 + next.below(2)) as u8).min(63)).collect()))
+    book(&names(64), |i| ((i % 64) as u8, false, (0..255).map(|k| ((k / 4 + next.below(2)) as u8).min(63)).collect()))
 }
 
-/// Empty words alone, for all 64 parents.
+/// Empty words alone, for all 64 parents; every second one has text.
 pub fn empty_words() -> Vec<u8> {
-    book(&names(64), |i| ((i % 64) as u8, vec![]))
+    book(&names(64), |i| ((i % 64) as u8, i % 2 == 1, vec![]))
 }
 
 /// All names in one loop group, for eight parents.
 pub fn one_group() -> Vec<u8> {
     let mut next = Next(3);
-    book(&names(64), |i| ((i % 8) as u8, (0..200).map(|_| next.below(64) as u8).collect()))
+    book(&names(64), |i| ((i % 8) as u8, false, (0..200).map(|_| next.below(64) as u8).collect()))
 }
 
 /// No loops and as many levels as there are names: the names in order, some left out, for all 64 parents.
 pub fn many_levels() -> Vec<u8> {
     let mut next = Next(4);
-    book(&names(64), |i| ((i % 64) as u8, (0..64u8).filter(|_| i < 64 || next.below(8) > 0).collect()))
+    book(&names(64), |i| ((i % 64) as u8, false, (0..64u8).filter(|_| i < 64 || next.below(8) > 0).collect()))
 }
 
 /// The same in falling order, the name with the largest number first.
 pub fn falling_levels() -> Vec<u8> {
     let mut next = Next(4);
-    book(&names(64), |i| ((i % 64) as u8, (0..64u8).rev().filter(|_| i < 64 || next.below(8) > 0).collect()))
+    book(&names(64), |i| ((i % 64) as u8, false, (0..64u8).rev().filter(|_| i < 64 || next.below(8) > 0).collect()))
 }
 
 /// One parent with words of several kinds.
@@ -84,15 +89,21 @@ pub fn one_parent() -> Vec<u8> {
             1 => (0..60u8).filter(|_| next.below(3) == 0).collect(),
             _ => (0..next.below(40)).map(|k| 40 + (k % 3) as u8).collect(),
         };
-        (0, word)
+        (0, false, word)
     })
 }
 
-/// The feed of paper 01, again and again.
+/// The feed of paper 01, again and again: each entry, and behind it its children, which have text alone.
 pub fn feed() -> Vec<u8> {
     let names: Vec<String> =
         ["contribution", "entry", "leaver", "member", "reason", "total"].iter().map(|n| n.to_string()).collect();
-    book(&names, |i| (1, [[3, 0, 5], [3, 2, 4], [3, 0, 4]][i % 3].to_vec()))
+    book(&names, |i| {
+        let entry = [[3, 0, 5], [3, 2, 4], [3, 0, 4]][i / 4 % 3];
+        match i % 4 {
+            0 => (1, false, entry.to_vec()),
+            child => (entry[child - 1], true, vec![]),
+        }
+    })
 }
 
 /// A chain expression by chance over some of 64 names: the names of each factor and its mode.
@@ -120,7 +131,19 @@ fn word_of(chain: &[(Vec<u8>, usize)], next: &mut Next) -> Vec<u8> {
 pub fn hidden_chain() -> Vec<u8> {
     let mut next = Next(6);
     let chains: Vec<_> = (0..64).map(|_| chain(&mut next)).collect();
-    book(&names(64), |i| ((i % 64) as u8, word_of(&chains[i % 64], &mut next)))
+    book(&names(64), |i| ((i % 64) as u8, false, word_of(&chains[i % 64], &mut next)))
+}
+
+/// Text and some of 64 names in any order, for all 64 parents; one block in two has text.
+pub fn mixed_content() -> Vec<u8> {
+    let mut next = Next(8);
+    book(&names(64), |i| ((i % 64) as u8, i / 64 % 2 == 0, (0..next.below(8)).map(|_| next.below(64) as u8).collect()))
+}
+
+/// The parent of a book that is timed, and its model: the first whose model has names, else the first with a block.
+pub fn timed_parent(book: &[u8]) -> (usize, Model) {
+    let models: Vec<_> = (0..PLACES).filter_map(|parent| Some((parent, model_of_parent(book, parent).ok()?))).collect();
+    *models.iter().find(|(_, model)| model.count > 0).unwrap_or(&models[0])
 }
 
 /// A kind of book: its name, and what makes it.
@@ -136,4 +159,5 @@ pub const KINDS: &[Kind] = &[
     ("one parent", one_parent),
     ("the feed repeated", feed),
     ("words of a hidden chain", hidden_chain),
+    ("mixed content", mixed_content),
 ];

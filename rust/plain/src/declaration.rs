@@ -17,55 +17,77 @@ impl Out<'_> {
     }
 }
 
-/// Writes the declaration of a chain over these names, and gives its length.
-pub fn write(names: &Names, parent: usize, m: &Model, text: &mut [u8; LONGEST]) -> usize {
-    let mut out = Out { text, at: 0 };
-    out.put(b"<!ELEMENT ");
-    out.put(names.get(parent));
-    if m.count == 0 {
-        out.put(b" EMPTY>");
-        return out.at;
+impl Out<'_> {
+    /// The names of a set, rising; the first has this before it, and the others a bar.
+    fn put_names(&mut self, names: &Names, mut set: u64, first: &[u8]) {
+        let mut before = first;
+        while set != 0 {
+            self.put(before);
+            self.put(names.get(set.trailing_zeros() as usize));
+            set &= set - 1;
+            before = b"|";
+        }
     }
-    let mut held = [0u64; 64];
+}
+
+/// The names of each factor.
+fn held(m: &Model) -> [u64; PLACES] {
+    let mut held = [0u64; PLACES];
     for (x, &f) in m.factor.iter().enumerate() {
         if f != NONE {
             held[f as usize] |= 1 << x;
         }
     }
+    held
+}
+
+/// Writes the declaration of a model over these names, and gives its length.
+pub fn write(names: &Names, parent: usize, m: &Model, text: &mut [u8; LONGEST]) -> usize {
+    let mut out = Out { text, at: 0 };
+    out.put(b"<!ELEMENT ");
+    out.put(names.get(parent));
+    match (m.text, m.count) {
+        (0, 0) => out.put(b" EMPTY>"),
+        (0, _) => write_factors(names, m, &mut out),
+        (_, 0) => out.put(b" (#PCDATA)>"),
+        _ => {
+            out.put(b" (#PCDATA");
+            out.put_names(names, held(m)[0], b"|");
+            out.put(b")*>");
+        }
+    }
+    out.at
+}
+
+fn write_factors(names: &Names, m: &Model, out: &mut Out) {
+    let held = held(m);
     out.put(b" ");
     for i in 0..m.count {
         out.put(if i == 0 { b"(" } else { b"," });
         let group = held[i].count_ones() > 1;
-        let mut left = held[i];
-        let mut between: &[u8] = if group { b"(" } else { b"" };
-        while left != 0 {
-            out.put(between);
-            out.put(names.get(left.trailing_zeros() as usize));
-            left &= left - 1;
-            between = b"|";
-        }
+        out.put_names(names, held[i], if group { b"(" } else { b"" });
         if group {
             out.put(b")");
         }
         out.put([&b""[..], b"?", b"+", b"*"][m.mode[i] as usize]);
     }
     out.put(b")>");
-    out.at
 }
 
 /// How many bytes `<!ELEMENT` has.
 const OPENING: usize = 9;
 
 /// Kinds of tokens, numbered for this program: 0 any other byte or the end of the text, 1 a word, 2 `(`, 3 `)`, 4 `,`, 5 `|`,
-/// 6 `>`, 7 `?`, 8 `+`, 9 `*`, 10 the word `EMPTY`.
+/// 6 `>`, 7 `?`, 8 `+`, 9 `*`, 10 the word `EMPTY`, 11 `#PCDATA`.
 const WORD: u8 = 1;
 const OPEN: u8 = 2;
 const COMMA: u8 = 4;
 const QUESTION: u8 = 7;
 const STAR: u8 = 9;
 const EMPTY_WORD: u8 = 10;
+const PCDATA: u8 = 11;
 
-/// The kind of a token that begins with each byte: a byte of words, a sign or any other.
+/// The kind of a token that begins with each byte: a byte of words, a sign, `#` or any other.
 const KIND: [u8; 256] = {
     let mut table = [0; 256];
     let mut b = 0;
@@ -79,6 +101,7 @@ const KIND: [u8; 256] = {
         table[signs[i] as usize] = OPEN + i as u8;
         i += 1;
     }
+    table[b'#' as usize] = PCDATA;
     table
 };
 
@@ -87,22 +110,27 @@ const CLOSED: u8 = 13;
 const NOWHERE: u8 = 14;
 
 /// The next state for each kind of token, a row for each state.
-const STATES: [[u8; 11]; 15] = [
-    [14, 1, 14, 14, 14, 14, 14, 14, 14, 14, 1],   // 0 before the parent
-    [14, 14, 2, 14, 14, 14, 14, 14, 14, 14, 12],  // 1 before the model
-    [14, 3, 8, 14, 14, 14, 14, 14, 14, 14, 3],    // 2 behind its bracket
-    [14, 14, 14, 6, 7, 4, 14, 11, 11, 11, 14],    // 3 behind a name there
-    [14, 5, 14, 14, 14, 14, 14, 14, 14, 14, 5],   // 4 behind a bar, where the group is the whole model
-    [14, 14, 14, 6, 14, 4, 14, 14, 14, 14, 14],   // 5 behind a later name of it
-    [14, 14, 14, 14, 14, 14, 13, 12, 12, 12, 14], // 6 behind that group
-    [14, 10, 8, 14, 14, 14, 14, 14, 14, 14, 10],  // 7 before a later factor
-    [14, 9, 14, 14, 14, 14, 14, 14, 14, 14, 9],   // 8 before a name of a factor's group
-    [14, 14, 14, 10, 14, 8, 14, 14, 14, 14, 14],  // 9 behind a name of it
-    [14, 14, 14, 12, 7, 14, 14, 11, 11, 11, 14],  // 10 behind a factor's names
-    [14, 14, 14, 12, 7, 14, 14, 14, 14, 14, 14],  // 11 behind its mark
-    [14, 14, 14, 14, 14, 14, 13, 14, 14, 14, 14], // 12 before `>`
-    [14, 14, 14, 14, 14, 14, 14, 14, 14, 14, 14], // 13 behind `>`
-    [14, 14, 14, 14, 14, 14, 14, 14, 14, 14, 14], // 14 nowhere
+const STATES: [[u8; 12]; 20] = [
+    [14, 1, 14, 14, 14, 14, 14, 14, 14, 14, 1, 14],   // 0 before the parent
+    [14, 14, 2, 14, 14, 14, 14, 14, 14, 14, 12, 14],  // 1 before the model
+    [14, 3, 8, 14, 14, 14, 14, 14, 14, 14, 3, 15],    // 2 behind its bracket
+    [14, 14, 14, 6, 7, 4, 14, 11, 11, 11, 14, 14],    // 3 behind a name there
+    [14, 5, 14, 14, 14, 14, 14, 14, 14, 14, 5, 14],   // 4 behind a bar, where the group is the whole model
+    [14, 14, 14, 6, 14, 4, 14, 14, 14, 14, 14, 14],   // 5 behind a later name of it
+    [14, 14, 14, 14, 14, 14, 13, 12, 12, 12, 14, 14], // 6 behind that group
+    [14, 10, 8, 14, 14, 14, 14, 14, 14, 14, 10, 14],  // 7 before a later factor
+    [14, 9, 14, 14, 14, 14, 14, 14, 14, 14, 9, 14],   // 8 before a name of a factor's group
+    [14, 14, 14, 10, 14, 8, 14, 14, 14, 14, 14, 14],  // 9 behind a name of it
+    [14, 14, 14, 12, 7, 14, 14, 11, 11, 11, 14, 14],  // 10 behind a factor's names
+    [14, 14, 14, 12, 7, 14, 14, 14, 14, 14, 14, 14],  // 11 behind its mark
+    [14, 14, 14, 14, 14, 14, 13, 14, 14, 14, 14, 14], // 12 before `>`
+    [14, 14, 14, 14, 14, 14, 14, 14, 14, 14, 14, 14], // 13 behind `>`
+    [14, 14, 14, 14, 14, 14, 14, 14, 14, 14, 14, 14], // 14 nowhere
+    [14, 14, 14, 16, 14, 17, 14, 14, 14, 14, 14, 14], // 15 behind `#PCDATA`
+    [14, 14, 14, 14, 14, 14, 13, 14, 14, 12, 14, 14], // 16 behind `(#PCDATA)`
+    [14, 18, 14, 14, 14, 14, 14, 14, 14, 14, 18, 14], // 17 before a name of a mixed model
+    [14, 14, 14, 19, 14, 17, 14, 14, 14, 14, 14, 14], // 18 behind a name of it
+    [14, 14, 14, 14, 14, 14, 14, 14, 14, 12, 14, 14], // 19 behind its names and bracket
 ];
 
 /// A token: whether white space is before it, its kind, its bytes, and where it ends.
@@ -142,13 +170,16 @@ fn token(text: &[u8], at: usize) -> Token<'_> {
     };
     let mut kind = KIND[first as usize];
     let mut to = from + 1;
-    if kind == WORD {
+    if kind == WORD || kind == PCDATA {
         while to < text.len() && CLASS[text[to] as usize] > 0 {
             to += 1;
         }
-        if &text[from..to] == b"EMPTY" {
-            kind = EMPTY_WORD;
-        }
+        kind = match &text[from..to] {
+            b"EMPTY" => EMPTY_WORD,
+            b"#PCDATA" => PCDATA,
+            _ if kind == PCDATA => 0,
+            _ => WORD,
+        };
     }
     Token { spaced, kind, bytes: &text[from..to], to }
 }
@@ -190,6 +221,7 @@ fn factors(names: &Names, text: &[u8], mut at: usize) -> Result<Model, u8> {
                 m.factor[x] = index as u8;
             }
             COMMA => index += 1,
+            PCDATA => m.text = 1,
             // Where the record has no place for a factor, some name is there twice.
             QUESTION..=STAR if index < PLACES => m.mode[index] = t.kind - QUESTION + 1,
             _ => {}
@@ -198,6 +230,10 @@ fn factors(names: &Names, text: &[u8], mut at: usize) -> Result<Model, u8> {
     }
     if twice {
         return Err(15);
+    }
+    if m.factor == EMPTY.factor {
+        // Only `#PCDATA` can be without a name, and its star is no factor's.
+        return Ok(Model { text: 1, ..EMPTY });
     }
     m.count = index + 1;
     Ok(m)

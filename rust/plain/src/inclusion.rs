@@ -3,7 +3,7 @@
 //! A chain decides a word by what is side by side in it, its start and its end included. All names of a factor have the same
 //! names beside them in the first, so of each factor only those count that come first and last in the second.
 
-use crate::{is_chain, Model, PLACES};
+use crate::{is_model, Model, PLACES};
 
 /// The most names of the word that shows a no, and the places that its buffer needs.
 pub const LONGEST_COUNTEREXAMPLE: usize = PLACES + 1;
@@ -110,7 +110,7 @@ pub fn within(n: usize, first: &Model, second: &Model, buffer: &mut [u8]) -> Res
     if n == 0 || n > PLACES {
         return Err(3);
     }
-    if !is_chain(n, first) || !is_chain(n, second) {
+    if !is_model(n, first) || !is_model(n, second) {
         return Err(10);
     }
     let word = buffer.get_mut(..LONGEST_COUNTEREXAMPLE).ok_or(12)?;

@@ -26,9 +26,10 @@ pub struct Model {
     pub count: usize,
     pub factor: [u8; PLACES],
     pub mode: [u8; PLACES],
+    pub text: u8,
 }
 
-pub const EMPTY: Model = Model { count: 0, factor: [NONE; PLACES], mode: [0; PLACES] };
+pub const EMPTY: Model = Model { count: 0, factor: [NONE; PLACES], mode: [0; PLACES], text: 0 };
 
 /// The names of a set, rising.
 struct Members(u64);
@@ -51,18 +52,21 @@ impl Iterator for Members {
 pub struct Facts {
     /// Whether the parent has a block.
     seen: bool,
+    /// Whether one of its blocks has text.
+    text: bool,
     empty: bool,
     start: u64,
     end: u64,
     follow: [u64; PLACES],
 }
 
-const NO_FACTS: Facts = Facts { seen: false, empty: false, start: 0, end: 0, follow: [0; PLACES] };
+const NO_FACTS: Facts = Facts { seen: false, text: false, empty: false, start: 0, end: 0, follow: [0; PLACES] };
 
 impl Facts {
-    /// Adds a word whose names are below 64.
-    fn add(&mut self, word: &[u8]) {
+    /// Adds a block: whether it has text, and its word, whose names are below 64.
+    fn add(&mut self, text: bool, word: &[u8]) {
         self.seen = true;
+        self.text |= text;
         let (Some(&first), Some(&last)) = (word.first(), word.last()) else {
             self.empty = true;
             return;
@@ -74,6 +78,11 @@ impl Facts {
             self.follow[before] |= 1 << x;
             before = x as usize % PLACES;
         }
+    }
+
+    /// The names that are in some word: each begins one or follows a name.
+    fn names(&self) -> u64 {
+        self.follow.iter().fold(self.start, |all, row| all | row)
     }
 }
 
@@ -113,22 +122,11 @@ fn good_bytes(name: &[u8]) -> bool {
     CLASS[name[0] as usize] == 2 && name.iter().all(|&b| CLASS[b as usize] > 0)
 }
 
-/// Reads a book, hands each block to `block`, and gives the names back, or a refusal 1 to 7.
-pub fn read_book<'a>(bytes: &'a [u8], mut block: impl FnMut(u8, &'a [u8])) -> Result<Names<'a>, u8> {
-    if bytes.len() > 60_000 {
-        return Err(1);
-    }
-    if bytes.len() < 2 {
-        return Err(2);
-    }
-    let n = bytes[0] as usize + 256 * bytes[1] as usize;
-    if n == 0 || n > PLACES {
-        return Err(3);
-    }
+/// Reads the names from byte 2 on, and says where they end.
+fn read_names<'a>(bytes: &'a [u8], names: &mut [&'a [u8]]) -> Result<usize, u8> {
     let mut at = 2;
-    let mut names: [&[u8]; PLACES] = [&[]; PLACES];
     let mut before: &[u8] = &[];
-    for name in &mut names[..n] {
+    for name in names {
         let size = *bytes.get(at).ok_or(2)? as usize;
         if size == 0 || size > 32 {
             return Err(4);
@@ -144,6 +142,23 @@ pub fn read_book<'a>(bytes: &'a [u8], mut block: impl FnMut(u8, &'a [u8])) -> Re
         before = here;
         at += 1 + size;
     }
+    Ok(at)
+}
+
+/// Reads a book, hands each block's parent, text and word to `block`, and gives the names back, or a refusal 1 to 7, 16.
+pub fn read_book<'a>(bytes: &'a [u8], mut block: impl FnMut(u8, bool, &'a [u8])) -> Result<Names<'a>, u8> {
+    if bytes.len() > 60_000 {
+        return Err(1);
+    }
+    if bytes.len() < 2 {
+        return Err(2);
+    }
+    let n = bytes[0] as usize + 256 * bytes[1] as usize;
+    if n == 0 || n > PLACES {
+        return Err(3);
+    }
+    let mut names: [&[u8]; PLACES] = [&[]; PLACES];
+    let mut at = read_names(bytes, &mut names[..n])?;
     let m = bytes.get(at..at + 2).ok_or(2)?;
     at += 2;
     for _ in 0..m[0] as usize + 256 * m[1] as usize {
@@ -151,13 +166,17 @@ pub fn read_book<'a>(bytes: &'a [u8], mut block: impl FnMut(u8, &'a [u8])) -> Re
         if parent as usize >= n {
             return Err(6);
         }
-        let size = *bytes.get(at + 1).ok_or(2)? as usize;
-        let word = bytes.get(at + 2..at + 2 + size).ok_or(2)?;
+        let text = *bytes.get(at + 1).ok_or(2)?;
+        if text > 1 {
+            return Err(16);
+        }
+        let size = *bytes.get(at + 2).ok_or(2)? as usize;
+        let word = bytes.get(at + 3..at + 3 + size).ok_or(2)?;
         if word.iter().fold(0, |most, &x| most.max(x)) as usize >= n {
             return Err(6);
         }
-        block(parent, word);
-        at += 2 + size;
+        block(parent, text == 1, word);
+        at += 3 + size;
     }
     if at < bytes.len() {
         return Err(7);
@@ -210,9 +229,22 @@ fn transposed(mut rows: [u64; PLACES]) -> [u64; PLACES] {
     rows
 }
 
+/// The model that these facts give: with text one starred factor of all names, without it the chain.
+pub fn model(facts: &Facts) -> Model {
+    if !facts.text {
+        return chain(facts);
+    }
+    let mut building = Building(Model { text: 1, ..EMPTY });
+    let names = facts.names();
+    if names != 0 {
+        building.factor(names, 3);
+    }
+    building.0
+}
+
 /// The chain that the levels of these facts give.
 pub fn chain(facts: &Facts) -> Model {
-    let mut left = facts.follow.iter().fold(facts.start, |all, row| all | row);
+    let mut left = facts.names();
     if left == 0 {
         return EMPTY;
     }
@@ -253,9 +285,9 @@ pub fn chain(facts: &Facts) -> Model {
 /// The facts of one parent in a book, with the book's names.
 fn facts_of(bytes: &[u8], parent: usize) -> Result<(Names<'_>, Facts), u8> {
     let mut facts = NO_FACTS;
-    let names = read_book(bytes, |p, word| {
+    let names = read_book(bytes, |p, text, word| {
         if p as usize == parent {
-            facts.add(word);
+            facts.add(text, word);
         }
     })?;
     if parent >= names.count {
@@ -269,10 +301,20 @@ pub fn model_of_parent(bytes: &[u8], parent: usize) -> Result<Model, u8> {
     if !facts.seen {
         return Err(9);
     }
-    Ok(chain(&facts))
+    Ok(model(&facts))
 }
 
-pub fn is_chain(n: usize, m: &Model) -> bool {
+/// Whether a record is a model over n names: a chain whose text byte fits.
+pub fn is_model(n: usize, m: &Model) -> bool {
+    let fits = match m.text {
+        0 => true,
+        1 => m.count == 0 || (m.count == 1 && m.mode[0] == 3),
+        _ => false,
+    };
+    fits && is_chain(n, m)
+}
+
+fn is_chain(n: usize, m: &Model) -> bool {
     if m.count > PLACES {
         return false;
     }
@@ -322,7 +364,7 @@ fn check_word(n: usize, m: &Model, word: &[u8]) -> Result<(), u8> {
     if n == 0 || n > PLACES {
         return Err(3);
     }
-    if !is_chain(n, m) {
+    if !is_model(n, m) {
         return Err(10);
     }
     if word.len() > 255 || word.iter().fold(0, |most, &x| most.max(x)) as usize >= n {
@@ -363,11 +405,11 @@ fn put(names: &Names, parent: usize, m: &Model, buffer: &mut [u8]) -> Result<usi
 }
 
 pub fn write_declaration(bytes: &[u8], parent: usize, m: &Model, buffer: &mut [u8]) -> Result<usize, u8> {
-    let names = read_book(bytes, |_, _| {})?;
+    let names = read_book(bytes, |_, _, _| {})?;
     if parent >= names.count {
         return Err(8);
     }
-    if !is_chain(names.count, m) {
+    if !is_model(names.count, m) {
         return Err(10);
     }
     put(&names, parent, m, buffer)
@@ -378,23 +420,23 @@ pub fn write_from_sample(bytes: &[u8], parent: usize, buffer: &mut [u8]) -> Resu
     if !facts.seen {
         return Err(9);
     }
-    put(&names, parent, &chain(&facts), buffer)
+    put(&names, parent, &model(&facts), buffer)
 }
 
 pub fn read_declaration(bytes: &[u8], text: &[u8]) -> Result<(usize, Model), u8> {
-    let names = read_book(bytes, |_, _| {})?;
+    let names = read_book(bytes, |_, _, _| {})?;
     declaration::read(&names, text)
 }
 
 /// For each parent with a block, in rising number, its declaration and a line feed, by one pass over the blocks.
 fn lines(bytes: &[u8]) -> Result<Vec<u8>, u8> {
     let mut all = vec![NO_FACTS; PLACES];
-    let names = read_book(bytes, |parent, word| all[parent as usize].add(word))?;
+    let names = read_book(bytes, |parent, text, word| all[parent as usize].add(text, word))?;
     let mut out = Vec::new();
     let mut text = [0u8; declaration::LONGEST];
     for (parent, facts) in all[..names.count].iter().enumerate() {
         if facts.seen {
-            let size = declaration::write(&names, parent, &chain(facts), &mut text);
+            let size = declaration::write(&names, parent, &model(facts), &mut text);
             out.extend_from_slice(&text[..size]);
             out.push(b'\n');
         }

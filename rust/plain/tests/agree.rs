@@ -8,11 +8,11 @@ use second::record::Record;
 struct Plain;
 
 fn to(r: &Record) -> Model {
-    Model { count: r.count, factor: r.factor, mode: r.mode }
+    Model { count: r.count, factor: r.factor, mode: r.mode, text: r.text }
 }
 
 fn back(m: Model) -> Record {
-    Record { count: m.count, factor: m.factor, mode: m.mode }
+    Record { count: m.count, factor: m.factor, mode: m.mode, text: m.text }
 }
 
 fn or<T>(answer: Result<T, u8>, refused: T) -> (u8, T) {
@@ -100,7 +100,7 @@ fn pairs_of_the_benchmark() {
 fn words_of_the_benchmark() {
     for (kind, make) in plain::books::KINDS {
         let book = make();
-        let model = (0..64).find_map(|parent| plain::model_of_parent(&book, parent).ok()).unwrap();
+        let (_, model) = plain::books::timed_parent(&book);
         let word = plain::a_word(&model);
         for word in [&word[..], &word[..word.len().min(3)]] {
             let due = Second.accepts_word(64, &back(model), word);

@@ -8,8 +8,11 @@ pub const MOST_BYTES: usize = 60_000;
 /// The most bytes of a name.
 pub const MOST_NAME_BYTES: usize = 32;
 
+#[derive(Clone, PartialEq, Debug)]
 pub struct Block {
     pub parent: u8,
+    /// 1 where the block has text, 0 where not. Only a book that is refused has other values.
+    pub text: u8,
     pub word: Vec<u8>,
 }
 
@@ -19,9 +22,9 @@ pub struct Book {
 }
 
 impl Book {
-    /// A parent's sample: the words of all its blocks.
-    pub fn sample(&self, parent: u8) -> Vec<&[u8]> {
-        self.blocks.iter().filter(|b| b.parent == parent).map(|b| &b.word[..]).collect()
+    /// The blocks of a parent. Its sample is the words of all of them.
+    pub fn blocks_of(&self, parent: u8) -> Vec<&Block> {
+        self.blocks.iter().filter(|block| block.parent == parent).collect()
     }
 }
 
@@ -69,15 +72,8 @@ pub fn check_names(n: usize) -> Result<(), Refusal> {
     }
 }
 
-/// The book that these bytes are, or 1 to 7.
-pub fn read(bytes: &[u8]) -> Result<Book, Refusal> {
-    if bytes.len() > MOST_BYTES {
-        return Err(1);
-    }
-    let mut left = Left(bytes);
-
-    let n = left.count()?;
-    check_names(n)?;
+/// So many names, each a length and its bytes: 4 for a bad one, 5 for one that is not above the one before.
+fn read_names(left: &mut Left, n: usize) -> Result<Vec<Vec<u8>>, Refusal> {
     let mut names: Vec<Vec<u8>> = Vec::new();
     for _ in 0..n {
         let size = left.byte()?;
@@ -94,22 +90,38 @@ pub fn read(bytes: &[u8]) -> Result<Book, Refusal> {
         }
         names.push(name.to_vec());
     }
+    Ok(names)
+}
 
-    let m = left.count()?;
-    let mut blocks = Vec::new();
-    for _ in 0..m {
-        let parent = left.byte()?;
-        if parent >= n {
-            return Err(6);
-        }
-        let size = left.byte()?;
-        let word = left.field(size)?;
-        if word.iter().any(|&child| child as usize >= n) {
-            return Err(6);
-        }
-        blocks.push(Block { parent: parent as u8, word: word.to_vec() });
+/// A block over n names: its parent, its text byte, its child count and its children.
+fn read_block(left: &mut Left, n: usize) -> Result<Block, Refusal> {
+    let parent = left.byte()?;
+    if parent >= n {
+        return Err(6);
     }
+    let text = left.byte()?;
+    if text > 1 {
+        return Err(16);
+    }
+    let size = left.byte()?;
+    let word = left.field(size)?;
+    if word.iter().any(|&child| child as usize >= n) {
+        return Err(6);
+    }
+    Ok(Block { parent: parent as u8, text: text as u8, word: word.to_vec() })
+}
 
+/// The book that these bytes are, or 1 to 7, 16.
+pub fn read(bytes: &[u8]) -> Result<Book, Refusal> {
+    if bytes.len() > MOST_BYTES {
+        return Err(1);
+    }
+    let mut left = Left(bytes);
+    let n = left.count()?;
+    check_names(n)?;
+    let names = read_names(&mut left, n)?;
+    let m = left.count()?;
+    let blocks = (0..m).map(|_| read_block(&mut left, n)).collect::<Result<Vec<Block>, Refusal>>()?;
     if left.0.is_empty() {
         Ok(Book { names, blocks })
     } else {
@@ -128,6 +140,7 @@ pub fn bytes_of(names: &[Vec<u8>], blocks: &[Block]) -> Vec<u8> {
     out.extend((blocks.len() as u16).to_le_bytes());
     for block in blocks {
         out.push(block.parent);
+        out.push(block.text);
         out.push(block.word.len() as u8);
         out.extend(&block.word);
     }

@@ -2,7 +2,7 @@
 
 use crate::book::{self, Book};
 use crate::record::Record;
-use crate::{chain, declaration, facts::Facts, within::counterexample, Refusal};
+use crate::{chain, declaration, within::counterexample, Refusal};
 
 /// The most names of a word in the acceptance call.
 pub const MOST_WORD: usize = 255;
@@ -19,11 +19,11 @@ fn parent_of(book: &Book, parent: usize) -> Result<u8, Refusal> {
 }
 
 fn model_in(book: &Book, parent: u8) -> Result<Record, Refusal> {
-    let sample = book.sample(parent);
-    if sample.is_empty() {
+    let blocks = book.blocks_of(parent);
+    if blocks.is_empty() {
         return Err(9);
     }
-    Ok(chain::chain(&Facts::of(sample)))
+    Ok(chain::model(&blocks))
 }
 
 fn put(text: &[u8], buffer: &mut [u8]) -> Result<usize, Refusal> {
@@ -34,7 +34,7 @@ fn put(text: &[u8], buffer: &mut [u8]) -> Result<usize, Refusal> {
     Ok(text.len())
 }
 
-/// The model of a parent from a book: 1 to 7, 8, 9.
+/// The model of a parent from a book: 1 to 7, 16, 8, 9.
 pub fn model_of_parent(bytes: &[u8], parent: usize) -> Result<Record, Refusal> {
     let book = book::read(bytes)?;
     let parent = parent_of(&book, parent)?;
@@ -44,7 +44,7 @@ pub fn model_of_parent(bytes: &[u8], parent: usize) -> Result<Record, Refusal> {
 /// Whether a record over n names accepts a word: 3, 10, 11.
 pub fn accepts_word(n: usize, record: &Record, word: &[u8]) -> Result<bool, Refusal> {
     book::check_names(n)?;
-    if !record.is_chain(n) {
+    if !record.is_model(n) {
         return Err(10);
     }
     if word.len() > MOST_WORD || word.iter().any(|&x| x as usize >= n) {
@@ -53,11 +53,11 @@ pub fn accepts_word(n: usize, record: &Record, word: &[u8]) -> Result<bool, Refu
     Ok(record.accepts(word))
 }
 
-/// Whether every word that the first record over n names accepts is accepted by the second: none where it is so, else the length
-/// of a word that shows that it is not, written into the buffer: 3, 10 for the first, 10 for the second, 12.
+/// Whether every word of child names that the first record over n names accepts is accepted by the second: none where it is so,
+/// else the length of a word that shows that it is not, written into the buffer: 3, 10 for the first, 10 for the second, 12.
 pub fn within(n: usize, first: &Record, second: &Record, buffer: &mut [u8]) -> Result<Option<usize>, Refusal> {
     book::check_names(n)?;
-    if !first.is_chain(n) || !second.is_chain(n) {
+    if !first.is_model(n) || !second.is_model(n) {
         return Err(10);
     }
     if buffer.len() < MOST_COUNTEREXAMPLE {
@@ -68,17 +68,17 @@ pub fn within(n: usize, first: &Record, second: &Record, buffer: &mut [u8]) -> R
     word.map(|word| put(&word, buffer)).transpose()
 }
 
-/// The length of a record's declaration, written into the buffer: 1 to 7, 8, 10, 12.
+/// The length of a record's declaration, written into the buffer: 1 to 7, 16, 8, 10, 12.
 pub fn write_declaration(bytes: &[u8], parent: usize, record: &Record, buffer: &mut [u8]) -> Result<usize, Refusal> {
     let book = book::read(bytes)?;
     let parent = parent_of(&book, parent)?;
-    if !record.is_chain(book.names.len()) {
+    if !record.is_model(book.names.len()) {
         return Err(10);
     }
     put(&declaration::written(&book.names, parent as usize, record), buffer)
 }
 
-/// The length of the declaration of a parent's model, written into the buffer: 1 to 7, 8, 9, 12.
+/// The length of the declaration of a parent's model, written into the buffer: 1 to 7, 16, 8, 9, 12.
 pub fn write_from_sample(bytes: &[u8], parent: usize, buffer: &mut [u8]) -> Result<usize, Refusal> {
     let book = book::read(bytes)?;
     let parent = parent_of(&book, parent)?;
@@ -86,7 +86,7 @@ pub fn write_from_sample(bytes: &[u8], parent: usize, buffer: &mut [u8]) -> Resu
     put(&declaration::written(&book.names, parent as usize, &record), buffer)
 }
 
-/// The parent and the record of a declaration's text: 1 to 7, 13, 14, 15.
+/// The parent and the record of a declaration's text: 1 to 7, 16, 13, 14, 15.
 pub fn read_declaration(bytes: &[u8], text: &[u8]) -> Result<(usize, Record), Refusal> {
     let book = book::read(bytes)?;
     declaration::read(&book.names, text)
@@ -104,7 +104,7 @@ fn lines(book: &Book) -> Vec<u8> {
     out
 }
 
-/// The length of the whole DTD of a book, written into the buffer: 1 to 7, 12.
+/// The length of the whole DTD of a book, written into the buffer: 1 to 7, 16, 12.
 pub fn write_dtd(bytes: &[u8], buffer: &mut [u8]) -> Result<usize, Refusal> {
     let book = book::read(bytes)?;
     put(&lines(&book), buffer)

@@ -1,7 +1,9 @@
-//! Levels and the chain that they give.
+//! Levels and the chain that they give, and the model of a parent with or without text.
 
+use crate::book::Block;
 use crate::facts::{Facts, Point};
 use crate::record::Record;
+use std::collections::BTreeSet;
 
 /// Each loop group as one point, with the steps between different points.
 pub struct Graph {
@@ -54,6 +56,17 @@ impl Graph {
         known[node] = Some(level);
         level
     }
+}
+
+/// The model of a parent with these blocks. No text in any of them: the chain. Text in some: text and exactly the names that
+/// stand in their words, each of which may come anywhere and however often.
+pub fn model(blocks: &[&Block]) -> Record {
+    let words = blocks.iter().map(|block| &block.word[..]);
+    if blocks.iter().all(|block| block.text == 0) {
+        return chain(&Facts::of(words));
+    }
+    let names: BTreeSet<u8> = words.flatten().copied().collect();
+    Record::with_text(names.into_iter().collect())
 }
 
 /// The chain of a sample's facts.

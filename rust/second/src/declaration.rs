@@ -1,15 +1,17 @@
-//! One declaration, written in house spelling and read in every spelling that paper 01 and request U1 of paper 02 allow.
+//! One declaration, written in house spelling and read in every spelling that paper 01 and requests U1 and U5 of paper 02 allow.
 
 use crate::book::is_name;
 use crate::record::{Record, EMPTY};
 use crate::Refusal;
 
-/// The declaration of a parent with a chain over these names, in house spelling.
+/// The declaration of a parent with a model over these names, in house spelling.
 pub fn written(names: &[Vec<u8>], parent: usize, record: &Record) -> Vec<u8> {
     let mut text = b"<!ELEMENT ".to_vec();
     text.extend(&names[parent]);
     text.push(b' ');
-    if record.count == 0 {
+    if record.text == 1 {
+        text.extend(text_model(names, record));
+    } else if record.count == 0 {
         text.extend(b"EMPTY");
     } else {
         let factors: Vec<Vec<u8>> = (0..record.count).map(|i| factor_text(names, record, i)).collect();
@@ -18,6 +20,17 @@ pub fn written(names: &[Vec<u8>], parent: usize, record: &Record) -> Vec<u8> {
         text.push(b')');
     }
     text.push(b'>');
+    text
+}
+
+/// `#PCDATA` alone, or before the names of the one factor.
+fn text_model(names: &[Vec<u8>], record: &Record) -> Vec<u8> {
+    let mut text = b"(#PCDATA".to_vec();
+    for &x in &record.names_of(0) {
+        text.push(b'|');
+        text.extend(&names[x as usize]);
+    }
+    text.extend(if record.count == 0 { &b")"[..] } else { b")*" });
     text
 }
 
@@ -41,10 +54,16 @@ fn factor_text(names: &[Vec<u8>], record: &Record, i: usize) -> Vec<u8> {
 /// The names of a factor and its mode.
 type Factor<'a> = (Vec<&'a [u8]>, u8);
 
+/// What is behind the parent: whether text is allowed, and the factors.
+struct Content<'a> {
+    text: bool,
+    factors: Vec<Factor<'a>>,
+}
+
 /// A text's form, its names not yet looked up.
 struct Form<'a> {
     parent: &'a [u8],
-    factors: Vec<Factor<'a>>,
+    content: Content<'a>,
 }
 
 /// White space by production 3 of XML 1.0: space, tab, CR, LF.
@@ -54,7 +73,8 @@ const WHITE: &[u8] = b"\x20\x09\x0D\x0A";
 ///
 /// ```text
 /// text    = '<!ELEMENT' S+ Name S+ content S* '>'
-/// content = 'EMPTY' | group mark? | list
+/// content = 'EMPTY' | mixed | group mark? | list
+/// mixed   = '(' S* '#PCDATA' S* ')' '*'? | '(' S* '#PCDATA' (S* '|' S* Name)+ S* ')*'
 /// list    = '(' S* factor (S* ',' S* factor)* S* ')'
 /// factor  = Name mark? | group mark?
 /// group   = '(' S* Name (S* '|' S* Name)* S* ')'
@@ -68,15 +88,42 @@ impl<'a> Text<'a> {
         self.some_white()?;
         let parent = self.name()?;
         self.some_white()?;
-        let factors = self.content()?;
+        let content = self.content()?;
         self.any_white();
         self.exactly(b">")?;
         self.end()?;
-        Ok(Form { parent, factors })
+        Ok(Form { parent, content })
     }
 
-    /// A list is tried where no group is in front. Where both are, they are the same: one name in brackets.
-    fn content(&mut self) -> Result<Vec<Factor<'a>>, Refusal> {
+    fn content(&mut self) -> Result<Content<'a>, Refusal> {
+        let all = self.0;
+        if let Ok(names) = self.mixed() {
+            let factors = if names.is_empty() { vec![] } else { vec![(names, 3)] };
+            return Ok(Content { text: true, factors });
+        }
+        self.0 = all;
+        Ok(Content { text: false, factors: self.children()? })
+    }
+
+    /// The names behind `#PCDATA`. No name begins with `#`, so a model that has it in front is of no other form.
+    fn mixed(&mut self) -> Result<Vec<&'a [u8]>, Refusal> {
+        self.exactly(b"(")?;
+        self.any_white();
+        self.exactly(b"#PCDATA")?;
+        self.any_white();
+        let mut names = Vec::new();
+        while self.takes(b"|") {
+            self.any_white();
+            names.push(self.name()?);
+            self.any_white();
+        }
+        self.exactly(b")")?;
+        let star = self.takes(b"*");
+        (star || names.is_empty()).then_some(names).ok_or(13)
+    }
+
+    /// Factors without text. A list is tried where no group is in front. Where both are, they are the same: one name in brackets.
+    fn children(&mut self) -> Result<Vec<Factor<'a>>, Refusal> {
         if self.takes(b"EMPTY") {
             return Ok(vec![]);
         }
@@ -171,7 +218,7 @@ pub fn read(names: &[Vec<u8>], text: &[u8]) -> Result<(usize, Record), Refusal> 
     let number = |name: &[u8]| names.iter().position(|n| n == name).ok_or(14u8);
     let parent = number(form.parent)?;
     let mut factors: Vec<(Vec<usize>, u8)> = Vec::new();
-    for (held, mode) in &form.factors {
+    for (held, mode) in &form.content.factors {
         let numbers = held.iter().map(|name| number(name)).collect::<Result<Vec<usize>, Refusal>>()?;
         factors.push((numbers, *mode));
     }
@@ -185,6 +232,7 @@ pub fn read(names: &[Vec<u8>], text: &[u8]) -> Result<(usize, Record), Refusal> 
     }
     let mut record = EMPTY;
     record.count = factors.len();
+    record.text = u8::from(form.content.text);
     for (i, (numbers, mode)) in factors.iter().enumerate() {
         for &x in numbers {
             record.factor[x] = i as u8;

@@ -1,8 +1,10 @@
 //! Demand 3 and request U4 by brute force over a few names: no other chain that accepts every word of a sample accepts only
 //! words that ours does, and a chain is within another exactly when all its words are words of the other. A chain of F factors is
-//! told from another by words of at most F + 1 names, so all words of at most N + 1 names decide.
+//! told from another by words of at most F + 1 names, so all words of at most N + 1 names decide. By request U5 demand 3 is about
+//! parents and records without text; of the records with text the model of a sample with text is the narrowest.
 
-use second::chain::chain;
+use second::book::Block;
+use second::chain::{chain, model};
 use second::facts::Facts;
 use second::record::{chains, Record};
 use second::within::counterexample;
@@ -66,9 +68,27 @@ impl Table {
         within
     }
 
+    /// The words of a sample, a bit for each.
+    fn sample(&self, sample: u128) -> Vec<&[u8]> {
+        (0..self.words.len()).filter(|i| sample >> i & 1 == 1).map(|i| &self.words[i][..]).collect()
+    }
+
+    /// For the sample of these words, the one at a place with text: of all records with text that accept them ours accepts the
+    /// fewest words.
+    fn check_with_text(&self, n: usize, sample: u128, place: usize) {
+        let word = |(i, word): (usize, &&[u8])| Block { parent: 0, text: u8::from(i == place), word: word.to_vec() };
+        let blocks: Vec<Block> = self.sample(sample).iter().enumerate().map(word).collect();
+        let ours = model(&blocks.iter().collect::<Vec<_>>());
+        let with_text = |c: &Record| Record { text: 1, ..*c };
+        let mut all = self.chains.iter().filter(|(c, _)| with_text(c).is_model(n));
+        let (_, our_words) = all.clone().find(|(c, _)| with_text(c) == ours).expect("our model is one of these");
+        assert_eq!(sample & !our_words, 0, "a sample word is not accepted: {blocks:?}");
+        assert!(all.all(|(_, words)| sample & !words != 0 || our_words & !words == 0), "{blocks:?}: {ours:?} is too wide");
+    }
+
     /// Demand 3 for the sample of these words, a bit for each.
     fn check(&self, sample: u128) {
-        let held: Vec<&[u8]> = (0..self.words.len()).filter(|i| sample >> i & 1 == 1).map(|i| &self.words[i][..]).collect();
+        let held = self.sample(sample);
         let ours = chain(&Facts::of(held.iter().copied()));
         let (_, our_words) = self.chains.iter().find(|(c, _)| *c == ours).expect("our model is a chain");
         assert_eq!(sample & !our_words, 0, "a sample word is not accepted: {held:?}");
@@ -87,6 +107,7 @@ fn every_sample_of_two_names() {
     assert_eq!(table.chains.len(), 1 + 2 * 4 + 4 + 2 * 16);
     for sample in 1..1u128 << 15 {
         table.check(sample);
+        table.check_with_text(2, sample, sample as usize % sample.count_ones() as usize);
     }
 }
 

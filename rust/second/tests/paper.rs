@@ -1,5 +1,5 @@
 //! Every line under the samples of paper 01, its traps, its example and its limits; the texts of request U1, the whole DTD of
-//! request U2 and the two records of request U4 of paper 02.
+//! request U2, the two records of request U4 and the fields with text of request U5 of paper 02.
 
 use second::book::{self, bytes_of, Block};
 use second::calls::*;
@@ -11,10 +11,15 @@ fn word(letters: &str) -> Vec<u8> {
     letters.bytes().filter(|&b| b != b'-').map(|b| b - b'a').collect()
 }
 
+/// A block of this parent with a word in letters; `#` before it is text.
+fn block(parent: u8, letters: &str) -> Block {
+    Block { parent, text: u8::from(letters.starts_with('#')), word: word(letters.trim_start_matches('#')) }
+}
+
 /// A book of the names a to l and a parent `p`, number 12, with these words.
 fn letters(sample: &str) -> Vec<u8> {
     let names: Vec<Vec<u8>> = (b'a'..=b'l').chain([b'p']).map(|b| vec![b]).collect();
-    let blocks: Vec<Block> = sample.split(", ").map(|w| Block { parent: 12, word: word(w) }).collect();
+    let blocks: Vec<Block> = sample.split(", ").map(|w| block(12, w)).collect();
     bytes_of(&names, &blocks)
 }
 
@@ -113,7 +118,8 @@ fn traps() {
 fn the_example() {
     let names: Vec<Vec<u8>> =
         ["contribution", "entry", "leaver", "member", "reason", "total"].iter().map(|n| n.as_bytes().to_vec()).collect();
-    let blocks: Vec<Block> = [[3u8, 0, 5], [3, 2, 4], [3, 0, 4]].iter().map(|w| Block { parent: 1, word: w.to_vec() }).collect();
+    let blocks: Vec<Block> =
+        [[3u8, 0, 5], [3, 2, 4], [3, 0, 4]].iter().map(|w| Block { parent: 1, text: 0, word: w.to_vec() }).collect();
     let bytes = bytes_of(&names, &blocks);
     assert_eq!(dtd(&bytes), b"<!ELEMENT entry (member,(contribution|leaver),(reason|total))>\n");
     assert_eq!(dtd(&bytes_of(&names, &[])), b"");
@@ -139,6 +145,10 @@ fn the_longest_declaration() {
         longest = longest.max(write_declaration(&bytes, 0, &Record::of(&factors), &mut buffer).unwrap());
     }
     assert_eq!(longest, 2253);
+    // With text: all names in one group.
+    let text = written(&names, 0, &Record::with_text((0..64).collect()));
+    assert_eq!(text.len(), 2166);
+    assert_eq!(read_declaration(&bytes, &text), Ok((0, Record::with_text((0..64).collect()))));
 }
 
 /// What the call that writes the whole DTD does with a buffer of every length up to some bytes more than the text has.
@@ -157,8 +167,17 @@ fn writes_dtd(book: &[u8], text: &[u8]) {
 #[test]
 fn the_whole_dtd() {
     let names: Vec<Vec<u8>> = (b'a'..=b'e').map(|b| vec![b]).collect();
-    let block = |parent: &str, children: &str| Block { parent: word(parent)[0], word: word(children) };
-    let blocks = [block("e", "a"), block("b", "-"), block("e", "ab"), block("a", "cc"), block("a", "-"), block("b", "-")];
+    let block = |parent: &str, children: &str| block(word(parent)[0], children);
+    let blocks = [
+        block("e", "a"),
+        block("b", "-"),
+        block("e", "ab"),
+        block("a", "cc"),
+        block("a", "-"),
+        block("b", "#-"),
+        block("a", "#e"),
+        block("c", "b"),
+    ];
     // After each block, what the blocks so far show. Lines are in the order of the parents, whatever that of the blocks is.
     let printed = [
         "",
@@ -167,7 +186,9 @@ fn the_whole_dtd() {
         "<!ELEMENT b EMPTY>\n<!ELEMENT e (a,b?)>\n",
         "<!ELEMENT a (c+)>\n<!ELEMENT b EMPTY>\n<!ELEMENT e (a,b?)>\n",
         "<!ELEMENT a (c*)>\n<!ELEMENT b EMPTY>\n<!ELEMENT e (a,b?)>\n",
-        "<!ELEMENT a (c*)>\n<!ELEMENT b EMPTY>\n<!ELEMENT e (a,b?)>\n",
+        "<!ELEMENT a (c*)>\n<!ELEMENT b (#PCDATA)>\n<!ELEMENT e (a,b?)>\n",
+        "<!ELEMENT a (#PCDATA|c|e)*>\n<!ELEMENT b (#PCDATA)>\n<!ELEMENT e (a,b?)>\n",
+        "<!ELEMENT a (#PCDATA|c|e)*>\n<!ELEMENT b (#PCDATA)>\n<!ELEMENT c (b)>\n<!ELEMENT e (a,b?)>\n",
     ];
     for (m, text) in printed.iter().enumerate() {
         let book = bytes_of(&names, &blocks[..m]);
@@ -182,7 +203,10 @@ fn no_dtd_of_a_refused_book() {
     let cut = good[..good.len() - 1].to_vec();
     let mut far = good.clone();
     *far.last_mut().unwrap() = 13;
-    for (bytes, number) in [(cut, 2), (far, 6), ([&good[..], &[0]].concat(), 7), (vec![0, 0], 3), (vec![0; 60_001], 1)] {
+    let text = [&good[..good.len() - 3], &[2, 1, 1]].concat();
+    for (bytes, number) in
+        [(cut, 2), (far, 6), (text, 16), ([&good[..], &[0]].concat(), 7), (vec![0, 0], 3), (vec![0; 60_001], 1)]
+    {
         for size in [0, 99] {
             let mut buffer = vec![7u8; size];
             assert_eq!(write_dtd(&bytes, &mut buffer), Err(number));
@@ -195,7 +219,7 @@ fn no_dtd_of_a_refused_book() {
 fn the_longest_dtd() {
     let names: Vec<Vec<u8>> = (0..64).map(|i| format!("n{i:031}").into_bytes()).collect();
     // A word for each pair makes it a loop group of its own.
-    let words = |parent| (0..64).step_by(2).map(move |x| Block { parent, word: vec![x, x + 1, x] });
+    let words = |parent| (0..64).step_by(2).map(move |x| Block { parent, text: 0, word: vec![x, x + 1, x] });
     let blocks: Vec<Block> = (0..64).flat_map(words).collect();
     let bytes = bytes_of(&names, &blocks);
     let mut buffer = vec![7u8; 144_256];
@@ -226,9 +250,19 @@ fn book_refusals() {
         ([&[2, 0][..], &name(b"a"), &name(b"a")].concat(), 5),
         ([&[1, 0][..], &name(b"a"), &[1, 0]].concat(), 2),
         ([&[1, 0][..], &name(b"a"), &[1, 0, 1]].concat(), 6),
+        ([&[1, 0][..], &name(b"a"), &[1, 0, 1, 2]].concat(), 6),
         ([&[1, 0][..], &name(b"a"), &[1, 0, 0]].concat(), 2),
-        ([&[1, 0][..], &name(b"a"), &[1, 0, 0, 2, 9]].concat(), 2),
-        ([&[1, 0][..], &name(b"a"), &[1, 0, 0, 2, 0, 1]].concat(), 6),
+        ([&[1, 0][..], &name(b"a"), &[1, 0, 0, 2]].concat(), 16),
+        ([&[1, 0][..], &name(b"a"), &[1, 0, 0, 255, 9]].concat(), 16),
+        ([&[1, 0][..], &name(b"a"), &[1, 0, 0, 2, 1, 1]].concat(), 16),
+        ([&[1, 0][..], &name(b"a"), &[1, 0, 0, 2, 0, 0]].concat(), 16),
+        ([&[1, 0][..], &name(b"a"), &[1, 0, 0, 0]].concat(), 2),
+        ([&[1, 0][..], &name(b"a"), &[1, 0, 0, 1]].concat(), 2),
+        ([&[1, 0][..], &name(b"a"), &[1, 0, 0, 1, 2, 9]].concat(), 2),
+        ([&[1, 0][..], &name(b"a"), &[1, 0, 0, 1, 2, 0, 1]].concat(), 6),
+        ([&[1, 0][..], &name(b"a"), &[1, 0, 0, 1, 0, 0]].concat(), 7),
+        ([&[1, 0][..], &name(b"a"), &[2, 0, 0, 1, 1, 1, 0, 2]].concat(), 6),
+        ([&[1, 0][..], &name(b"a"), &[2, 0, 0, 2, 0, 1]].concat(), 16),
         ([&[1, 0][..], &name(b"a"), &[0, 0, 0]].concat(), 7),
         (vec![0; 60_001], 1),
     ];
@@ -454,7 +488,8 @@ fn texts() {
         ("<!ELEMENT a ((a|b),c)", 13),
         ("<!ELEMENT a (a)>>", 13),
         ("<!ELEMENT a (1a)>", 13),
-        ("<!ELEMENT a (#PCDATA)>", 13),
+        ("<!ELEMENT a (#)>", 13),
+        ("<!ELEMENT a (PCDATA)>", 14),
         ("<!ELEMENT d (a)>", 14),
         ("<!ELEMENT a (d,d)>", 14),
         ("<!ELEMENT a (a,a,d)>", 14),
@@ -639,6 +674,211 @@ fn names_of_the_new_forms() {
         let long = "x".repeat(size);
         for model in [format!("({long})*"), format!("(a|{long})"), format!("(({long}),a)"), format!("(( {long}\t)?)")] {
             refuses(&declared(&model), number);
+        }
+    }
+}
+
+#[test]
+fn text_bytes_of_a_book() {
+    let book = |text: u8| [&[1, 0, 1, b'a', 1, 0, 0][..], &[text, 0]].concat();
+    for text in 0..=255 {
+        match book::read(&book(text)) {
+            Ok(found) => assert_eq!((text < 2, found.blocks), (true, vec![Block { parent: 0, text, word: vec![] }])),
+            Err(number) => assert_eq!((text < 2, number), (false, 16)),
+        }
+    }
+    // Every call with a book gives 16, whatever else it is given.
+    let bad = book(2);
+    for parent in [0, 1] {
+        assert_eq!(model_of_parent(&bad, parent), Err(16));
+        assert_eq!(write_from_sample(&bad, parent, &mut []), Err(16));
+        assert_eq!(write_declaration(&bad, parent, &Record { text: 2, ..EMPTY }, &mut []), Err(16));
+    }
+    assert_eq!(write_dtd(&bad, &mut []), Err(16));
+    assert_eq!(read_declaration(&bad, b""), Err(16));
+    assert_eq!(dtd(&bad), b"refused 16\n");
+}
+
+#[test]
+fn samples_with_text() {
+    for (sample, expected) in [
+        ("#-", "(#PCDATA)"),
+        ("-, #-", "(#PCDATA)"),
+        ("#-, -, -", "(#PCDATA)"),
+        ("#a", "(#PCDATA|a)*"),
+        ("#-, a", "(#PCDATA|a)*"),
+        ("a, #-", "(#PCDATA|a)*"),
+        ("aa, #aa, -", "(#PCDATA|a)*"),
+        ("#ba", "(#PCDATA|a|b)*"),
+        // Also names of blocks without text, wherever in their words they are.
+        ("#b, ca", "(#PCDATA|a|b|c)*"),
+        ("abca, #c", "(#PCDATA|a|b|c)*"),
+        ("kli, #-, jfkb", "(#PCDATA|b|f|i|j|k|l)*"),
+    ] {
+        assert_eq!(printed(sample), expected, "sample {sample}");
+        let mut back: Vec<&str> = sample.split(", ").collect();
+        back.reverse();
+        assert_eq!(printed(&back.join(", ")), expected);
+        let text = format!("<!ELEMENT p {expected}>");
+        assert_eq!(read_declaration(&letters(sample), text.as_bytes()), Ok((12, model(sample))));
+        for w in sample.split(", ") {
+            assert_eq!(accepts_word(13, &model(sample), &block(12, w).word), Ok(true), "sample {sample}, word {w}");
+        }
+    }
+    assert_eq!(model("#-, -"), Record { text: 1, ..EMPTY });
+    assert_eq!(model("#b, da"), Record { text: 1, ..chain(&[("abd", 3)]) });
+    assert_eq!(model("b, da").text, 0);
+}
+
+#[test]
+fn text_of_another_parent() {
+    let names: Vec<Vec<u8>> = (b'a'..=b'c').map(|b| vec![b]).collect();
+    let blocks = [block(0, "#b"), block(1, "c"), block(2, "-"), block(0, "c"), block(2, "#-"), block(1, "-")];
+    let lines = b"<!ELEMENT a (#PCDATA|b|c)*>\n<!ELEMENT b (c?)>\n<!ELEMENT c (#PCDATA)>\n";
+    assert_eq!(dtd(&bytes_of(&names, &blocks)), lines);
+}
+
+/// Records with this text byte: no factor, one of each mode, and two.
+fn with_text_byte(text: u8) -> Vec<Record> {
+    let two = chain(&[("a", 3), ("b", 3)]);
+    let of_mode = |mode| chain(&[("ab", mode)]);
+    [EMPTY, of_mode(0), of_mode(1), of_mode(2), of_mode(3), two].map(|record| Record { text, ..record }).into()
+}
+
+#[test]
+fn text_records_on_both_sides() {
+    let good = Record::with_text(vec![1]);
+    let book = bytes_of(&[b"a".to_vec(), b"b".to_vec()], &[]);
+    for text in [0, 1, 2, 3, 128, 255] {
+        for (shape, record) in with_text_byte(text).into_iter().enumerate() {
+            let fits = text == 0 || (text == 1 && (shape == 0 || shape == 4));
+            let refused = |answer: Option<u8>| assert_eq!(answer, (!fits).then_some(10), "{record:?}");
+            refused(accepts_word(2, &record, &[]).err());
+            refused(within(2, &record, &good, &mut [0; 65]).err());
+            refused(within(2, &good, &record, &mut [0; 65]).err());
+            refused(write_declaration(&book, 0, &record, &mut [0; 99]).err());
+        }
+    }
+    // The text byte fits, but the rest is no chain.
+    for bad in [Record { count: 0, ..good }, Record { mode: [3; 64], ..good }, Record { factor: [0; 64], ..good }] {
+        assert_eq!(accepts_word(2, &bad, &[]), Err(10), "{bad:?}");
+    }
+    assert_eq!(accepts_word(2, &good, &[]), Ok(true));
+    assert_eq!(accepts_word(1, &good, &[]), Err(10));
+}
+
+#[test]
+fn text_is_no_part_of_a_word() {
+    let (text, mixed) = (Record::with_text(vec![]), Record::with_text(vec![0, 2]));
+    for (word, of_text, of_mixed) in [("-", true, true), ("a", false, true), ("cac", false, true), ("b", false, false)] {
+        assert_eq!(accepts_word(3, &text, &self::word(word)), Ok(of_text));
+        assert_eq!(accepts_word(3, &mixed, &self::word(word)), Ok(of_mixed));
+    }
+    // Two records with the same words are within each other.
+    for (with, without) in [(text, EMPTY), (mixed, chain(&[("ac", 3)]))] {
+        is_within(3, &with, &without);
+        is_within(3, &without, &with);
+        is_within(3, &with, &with);
+    }
+    is_within(3, &text, &mixed);
+    is_not_within(3, &mixed, &text, &word("a"));
+    is_within(3, &chain(&[("a", 0), ("c", 2)]), &mixed);
+    is_not_within(3, &chain(&[("a", 0), ("b", 0)]), &mixed, &word("ab"));
+}
+
+/// The text is read as the parent p, number 12, with text and any number of these names.
+fn reads_text(model: &str, names: &str) {
+    let due = Ok((12, Record::with_text(word(names))));
+    assert_eq!(read_declaration(&letters("-"), &declared(model)), due, "{model}");
+}
+
+#[test]
+fn models_with_text() {
+    for model in ["(#PCDATA)", "(#PCDATA)*", "( #PCDATA )", "(\t#PCDATA\r\n)*", "(#PCDATA) ", " (#PCDATA)*\n"] {
+        reads_text(model, "");
+    }
+    for (model, names) in [
+        ("(#PCDATA|a)*", "a"),
+        ("( #PCDATA | a )*", "a"),
+        ("(#PCDATA|a|b)*", "ab"),
+        ("(#PCDATA|b|a)*", "ab"),
+        ("(#PCDATA\n|\tl|\rc| a)* ", "acl"),
+    ] {
+        reads_text(model, names);
+    }
+    let with_parent = Record::with_text(vec![0, 12]);
+    assert_eq!(read_declaration(&letters("-"), &declared("(#PCDATA|p|a)*")), Ok((12, with_parent)));
+    // The name PCDATA is none of a model with text.
+    let named = bytes_of(&[b"PCDATA".to_vec(), b"a".to_vec()], &[]);
+    for (model, record) in [
+        ("(PCDATA)", Record::of(&[(vec![0], 0)])),
+        ("(PCDATA|a)*", Record::of(&[(vec![0, 1], 3)])),
+        ("(#PCDATA|PCDATA)*", Record::with_text(vec![0])),
+        ("(#PCDATA)", Record::with_text(vec![])),
+    ] {
+        assert_eq!(read_declaration(&named, format!("<!ELEMENT a {model}>").as_bytes()), Ok((1, record)), "{model}");
+    }
+}
+
+#[test]
+fn no_models_with_text() {
+    for model in ["(#PCDATA)+", "(#PCDATA)?", "(#PCDATA|a)", "(a|#PCDATA)*", "(#PCDATA,a)*", "((#PCDATA))", "(#PCDATA|(a))*"] {
+        refuses(&declared(model), 13);
+    }
+    for model in ["(#PCDATA) *", "#PCDATA", "(#PCDATA|#PCDATA)*", "(#PCDATA|a)+", "(#PCDATA|a?)*", "(#PCDATAx)", "(# PCDATA)"] {
+        refuses(&declared(model), 13);
+    }
+    for model in ["(#pcdata)", "(#PCDAT)", "(#PCDATA", "#PCDATA)", "#PCDATA*", "(#PCDATA|)*", "(#PCDATA||a)*", "(|#PCDATA)*"] {
+        refuses(&declared(model), 13);
+    }
+    for model in
+        ["(#PCDATA|a) *", "(#PCDATA|a)\n*", "(#PCDATA)**", "(#PCDATA|a)**", "(#PCDATA|a)*?", "(#PCDATA a)*", "(a,#PCDATA)"]
+    {
+        refuses(&declared(model), 13);
+    }
+    for model in
+        ["(##PCDATA)", "(#PCDATA#)", "((#PCDATA)*)", "((#PCDATA|a)*)", "((#PCDATA)|a)*", "(a,(#PCDATA|b)*)", "(#PCDATA|a)?"]
+    {
+        refuses(&declared(model), 13);
+    }
+    for model in
+        ["(#PCDATA*)", "(#PCDATA*|a)*", "(#PCDATA|a*)*", "(#PCDATA|a,b)*", "(#PCDATA|9)*", "(#PCDATA.|a)*", "#PCDATA EMPTY"]
+    {
+        refuses(&declared(model), 13);
+    }
+    for model in ["(#PCDATA|x)*", "(#PCDATA|a|a|x)*", "(#PCDATA|PCDATA)*", "(#PCDATA|x|x)*"] {
+        refuses(&declared(model), 14);
+    }
+    for model in ["(#PCDATA|a|a)*", "(#PCDATA|b|a|b)*", "(#PCDATA|p|p)*"] {
+        refuses(&declared(model), 15);
+        refuses(format!("<!ELEMENT x {model}>").as_bytes(), 14);
+    }
+    refuses(b"<!ELEMENT x (#PCDATA)>", 14);
+    refuses(b"<!ELEMENT x (#PCDATA|a)>", 13);
+    for (size, number) in [(32, 14), (33, 13)] {
+        refuses(&declared(&format!("(#PCDATA|{})*", "x".repeat(size))), number);
+    }
+}
+
+#[test]
+fn white_space_around_text() {
+    let texts = [("<!ELEMENT p _(_#PCDATA_)_>", ""), ("<!ELEMENT p _(_#PCDATA_|_b_|_a_)*_>", "ab")];
+    for (text, names) in texts {
+        let due = Ok((12, Record::with_text(word(names))));
+        for at in places(text) {
+            for byte in WHITE {
+                assert_eq!(read_declaration(&letters("-"), &with_bytes(text, at, &[byte], b"")), due, "{text} {at} {byte}");
+            }
+            for byte in b"#(),\x0b\x0c\x85\xa0\0" {
+                refuses(&with_bytes(text, at, &[*byte], b""), 13);
+            }
+        }
+    }
+    for text in ["<!ELEMENT p (#_P_CDAT_A)>", "<!ELEMENT p (#PCDATA)_*>", "<!ELEMENT p (#PCDATA|a)_*>"] {
+        for at in places(text) {
+            for byte in WHITE {
+                refuses(&with_bytes(text, at, &[byte], b""), 13);
+            }
         }
     }
 }

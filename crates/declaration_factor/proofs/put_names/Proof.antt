@@ -15,11 +15,11 @@ use Rattle.declaration_factor.proofs.put_names.Statement.{statement}
 use Rattle.declaration_factor.proofs.put_names.Tie as tie
 
 abbrev Inv-loop : tie.InvT-loop
-Inv-loop buffer₀ at bytes layout many to₀ some₀ left₀ buffer to some left =
-    Left buffer₀ at (setText (namesIn bytes) (layout .names) left₀ many false) buffer to (setText (namesIn bytes) (layout .names) left many some) × MembersBelow (layout .names) left
+Inv-loop buffer₀ at bytes layout many some to₀ later₀ left₀ buffer to later left =
+    Left buffer₀ at (setText (namesIn bytes) (layout .names) left₀ many some) buffer to (setText (namesIn bytes) (layout .names) left many later) × MembersBelow (layout .names) left
 
 abbrev μ-loop : tie.MeasureT-loop
-μ-loop buffer₀ at bytes layout many to₀ some₀ left₀ buffer to some left = size left
+μ-loop buffer₀ at bytes layout many some to₀ later₀ left₀ buffer to later left = size left
 
 loop-holds : tie.Need-loop-holds Inv-loop μ-loop
 loop-holds c = (left-start _ _ _, c .before .before .pre .2)

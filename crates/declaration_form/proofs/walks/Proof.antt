@@ -70,7 +70,7 @@ loop-again c =
 returns-3 : tie.Need-returns-3 Inv-loop μ-loop
 returns-3 c =
     let l = c .before .loop in
-    sym (l .inv .2 ∙ walk-done _ _ _ _ (c .loop-test .left) ∙ ap (λ (n : ℕ). eqb n 13) (number-state _ (l .inv .1)))
+    sym (l .inv .2 ∙ walk-done _ _ _ _ (c .loop-test .left) ∙ ap (λ (n : ℕ). eqb n 18) (number-state _ (l .inv .1)))
 
 pub walks-spec : {M : Type 1} → statement M
 walks-spec =

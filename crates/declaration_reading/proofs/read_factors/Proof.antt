@@ -20,13 +20,13 @@ inside : (x : ℕ) (factor : List ℕ) → x ≤ places → (x ≡ places → �
 inside x factor h d e = omega (arith, d)
 
 abbrev Inv-loop : tie.InvT-loop
-Inv-loop bytes layout text at parent factor₀ mode₀ index₀ i₀ factor mode index i =
+Inv-loop bytes layout text at parent mixed factor₀ mode₀ index₀ i₀ factor mode index i =
     (i ≤ length text) × (index < places) × (length factor ≡ places) × (length mode ≡ places)
     × (gatherFrom places (namesIn bytes) (tokensAt text at) (startRows places) ≡ left (namesIn bytes) text i index factor mode)
     × (knownTokens (namesIn bytes) (tokensAt text at) ≡ knownTokens (namesIn bytes) (tokensAt text i))
 
 abbrev μ-loop : tie.MeasureT-loop
-μ-loop bytes layout text at parent factor₀ mode₀ index₀ i₀ factor mode index i = length text - i
+μ-loop bytes layout text at parent mixed factor₀ mode₀ index₀ i₀ factor mode index i = length text - i
 
 loop-holds : tie.Need-loop-holds Inv-loop μ-loop
 loop-holds c = (c .before .before .pre .1, omega arith, refl, refl, left-start _ _ _, refl)
@@ -46,7 +46,7 @@ returns c =
     let head = numbered .before .before .before in
     let laid = head .before .before .before .pre .0 in
     let unknown = unknown-kind _ _ laid _ _ _ (numbered .number-at .ensures .0) (c .before .if1 .taken) in
-    factors-unknown _ _ _ _ _ _ _ _ (head .loop .inv .5) (head .loop .inv .4) _ (known-stop _ _ _ (numbered .before .piece-at .ensures .0) _ _ unknown refl) (c .refused .ensures)
+    factors-unknown _ _ _ _ _ _ _ _ _ (head .loop .inv .5) (head .loop .inv .4) _ (known-stop _ _ _ (numbered .before .piece-at .ensures .0) _ _ unknown refl) (c .refused .ensures)
 
 place-piece-requires : tie.Need-place-piece-requires Inv-loop μ-loop
 place-piece-requires c κs =
@@ -90,7 +90,7 @@ returns-2 c =
     let piece = numbered .before .piece-at .ensures .0 in
     let number = numbered .number-at .ensures .0 in
     let there = placed .before .before .if1 .left in
-    factors-twice _ _ _ _ _ _ _ _ (head .loop .inv .5) (head .loop .inv .4) _ _
+    factors-twice _ _ _ _ _ _ _ _ _ (head .loop .inv .5) (head .loop .inv .4) _ _
     (known-on _ _ _ piece _ _ (known-kind _ _ laid _ _ _ number there) refl)
     (left-stop _ _ _ _ piece _ _ _ (head .loop .inv .1) _ _ (placed-same _ _ _ _ _ _ _ (number-same _ _ laid _ _ _ number there) (placed .place-piece .ensures)) _ (moded .before .mode-of .ensures) _ (moded .put-mode .ensures) _ (c .before .before .before .next-index .ensures) _ (c .before .before .fine .ensures) (not-true _ (c .before .if2 .taken)))
     (c .twice .ensures)
@@ -122,12 +122,15 @@ loop-again c =
       head .loop .inv .5 ∙ known-on _ _ _ piece _ _ (known-kind _ _ laid _ _ _ number there) refl,
     )
 
+given-requires : tie.Need-given-requires Inv-loop μ-loop
+given-requires c κs = tt
+
 returns-3 : tie.Need-returns-3 Inv-loop μ-loop
-returns-3 c = factors-done _ _ _ _ _ _ _ _ (c .before .loop .inv .5) (c .before .loop .inv .4) (c .loop-test .left)
+returns-3 c = let head = c .before .before in factors-done _ _ _ _ _ _ _ _ _ (head .loop .inv .5) (head .loop .inv .4) (c .before .loop-test .left) _ (c .given .ensures)
 
 pub read-factors-spec : {M : Type 1} → statement M
 read-factors-spec =
     tie.close
     (tie.spec Inv-loop μ-loop loop-holds piece-at-requires number-at-requires refused-requires returns
     (λ c. search needs) place-piece-requires (λ c. search needs) mode-of-requires put-mode-requires
-    next-index-requires fine-requires twice-requires returns-2 loop-less loop-again (λ c. search needs) returns-3)
+    next-index-requires fine-requires twice-requires returns-2 loop-less loop-again (λ c. search needs) given-requires returns-3)

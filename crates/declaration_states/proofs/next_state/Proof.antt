@@ -15,9 +15,9 @@ use Rattle.declaration_states.proofs.next_state.Statement.{statement}
 use Rattle.declaration_states.proofs.next_state.Tie as tie
 
 entry : (states : List ℕ) (state kind : ℕ) → states ≡ table → state ≤ lastState → kind ≤ starKind →
-    (stateOf (getD states (11 * state + kind) 0) ≡ step (stateOf state) kind) × (getD states (11 * state + kind) 0 ≤ lastState)
+    (stateOf (getD states (12 * state + kind) 0) ≡ step (stateOf state) kind) × (getD states (12 * state + kind) 0 ≤ lastState)
 entry states state kind e h k =
-    let q = ap (λ (l : List ℕ). getD l (11 * state + kind) 0) e ∙ table-at state kind h k in
+    let q = ap (λ (l : List ℕ). getD l (12 * state + kind) 0) e ∙ table-at state kind h k in
     let s = state-number (step (stateOf state) kind) in
     (ap stateOf q ∙ s .0, omega (arith, s .1))
 

@@ -1,4 +1,4 @@
--- `state_table` meets its contract: the table of the walk is computed, all of its 165 entries, and is the code's.
+-- `state_table` meets its contract: the table of the walk is computed, all of its 240 entries, and is the code's.
 -- Assumes nothing.
 use mathlib.Core.Path.{refl}
 use Rattle.declaration_walk.specs.Walk.{arrows, along, states, step, numberOf}

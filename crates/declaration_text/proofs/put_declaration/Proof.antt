@@ -2,7 +2,7 @@
 -- Assumes nothing.
 use mathlib.Core.Path.{_∙_}
 use native.Mathlib.Omega.{arith}
-use Rattle.declaration_text.proofs.Steps.{opening-room, parent-room, space-room, model-room, end-room, text-put}
+use Rattle.declaration_text.proofs.Steps.{opening-room, parent-room, space-room, content-room, end-room, text-put}
 use Rattle.declaration_text.proofs.Whole.{text-room, declaration-put}
 use borrow.Author.Needs.{needs}
 use Rattle.declaration_text.proofs.put_declaration.Statement.{statement}
@@ -30,14 +30,14 @@ put-some-requires c κs =
     let room = text-room _ _ (start .pre .0) _ (start .pre .1) _ (start .pre .2) _ _ (start .pre .3) in
     space-room _ _ _ _ _ _ room _ _ (opened .put-all .ensures) _ _ (named .put-name .ensures)
 
-put-model-requires : tie.Need-put-model-requires
-put-model-requires c κs =
+put-content-requires : tie.Need-put-content-requires
+put-content-requires c κs =
     let spaced = c .before .before .before in
     let named = spaced .before .before .before .before in
     let opened = named .before .before .before .before in
     let start = opened .before .before .before .before .before in
     let room = text-room _ _ (start .pre .0) _ (start .pre .1) _ (start .pre .2) _ _ (start .pre .3) in
-    (start .pre .0, model-room _ _ _ _ _ _ room _ _ (opened .put-all .ensures) _ _ (named .put-name .ensures) _ _ (spaced .put-some .ensures), start .pre .2 .few)
+    (start .pre .0, content-room _ _ _ _ _ _ room _ _ (opened .put-all .ensures) _ _ (named .put-name .ensures) _ _ (spaced .put-some .ensures), start .pre .2 .chain .few)
 
 put-some-requires-2 : tie.Need-put-some-requires-2
 put-some-requires-2 c κs =
@@ -47,7 +47,7 @@ put-some-requires-2 c κs =
     let opened = named .before .before .before .before in
     let start = opened .before .before .before .before .before in
     let room = text-room _ _ (start .pre .0) _ (start .pre .1) _ (start .pre .2) _ _ (start .pre .3) in
-    end-room _ _ _ _ _ _ room _ _ (opened .put-all .ensures) _ _ (named .put-name .ensures) _ _ (spaced .put-some .ensures) _ _ (modelled .put-model .ensures)
+    end-room _ _ _ _ _ _ room _ _ (opened .put-all .ensures) _ _ (named .put-name .ensures) _ _ (spaced .put-some .ensures) _ _ (modelled .put-content .ensures)
 
 same-length : tie.Need-same-length
 same-length c =
@@ -56,7 +56,7 @@ same-length c =
     let spaced = modelled .before .before .before .before in
     let named = spaced .before .before .before .before in
     let opened = named .before .before .before .before in
-    ended .put-some2 .ensures .same ∙ modelled .put-model .ensures .same ∙ spaced .put-some .ensures .same ∙ named .put-name .ensures .same ∙ opened .put-all .ensures .same
+    ended .put-some2 .ensures .same ∙ modelled .put-content .ensures .same ∙ spaced .put-some .ensures .same ∙ named .put-name .ensures .same ∙ opened .put-all .ensures .same
 
 returns : tie.Need-returns
 returns c =
@@ -68,10 +68,10 @@ returns c =
     let start = opened .before .before .before .before .before in
     let room = text-room _ _ (start .pre .0) _ (start .pre .1) _ (start .pre .2) _ _ (start .pre .3) in
     declaration-put _ _ (start .pre .0) _ (start .pre .1) _ (start .pre .2) _ _ _ _
-    (text-put _ _ _ _ _ _ room _ _ (opened .put-all .ensures) _ _ (named .put-name .ensures) _ _ (spaced .put-some .ensures) _ _ (modelled .put-model .ensures) _ _ (ended .put-some2 .ensures))
+    (text-put _ _ _ _ _ _ room _ _ (opened .put-all .ensures) _ _ (named .put-name .ensures) _ _ (spaced .put-some .ensures) _ _ (modelled .put-content .ensures) _ _ (ended .put-some2 .ensures))
 
 pub put-declaration-spec : {M : Type 1} → statement M
 put-declaration-spec =
     tie.close
-    (tie.spec (λ c. search needs) put-all-requires put-name-requires put-some-requires put-model-requires
+    (tie.spec (λ c. search needs) put-all-requires put-name-requires put-some-requires put-content-requires
     put-some-requires-2 same-length returns)

@@ -6,10 +6,10 @@ use borrow.Author.Needs.{needs}
 use borrow.Author.Tests.{not-true, not-false}
 use Rattle.nameset.specs.Places.{places}
 use Rattle.book.proofs.Laws.{few-names}
-use Rattle.chain_levels.specs.Chain.{chainOf}
+use Rattle.chain_mixed.specs.Mixed.{modelOf}
 use Rattle.chain_sample.specs.Sample.{showWord}
 use Rattle.dtd_lines.specs.Lines.{rowFacts}
-use Rattle.dtd_lines.proofs.Line.{nothing-put, chain, text-room, feed-room, line-put}
+use Rattle.dtd_lines.proofs.Line.{nothing-put, model, text-room, feed-room, line-put}
 use Rattle.dtd_lines.proofs.put_line.Statement.{statement}
 use Rattle.dtd_lines.proofs.put_line.Tie as tie
 
@@ -22,20 +22,21 @@ returns c =
 -- where the facts show a word
 some : (c : tie.Else1) →
     let f = c .before .before .before .before .before in
-    showWord places (rowFacts (f .args .layout .names) (f .args .row .now)) ≡ true
+    showWord places (rowFacts (f .args .layout .names) (f .args .row .now) .follow) ≡ true
 unfolding rowFacts
 some c = sym (c .before .shows-word .ensures _) ∙ not-false _ (c .if1 .left)
 
-row-chain-requires : tie.Need-row-chain-requires
-row-chain-requires c κs =
+row-model-requires : tie.Need-row-model-requires
+row-model-requires c κs =
     let p = c .before .before .before .before .before .pre in
     (few-names _ _ (p .0), p .2)
 
-made : (c : tie.After-row-chain) →
+made : (c : tie.After-row-model) →
     let f = c .before .before .before .before .before .before in
-    c .row-chain .result ≡ chainOf places (rowFacts (f .args .layout .names) (f .args .row .now))
+    let facts = rowFacts (f .args .layout .names) (f .args .row .now) in
+    c .row-model .result ≡ modelOf places (facts .follow) (facts .text)
 unfolding rowFacts
-made c = c .row-chain .ensures
+made c = c .row-model .ensures
 
 put-declaration-requires : tie.Need-put-declaration-requires
 put-declaration-requires c κs =
@@ -45,7 +46,7 @@ put-declaration-requires c κs =
     let shown = some (m .before) in (
       p .0,
       p .1,
-      chain _ _ (p .0) _ (p .1) _ (p .2) shown _ (made m),
+      model _ _ (p .0) _ (p .1) _ (p .2) shown _ (made m),
       text-room _ _ (p .0) _ (p .1) _ (p .2) shown _ (made m) (f .args .out .now) _ (p .3),
     )
 
@@ -65,4 +66,4 @@ returns-2 c =
 pub put-line-spec : {M : Type 1} → statement M
 put-line-spec =
     tie.close
-    (tie.spec (λ c κs. search needs) returns row-chain-requires put-declaration-requires put-some-requires (λ c. search needs) returns-2)
+    (tie.spec (λ c κs. search needs) returns row-model-requires put-declaration-requires put-some-requires (λ c. search needs) returns-2)

@@ -1,13 +1,13 @@
 -- `gather_block` meets its contract: a block of the parent is added, and one of another parent is not.
 -- Assumes nothing.
 use Prim.Native.Nat.{ℕ, _+_, _-_}
-use mathlib.Core.Path.{_≡_, refl, sym, _∙_, subst}
+use mathlib.Core.Path.{_≡_, refl, sym, _∙_}
 use mathlib.Core.List.{List}
 use native.Mathlib.Omega.{arith}
 use lib.ListN.{getD, take, drop}
 use borrow.Author.Needs.{needs}
 use Rattle.book.specs.Book.{blockOf}
-use Rattle.book.specs.Bytes.{headSize}
+use Rattle.book.specs.Bytes.{headSize, textAt}
 use Rattle.book_blocks.specs.Gathers.{Gathers}
 use Rattle.book_blocks.proofs.Steps.{BlockRead, block-read, part-read, block-stopped}
 use Rattle.book_blocks.proofs.Gathering.{gathers-block, gathers-none}
@@ -25,10 +25,10 @@ module _ (n : ℕ) (s : List ℕ) (at size : ℕ) (b : BlockRead n s at size) wh
 
   -- a block of the parent
   own : (w : List ℕ) → w ≡ take (at + headSize + size - (at + headSize)) (drop (at + headSize) s) →
-      (parent p : ℕ) → p ≡ getD s at 0 → p ≡ parent → (t u : List ℕ) → RowAdded t w u → Gathers (RowKeeps parent) (blockOf n (drop at s)) t u
+      (parent p : ℕ) → p ≡ getD s at 0 → p ≡ parent → (t u : List ℕ) → RowAdded t (getD s (at + textAt) 0) w u → Gathers (RowKeeps parent) (blockOf n (drop at s)) t u
   own w part parent p e q t u a =
-      gathers-block (RowKeeps parent) n s at t u size b
-      (λ bs k. row-own parent bs (b .block .value) t k u (sym (b .parent) ∙ sym e ∙ q) (subst (λ (v : List ℕ). RowAdded t v u) (part-read n s at size b w part) a))
+      let added : RowAdded t (b .block .value .text) (b .block .value .word) u = rw (sym (b .text), sym (part-read n s at size b w part)) a in
+      gathers-block (RowKeeps parent) n s at t u size b (λ bs k. row-own parent bs (b .block .value) t k u (sym (b .parent) ∙ sym e ∙ q) added)
 
 -- what is known where a block was read
 placed : (c : tie.After-known-told) →
@@ -47,24 +47,30 @@ returns c =
       k .before .before .before .before .before .before .pre .2,
     )
 
+add-text : tie.Need-add-text
+add-text c = let k = c .before .before .before in omega (arith, placed k .fits, k .before .before .before .before .before .before .pre .0)
+
+shared-slice-read-text : tie.Need-shared-slice-read-text
+shared-slice-read-text c = omega (arith, placed (c .before .before .before .before) .fits)
+
 add-from : tie.Need-add-from
-add-from c = let k = c .before .before .before in omega (arith, placed k .fits, k .before .before .before .before .before .before .pre .0)
+add-from c = let k = c .before .before .before .before in omega (arith, placed k .fits, k .before .before .before .before .before .before .pre .0)
 
 add-part : tie.Need-add-part
-add-part c = let k = c .before .before .before .before in omega (arith, placed k .fits, k .before .before .before .before .before .before .pre .0)
+add-part c = let k = c .before .before .before .before .before in omega (arith, placed k .fits, k .before .before .before .before .before .before .pre .0)
 
 part-requires : tie.Need-part-requires
-part-requires c κs = let k = c .before .before .before .before in (omega arith, placed k .fits)
+part-requires c κs = let k = c .before .before .before .before .before in (omega arith, placed k .fits)
 
 add-to-row-requires : tie.Need-add-to-row-requires
 add-to-row-requires c κs =
-    let k = c .before .before .before .before .before in
+    let k = c .before .before .before .before .before .before in
     let pre = k .before .before .before .before .before .before .pre in
     (pre .2, word-below _ _ _ _ (placed k) _ (c .part .ensures) (pre .1))
 
 returns-2 : tie.Need-returns-2
 returns-2 c =
-    let e = c .before .before .before .before .before in
+    let e = c .before .before .before .before .before .before in
     let k = e .before .before .before in
     let added = c .before .before .add-to-row .ensures in (
       sym (k .before .size .given .1) ∙ k .before .before .before .block-at .ensures,
@@ -85,5 +91,5 @@ returns-3 c =
 pub gather-block-spec : {M : Type 1} → statement M
 gather-block-spec =
     tie.close
-    (tie.spec (λ c κs. search needs) (λ c. search needs) shared-slice-read-wide (λ c κs. search needs) returns add-from add-part part-requires
-    add-to-row-requires (λ c. search needs) (λ c. search needs) returns-2 returns-3)
+    (tie.spec (λ c κs. search needs) (λ c. search needs) shared-slice-read-wide (λ c κs. search needs) returns add-text shared-slice-read-text add-from add-part
+    part-requires add-to-row-requires (λ c. search needs) (λ c. search needs) returns-2 returns-3)

@@ -1,7 +1,7 @@
--- `add_to_table` meets its contract: the row is lent, and put back with the word added.
+-- `add_to_table` meets its contract: the row is lent, and put back with the block added.
 -- Assumes nothing.
 use borrow.Author.Needs.{needs}
-use Rattle.follow_table.proofs.Parts.{part-is, length-row, word-put}
+use Rattle.follow_table.proofs.Parts.{part-is, length-row, block-put}
 use Rattle.follow_table.proofs.add_to_table.Statement.{statement}
 use Rattle.follow_table.proofs.add_to_table.Tie as tie
 
@@ -14,7 +14,7 @@ add-to-row-requires c κs =
 returns : tie.Need-returns
 returns c =
     let f = c .before .before .before .before .before .before in
-    word-put _ _ _ _ (f .pre .0) (f .pre .1) (c .before .before .add-to-row .ensures)
+    block-put _ _ _ _ _ (f .pre .0) (f .pre .1) (c .before .before .add-to-row .ensures)
 
 pub add-to-table-spec : {M : Type 1} → statement M
 add-to-table-spec =

@@ -11,22 +11,22 @@ returns c = stops-count _ _ _ _ (c .before .good-count .ensures) (c .if1 .taken)
 returns-2 : tie.Need-returns-2
 returns-2 c =
     let n = c .before .before in
-    stops-first _ _ _ _ (n .before .good-count .ensures) (n .if1 .left) (c .before .is-chain .ensures) (c .if2 .taken)
+    stops-first _ _ _ _ (n .before .good-count .ensures) (n .if1 .left) (c .before .is-model .ensures) (c .if2 .taken)
 
 returns-3 : tie.Need-returns-3
 returns-3 c =
     let f = c .before .before in
     let n = f .before .before in
-    stops-second _ _ _ _ (n .before .good-count .ensures) (n .if1 .left) (f .before .is-chain .ensures) (f .if2 .left)
-    (c .before .is-chain2 .ensures) (c .if3 .taken)
+    stops-second _ _ _ _ (n .before .good-count .ensures) (n .if1 .left) (f .before .is-model .ensures) (f .if2 .left)
+    (c .before .is-model2 .ensures) (c .if3 .taken)
 
 returns-4 : tie.Need-returns-4
 returns-4 c =
     let g = c .before in
     let f = g .before .before in
     let n = f .before .before in
-    stops-buffer _ _ _ _ (n .before .good-count .ensures) (n .if1 .left) (f .before .is-chain .ensures) (f .if2 .left)
-    (g .before .is-chain2 .ensures) (g .if3 .left) (c .if4 .taken)
+    stops-buffer _ _ _ _ (n .before .good-count .ensures) (n .if1 .left) (f .before .is-model .ensures) (f .if2 .left)
+    (g .before .is-model2 .ensures) (g .if3 .left) (c .if4 .taken)
 
 compare-chains-requires : tie.Need-compare-chains-requires
 compare-chains-requires c κs =
@@ -35,7 +35,7 @@ compare-chains-requires c κs =
     let f = g .before .before in
     let n = f .before .before in
     let s = n .before .before .before in
-    let b = both-chains _ _ _ (s .args .word .now) (n .before .good-count .ensures) (n .if1 .left) (f .before .is-chain .ensures) (f .if2 .left) (g .before .is-chain2 .ensures) (g .if3 .left) in
+    let b = both-chains _ _ _ (s .args .word .now) (n .before .good-count .ensures) (n .if1 .left) (f .before .is-model .ensures) (f .if2 .left) (g .before .is-model2 .ensures) (g .if3 .left) in
     (b .0, b .1, b .2, l .if4 .left)
 
 returns-5 : tie.Need-returns-5
@@ -45,7 +45,7 @@ returns-5 c =
     let g = l .before in
     let f = g .before .before in
     let n = f .before .before in
-    answers _ _ _ _ (n .before .good-count .ensures) (n .if1 .left) (f .before .is-chain .ensures) (f .if2 .left) (g .before .is-chain2 .ensures) (g .if3 .left)
+    answers _ _ _ _ (n .before .good-count .ensures) (n .if1 .left) (f .before .is-model .ensures) (f .if2 .left) (g .before .is-model2 .ensures) (g .if3 .left)
     (l .if4 .left) _ _ (w .compare-chains .ensures)
 
 pub within-spec : {M : Type 1} → statement M

@@ -15,7 +15,7 @@ returns c = stops-count _ _ _ (c .before .good-count .ensures) (c .if1 .taken)
 returns-2 : tie.Need-returns-2
 returns-2 c =
     let n = c .before .before in
-    stops-model _ _ _ (n .before .good-count .ensures) (n .if1 .left) (c .before .rows-are-chain .ensures) (c .if2 .taken)
+    stops-model _ _ _ (n .before .good-count .ensures) (n .if1 .left) (c .before .rows-are-model .ensures) (c .if2 .taken)
 
 bad-word-requires : tie.Need-bad-word-requires
 bad-word-requires c κs =
@@ -26,7 +26,7 @@ returns-3 : tie.Need-returns-3
 returns-3 c =
     let m = c .before .before in
     let n = m .before .before in
-    stops-word _ _ _ (n .before .good-count .ensures) (n .if1 .left) (m .before .rows-are-chain .ensures) (m .if2 .left)
+    stops-word _ _ _ (n .before .good-count .ensures) (n .if1 .left) (m .before .rows-are-model .ensures) (m .if2 .left)
     (c .before .bad-word .ensures) (c .if3 .taken)
 
 returns-4 : tie.Need-returns-4
@@ -35,7 +35,7 @@ returns-4 c =
     let w = c .before .before in
     let m = w .before .before in
     let n = m .before .before in
-    answers _ _ _ (n .before .good-count .ensures) (n .if1 .left) (m .before .rows-are-chain .ensures) (m .if2 .left)
+    answers _ _ _ (n .before .good-count .ensures) (n .if1 .left) (m .before .rows-are-model .ensures) (m .if2 .left)
     (w .before .bad-word .ensures) (w .if3 .left) (c .before .rows-accept .ensures) (c .if4 .taken)
 
 returns-5 : tie.Need-returns-5
@@ -44,7 +44,7 @@ returns-5 c =
     let w = c .before .before in
     let m = w .before .before in
     let n = m .before .before in
-    answers _ _ _ (n .before .good-count .ensures) (n .if1 .left) (m .before .rows-are-chain .ensures) (m .if2 .left)
+    answers _ _ _ (n .before .good-count .ensures) (n .if1 .left) (m .before .rows-are-model .ensures) (m .if2 .left)
     (w .before .bad-word .ensures) (w .if3 .left) (c .before .rows-accept .ensures) (c .if4 .left)
 
 pub rows-accept-word-spec : {M : Type 1} → statement M

@@ -26,14 +26,22 @@ loop-holds c = tt
 shared-slice-read-wide : tie.Need-shared-slice-read-wide Inv-loop μ-loop
 shared-slice-read-wide c = omega (arith, placed (c .before) .fits)
 
+add-wide : tie.Need-add-wide Inv-loop μ-loop
+add-wide c =
+    let k = c .before .before in
+    omega (arith, placed k .fits, k .before .before .before .before .before .before .before .pre)
+
+shared-slice-read-wide-2 : tie.Need-shared-slice-read-wide-2 Inv-loop μ-loop
+shared-slice-read-wide-2 c = omega (arith, placed (c .before .before .before) .fits)
+
 add-at : tie.Need-add-at Inv-loop μ-loop
 add-at c =
-    let k = c .before .before .before in
+    let k = c .before .before .before .before .before in
     omega (arith, placed k .fits, k .before .before .before .before .before .before .before .pre)
 
 add-at-2 : tie.Need-add-at-2 Inv-loop μ-loop
 add-at-2 c =
-    let k = c .before .before .before in
+    let k = c .before .before .before .before .before in
     omega (arith, placed k .fits, k .before .before .before .before .before .before .before .pre)
 
 loop-again : tie.Need-loop-again Inv-loop μ-loop
@@ -43,4 +51,5 @@ pub print-blocks-spec : {M : Type 1} → statement M
 print-blocks-spec =
     tie.close
     (tie.spec Inv-loop μ-loop loop-holds (λ c κs. omega arith) (λ c. search needs) shared-slice-read-wide (λ c κs. search needs)
-    (λ c κs. search needs) add-at add-at-2 (λ c. search needs) (λ c. search needs) (λ c. omega arith) (λ c. omega arith) loop-again (λ c. search needs))
+    add-wide shared-slice-read-wide-2 (λ c κs. search needs) (λ c κs. search needs) add-at add-at-2 (λ c. search needs) (λ c. search needs)
+    (λ c. omega arith) (λ c. omega arith) loop-again (λ c. search needs))

@@ -1,7 +1,8 @@
 //! verdict [--self] SAMPLE OTHER
 //!
-//! Prints yes if every block of the book OTHER is accepted by the model that the book SAMPLE gives its parent, else no. Both books
-//! have the same names. The calls are those of the static library (feature `library`), with --self those of the second implementation.
+//! Prints yes if every block of the book OTHER is accepted by the model that the book SAMPLE gives its parent, and that
+//! model allows text where the block has text; else no. Both books have the same names. The calls are those of the static
+//! library (feature `library`), with --self those of the second implementation.
 
 use compare::calls::{Calls, Second};
 use compare::program::Proved;
@@ -33,7 +34,7 @@ fn main() {
     let yes = blocks.blocks.iter().all(|block| {
         let (refused, model) = calls.model_of_parent(&sample, block.parent as usize);
         match refused {
-            0 => calls.accepts_word(names.len(), &model, &block.word) == (0, true),
+            0 => block.text <= model.text && calls.accepts_word(names.len(), &model, &block.word) == (0, true),
             9 => false,
             n => fail(&format!("the model of parent {} is refused with {n}", block.parent)),
         }

@@ -1,9 +1,11 @@
 //! The field engineer's card for one book: `card BOOK`, or a book on standard input.
 //!
-//! For each parent with a block it prints the declaration and goes down the card: whether the parent got a model, whether every name
-//! that repeats in a block stands under `+` or `*`, whether the declaration reads back and is written once more as it was, and the
-//! names that the model allows together though no block holds them together. The status is 1 where one of the first three fails,
-//! and where the book cannot be read or the card not written whole; the last is for a person to read.
+//! For each parent with a block it prints the declaration and goes down the card: whether the parent got a model, whether
+//! every name that repeats in a block stands under `+` or `*`, whether text is allowed where a block has text, whether the
+//! declaration reads back and is written once more as it was, and the names that the model allows together though no block
+//! holds them together. Where text and names are allowed, XML knows no other model than any number of the names in any order:
+//! one line says so, and in how many of the blocks text stands. The status is 1 where one of the first four fails, and where
+//! the book cannot be read or the card not written whole; the rest is for a person to read.
 
 use curlewsong::{model_of_parent, read_declaration, write_declaration, Model, LONGEST_DECLARATION, NONE};
 use std::fmt::Display;
@@ -11,10 +13,16 @@ use std::io::{stderr, stdin, stdout, BufWriter, ErrorKind, Read, Result, Write};
 use std::path::Path;
 use std::process::ExitCode;
 
+struct Block {
+    parent: usize,
+    text: bool,
+    word: Vec<usize>,
+}
+
 /// The names and the blocks of a book that the library has not refused.
 struct Book {
     names: Vec<String>,
-    blocks: Vec<(usize, Vec<usize>)>,
+    blocks: Vec<Block>,
 }
 
 fn count(bytes: &mut std::slice::Iter<u8>) -> usize {
@@ -33,7 +41,8 @@ fn parts(book: &[u8]) -> Book {
     let blocks = (0..count(&mut bytes))
         .map(|_| {
             let parent = *bytes.next().unwrap_or(&0) as usize;
-            (parent, run(&mut bytes).into_iter().map(usize::from).collect())
+            let text = bytes.next() == Some(&1);
+            Block { parent, text, word: run(&mut bytes).into_iter().map(usize::from).collect() }
         })
         .collect();
     Book { names, blocks }
@@ -52,12 +61,12 @@ fn together(model: &Model, a: usize, b: usize) -> bool {
 }
 
 /// Whether some block holds the name more than once.
-fn repeated(words: &[&Vec<usize>], name: usize) -> bool {
-    words.iter().any(|word| word.iter().filter(|&&x| x == name).count() > 1)
+fn repeated(blocks: &[&Block], name: usize) -> bool {
+    blocks.iter().any(|block| block.word.iter().filter(|&&x| x == name).count() > 1)
 }
 
-fn held_together(words: &[&Vec<usize>], a: usize, b: usize) -> bool {
-    words.iter().any(|word| word.contains(&a) && word.contains(&b))
+fn held_together(blocks: &[&Block], a: usize, b: usize) -> bool {
+    blocks.iter().any(|block| block.word.contains(&a) && block.word.contains(&b))
 }
 
 /// The declaration, if it reads back as the same parent and model and is then written the same.
@@ -75,45 +84,57 @@ fn read_back(bytes: &[u8], parent: usize, model: Model) -> (String, bool) {
     (text, again == parent && same == model && written == Ok(size) && first[..size] == second[..size])
 }
 
+/// Says what the model allows though no block shows it, and for mixed content how many blocks have text.
+fn allowed(names: &[String], blocks: &[&Block], model: &Model, out: &mut impl Write) -> Result<()> {
+    if model.text == 1 && model.count > 0 {
+        let (texts, all) = (blocks.iter().filter(|block| block.text).count(), blocks.len());
+        let have = if texts == 1 { "has" } else { "have" };
+        writeln!(out, "  mixed content: {texts} of {all} blocks {have} text; any number of its names in any order")?;
+    }
+    for a in 0..names.len() {
+        let beside: Vec<&str> =
+            (a + 1..names.len()).filter(|&b| together(model, a, b) && !held_together(blocks, a, b)).map(|b| &*names[b]).collect();
+        if !beside.is_empty() {
+            writeln!(out, "  allowed together, in no block together: {} with {}", names[a], beside.join(", "))?;
+        }
+    }
+    Ok(())
+}
+
 /// Goes down the card for one parent, and says whether nothing failed.
 fn card(bytes: &[u8], book: &Book, parent: usize, out: &mut impl Write) -> Result<bool> {
-    let name = &book.names[parent];
-    let words: Vec<&Vec<usize>> = book.blocks.iter().filter(|(p, _)| *p == parent).map(|(_, word)| word).collect();
+    let names = &book.names;
+    let blocks: Vec<&Block> = book.blocks.iter().filter(|block| block.parent == parent).collect();
     let Ok(model) = model_of_parent(bytes, parent) else {
-        writeln!(out, "{name}: NO MODEL")?;
+        writeln!(out, "{}: NO MODEL", names[parent])?;
         return Ok(false);
     };
-    let (text, same) = read_back(bytes, parent, model);
-    writeln!(out, "{text}")?;
+    let (declaration, same) = read_back(bytes, parent, model);
+    writeln!(out, "{declaration}")?;
     if !same {
         writeln!(out, "  NOT READ BACK as it was written")?;
     }
-    let all = 0..book.names.len();
-    let lost: Vec<&str> = all.clone().filter(|&x| repeated(&words, x) && !loops(&model, x)).map(|x| &*book.names[x]).collect();
+    let lost: Vec<&str> = (0..names.len()).filter(|&x| repeated(&blocks, x) && !loops(&model, x)).map(|x| &*names[x]).collect();
     if !lost.is_empty() {
         writeln!(out, "  LOST LOOP: {} repeats and has neither + nor *", lost.join(", "))?;
     }
-    for a in all.clone() {
-        let beside: Vec<&str> = (a + 1..book.names.len())
-            .filter(|&b| together(&model, a, b) && !held_together(&words, a, b))
-            .map(|b| &*book.names[b])
-            .collect();
-        if !beside.is_empty() {
-            writeln!(out, "  allowed together, in no block together: {} with {}", book.names[a], beside.join(", "))?;
-        }
+    let lost_text = model.text != 1 && blocks.iter().any(|block| block.text);
+    if lost_text {
+        writeln!(out, "  LOST TEXT: a block has text and the model allows none")?;
     }
-    Ok(same && lost.is_empty())
+    allowed(names, &blocks, &model, out)?;
+    Ok(same && lost.is_empty() && !lost_text)
 }
 
 /// Goes down the card for every parent with a block, and says whether nothing failed.
 fn cards(bytes: &[u8], out: &mut impl Write) -> Result<bool> {
     let book = parts(bytes);
     let (mut parents, mut good) = (0, 0);
-    for parent in (0..book.names.len()).filter(|&p| book.blocks.iter().any(|(q, _)| *q == p)) {
+    for parent in (0..book.names.len()).filter(|&p| book.blocks.iter().any(|block| block.parent == p)) {
         parents += 1;
         good += usize::from(card(bytes, &book, parent, out)?);
     }
-    writeln!(out, "parents with a block: {parents}; declared, read back and with no lost loop: {good}")?;
+    writeln!(out, "parents with a block: {parents}; declared, read back and with no lost loop or text: {good}")?;
     out.flush()?;
     Ok(good == parents)
 }
@@ -133,7 +154,7 @@ fn main() -> ExitCode {
     if let Err(error) = read {
         return failed(format_args!("{called}: {error}"));
     }
-    // Parent 0 is always below N, so only a refusal 1 to 7 or 9 can come.
+    // Parent 0 is always below N, so only a refusal 1 to 7, 9 or 16 can come.
     if let Err(refusal) = model_of_parent(&bytes, 0) {
         if refusal.0 != 9 {
             return failed(format_args!("{called}: {refusal}"));

@@ -33,8 +33,8 @@ returns-3 c =
     stopped-none _ _ _ (taken .0) (book .enum-told .given .1) (parent .if1 .left) _ (taken .1) _
     (sym (c .before .before .shows-word .ensures _) ∙ not-true _ (c .before .if2 .taken)) (c .stopped3 .ensures)
 
-row-chain-requires : tie.Need-row-chain-requires
-row-chain-requires c κs =
+row-model-requires : tie.Need-row-model-requires
+row-model-requires c κs =
     let book = c .before .before .before .before .before .before .before in
     let taken = book .before .before .before .take-parent .ensures in
     let done = book .enum-told .given .1 in
@@ -46,11 +46,11 @@ returns-4 c =
     let book = parent .before .before .before in
     let taken = book .before .before .before .take-parent .ensures in
     model-made _ _ _ (taken .0) (book .enum-told .given .1) (parent .if1 .left) _ (taken .1) _
-    (sym (c .before .before .before .shows-word .ensures _) ∙ not-false _ (c .before .before .if2 .left)) (c .row-chain .ensures)
+    (sym (c .before .before .before .shows-word .ensures _) ∙ not-false _ (c .before .before .if2 .left)) (c .row-model .ensures)
 
 pub find-model-spec : {M : Type 1} → statement M
 find-model-spec =
     tie.close
     (tie.spec (λ c. search needs) take-parent-requires (λ c. search needs) (λ c κs. search needs) returns (λ c. search needs)
     (λ c κs. search needs) returns-2 (λ c. search needs) shows-word-requires (λ c κs. search needs) returns-3
-    (λ c. search needs) row-chain-requires returns-4)
+    (λ c. search needs) row-model-requires returns-4)

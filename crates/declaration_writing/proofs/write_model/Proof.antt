@@ -1,10 +1,10 @@
--- `write_chain` meets its contract: the text is put together aside, and put into the buffer where it fits.
+-- `write_model` meets its contract: the text is put together aside, and put into the buffer where it fits.
 -- Assumes nothing.
 use native.Mathlib.Omega.{arith}
 use Rattle.declaration_writing.proofs.Calls.{fits-aside, size-fits, part-fits, too-short, all-put}
 use borrow.Author.Needs.{needs}
-use Rattle.declaration_writing.proofs.write_chain.Statement.{statement}
-use Rattle.declaration_writing.proofs.write_chain.Tie as tie
+use Rattle.declaration_writing.proofs.write_model.Statement.{statement}
+use Rattle.declaration_writing.proofs.write_model.Tie as tie
 
 put-declaration-requires : tie.Need-put-declaration-requires
 put-declaration-requires c κs =
@@ -37,8 +37,8 @@ returns-2 c =
     all-put _ _ _ _ (put .put-declaration .ensures) (fits-aside _ _ _ _ (put .before .before .before .before .pre)) _ _ _ _ (room .if1 .left)
     (c .before .before .before .part .ensures) (c .before .before .put-all .ensures)
 
-pub write-chain-spec : {M : Type 1} → statement M
-write-chain-spec =
+pub write-model-spec : {M : Type 1} → statement M
+write-model-spec =
     tie.close
     (tie.spec (λ c. search needs) put-declaration-requires (λ c κs. search needs) returns (λ c. search needs)
     part-requires put-all-requires same-length returns-2)
