@@ -22,6 +22,7 @@
  *   14  a name in the text, the parent's included, is not in the book
  *   15  the model in the text has a name twice
  *   16  a text byte in the book is above 1
+ *   17  a name in the book is neither a parent nor a child in any block
  *
  * Several conditions may hold at once. A call makes its checks in the order that is given with it below, and answers
  * the number of the first one that fails. A book is not checked number by number. First its length is checked (1), then
@@ -36,9 +37,10 @@
  *    a block's child count                2
  *    a block's children, taken whole      2, 6
  *    the end, after the last block        7
+ *    all names, after the end             17
  *
  * At one field the conditions are in this order: first 2, then those on its value. So the two bytes 00 00 are refused
- * with 3, although bytes are missing further on.
+ * with 3, although bytes are missing further on. A book has a name, so one without blocks is always refused.
  *
  * A refused call changes nothing that it borrows. The rest of its answer is then: the model with count 0, every factor
  * 255, every mode 0 and text 0; no; length 0; parent 0. All of these are also answers of calls that were not refused,
@@ -49,8 +51,8 @@
  * nor reads those of a buffer. A buffer overlaps nothing else that is passed to the same call.
  *
  * docs/FORMAT.md has the bytes of a book, the order of the checks and the text of a declaration. They are those of
- * paper 01, with requests U1 (reading), U2 (the whole DTD), U4 (one model within another) and U5 (fields that hold
- * text) of paper 02; the papers decide.
+ * paper 01, with requests U1 (reading), U2 (the whole DTD), U4 (one model within another), U5 (fields that hold text)
+ * and U6 (names that no block uses) of paper 02; the papers decide.
  */
 #ifndef CURLEWSONG_H
 #define CURLEWSONG_H
@@ -118,7 +120,7 @@ typedef struct {
 /* The model of a parent from its blocks in the book. If none of them has text it is a chain that accepts every one of
  * their words, with text 0. Every other chain over the book's names that accepts them all also accepts some word that
  * this one does not. If one of them has text, text is allowed, and any number of exactly the names that are in their
- * words, in any order. Refusals, in this order: the book's (1 to 7, 16), 8, 9. */
+ * words, in any order. Refusals, in this order: the book's (1 to 7, 16, 17), 8, 9. */
 curlewsong_model_answer curlewsong_model_of_parent(const uint8_t *book, size_t book_length, size_t parent);
 
 /* Whether the model over `names` names accepts the word: whether the word is a joining of one part for each factor in
@@ -137,21 +139,21 @@ curlewsong_inclusion curlewsong_within(size_t names, curlewsong_model first, cur
 
 /* Writes the declaration of the parent with this model to the front of the buffer, in canonical form (paper 01 calls it
  * the house spelling), and answers its length. The bytes behind it keep their values: no line feed and no NUL is
- * written. The parent needs no block. Refusals, in this order: the book's (1 to 7, 16), 8, 10, 12. */
+ * written. The parent needs no block. Refusals, in this order: the book's (1 to 7, 16, 17), 8, 10, 12. */
 curlewsong_written curlewsong_write_declaration(const uint8_t *book, size_t book_length, size_t parent, curlewsong_model model,
                                                 uint8_t *buffer, size_t buffer_length);
 
 /* The same with the model of the parent from its blocks; here the parent needs a block. Refusals, in this order: the
- * book's (1 to 7, 16), 8, 9, 12. */
+ * book's (1 to 7, 16, 17), 8, 9, 12. */
 curlewsong_written curlewsong_write_from_sample(const uint8_t *book, size_t book_length, size_t parent,
                                                 uint8_t *buffer, size_t buffer_length);
 
 /* Writes the whole DTD of the book to the front of the buffer, and answers its length: for each parent with a block, in
  * rising number, the declaration of its model from its blocks, in canonical form, and a line feed. For a book that is
- * not refused this is what the program dtd prints. A book without blocks has the length 0. The bytes behind the text
- * keep their values, and no NUL is written. The book is read once for all parents. A buffer of 2,254 bytes for each of
- * its names, so one of CURLEWSONG_LONGEST_DTD bytes, is never too short; with a shorter one the length of the text is
- * found first, and the call takes longer. Refusals, in this order: the book's (1 to 7, 16), 12. */
+ * not refused this is what the program dtd prints. The bytes behind the text keep their values, and no NUL is written.
+ * The book is read once for all parents. A buffer of 2,254 bytes for each of its names, so one of
+ * CURLEWSONG_LONGEST_DTD bytes, is never too short; with a shorter one the length of the text is found first, and the
+ * call takes longer. Refusals, in this order: the book's (1 to 7, 16, 17), 12. */
 curlewsong_written curlewsong_write_dtd(const uint8_t *book, size_t book_length, uint8_t *buffer, size_t buffer_length);
 
 /* The parent and the model of a declaration over the names of the book. The parent needs no block. A text that
@@ -159,7 +161,7 @@ curlewsong_written curlewsong_write_dtd(const uint8_t *book, size_t book_length,
  * curlewsong_write_from_sample wrote as the parent and the model from its blocks. White space may be spaces, tabs,
  * carriage returns and line feeds; the names of a group may come in any order; one name may have its own brackets;
  * one group may be the whole model, as in (a|b)*; and (#PCDATA)* is read as (#PCDATA). docs/FORMAT.md has the grammar.
- * Refusals, in this order: the book's (1 to 7, 16), 13, 14, 15. */
+ * Refusals, in this order: the book's (1 to 7, 16, 17), 13, 14, 15. */
 curlewsong_read curlewsong_read_declaration(const uint8_t *book, size_t book_length, const uint8_t *text, size_t text_length);
 
 #ifdef __cplusplus

@@ -28,8 +28,20 @@ def book(names, blocks, n=None, m=None):
     return head + count(len(blocks) if m is None else m) + b"".join(blocks)
 
 
-def two_letters(i):
-    return name(bytes([65 + i // 26, 97 + i % 26]))
+def block_of(numbers):
+    """A block that uses these names: the first as its parent, the others as its children."""
+    parent, *children = numbers
+    return block(parent, children)
+
+
+def one_block(names):
+    """A book with one block, which uses all of its names."""
+    return book(names, [block_of(range(len(names)))])
+
+
+def letters(n):
+    """So many names of two letters."""
+    return [name(bytes([65 + i // 26, 97 + i % 26])) for i in range(n)]
 
 
 EXAMPLE_NAMES = [b"contribution", b"entry", b"leaver", b"member", b"reason", b"total"]
@@ -37,6 +49,7 @@ EXAMPLE = book([name(x) for x in EXAMPLE_NAMES], [block(1, [3, 0, 5]), block(1, 
 EXAMPLE_BLOCKS = " 1:0:3" * 3
 A = [name(b"a")]
 AB = [name(b"a"), name(b"b")]
+ABC = [name(b"a"), name(b"b"), name(b"c")]
 
 
 def long_book(size):
@@ -46,8 +59,8 @@ def long_book(size):
     return book(A, blocks + [block(0, [0] * rest)])
 
 
-def cases():
-    """Each case: a label, the book, a text to look up, and the line that is due behind the label."""
+def example_cases():
+    """The example of paper 01: its names looked up, cut at each byte (2), and with a byte left over (7)."""
     yield "example", EXAMPLE, b"leaver", "0 6 3 2" + EXAMPLE_BLOCKS
     for i, text in enumerate(EXAMPLE_NAMES):
         yield f"name {i}", EXAMPLE, text, f"0 6 3 {i}" + EXAMPLE_BLOCKS
@@ -56,64 +69,70 @@ def cases():
     for k in range(len(EXAMPLE)):
         yield f"cut at {k}", EXAMPLE[:k], b"", "2 0 0"
     yield "one byte left over", EXAMPLE + b"\0", b"", "7 0 0"
-    yield "left over after M = 0", book(A, []) + b"\0", b"", "7 0 0"
 
-    # 1
+
+def length_cases():
+    """1: the length of the whole book."""
     yield "60,000 bytes", long_book(60000), b"a", "0 1 233 0" + " 0:0:255" * 232 + " 0:0:135"
     yield "60,001 bytes", long_book(60001), b"", "1 0 0"
     yield "60,001 bytes of nothing", bytes(60001), b"", "1 0 0"
 
-    # 3, seen before anything behind it is missing
+
+def count_cases():
+    """3, seen before anything behind it is missing."""
     yield "N = 0", count(0), b"", "3 0 0"
-    yield "N = 1", book(A, []), b"a", "0 1 0 0"
-    yield "N = 64", book([two_letters(i) for i in range(64)], []), b"Cl", "0 64 0 63"
-    yield "N = 65", book([two_letters(i) for i in range(65)], []), b"", "3 0 0"
+    yield "N = 1", one_block(A), b"a", "0 1 1 0 0:0:0"
+    yield "N = 64", one_block(letters(64)), b"Cl", "0 64 1 63 0:0:63"
+    yield "N = 65", one_block(letters(65)), b"", "3 0 0"
     yield "N = 65, nothing behind", count(65), b"", "3 0 0"
     yield "N = 256", count(256), b"", "3 0 0"
     yield "N = 257", count(257), b"", "3 0 0"
     yield "N = 65535", count(65535), b"", "3 0 0"
 
-    # 4: the length before its bytes are missing, the bytes after
+
+def name_cases():
+    """4: the length before its bytes are missing, the bytes after. 5, after 4."""
     yield "length 0", count(1) + name(b"", 0), b"", "4 0 0"
-    yield "length 1", book([name(b"_")], []), b"_", "0 1 0 0"
-    yield "length 32", book([name(b"a" * 32)], []), b"a" * 32, "0 1 0 0"
-    yield "length 33", book([name(b"a" * 33)], []), b"", "4 0 0"
+    yield "length 1", one_block([name(b"_")]), b"_", "0 1 1 0 0:0:0"
+    yield "length 32", one_block([name(b"a" * 32)]), b"a" * 32, "0 1 1 0 0:0:0"
+    yield "length 33", one_block([name(b"a" * 33)]), b"", "4 0 0"
     yield "length 33, nothing behind", count(1) + name(b"", 33), b"", "4 0 0"
     yield "length 255, nothing behind", count(1) + name(b"", 255), b"", "4 0 0"
     yield "bad first byte, last byte missing", count(1) + name(b"9", 2), b"", "2 0 0"
     for b in range(256):
         first = chr(b) in "ABCDEFGHIJKLMNOPQRSTUVWXYZabcdefghijklmnopqrstuvwxyz_"
         later = first or chr(b) in "0123456789-."
-        yield f"first byte {b}", book([name(bytes([b]))], []), b"", "0 1 0 -" if first else "4 0 0"
-        yield f"later byte {b}", book([name(bytes([97, b]))], []), b"", "0 1 0 -" if later else "4 0 0"
+        yield f"first byte {b}", one_block([name(bytes([b]))]), b"", "0 1 1 - 0:0:0" if first else "4 0 0"
+        yield f"later byte {b}", one_block([name(bytes([97, b]))]), b"", "0 1 1 - 0:0:0" if later else "4 0 0"
+    yield "equal names", one_block([name(b"ab"), name(b"ab")]), b"", "5 0 0"
+    yield "falling names", one_block([name(b"b"), name(b"a")]), b"", "5 0 0"
+    yield "prefix first", one_block([name(b"a"), name(b"ab")]), b"ab", "0 2 1 1 0:0:1"
+    yield "prefix second", one_block([name(b"ab"), name(b"a")]), b"", "5 0 0"
+    yield "case counts", one_block([name(b"B"), name(b"a")]), b"a", "0 2 1 1 0:0:1"
+    yield "later byte decides", one_block([name(b"a-"), name(b"a.")]), b"a.", "0 2 1 1 0:0:1"
+    yield "falling and bad", one_block([name(b"b"), name(b"a!")]), b"", "4 0 0"
+    yield "third below the second", one_block([name(b"a"), name(b"c"), name(b"b")]), b"", "5 0 0"
 
-    # 5, after 4
-    yield "equal names", book([name(b"ab"), name(b"ab")], []), b"", "5 0 0"
-    yield "falling names", book([name(b"b"), name(b"a")], []), b"", "5 0 0"
-    yield "prefix first", book([name(b"a"), name(b"ab")], []), b"ab", "0 2 0 1"
-    yield "prefix second", book([name(b"ab"), name(b"a")], []), b"", "5 0 0"
-    yield "case counts", book([name(b"B"), name(b"a")], []), b"a", "0 2 0 1"
-    yield "later byte decides", book([name(b"a-"), name(b"a.")], []), b"a.", "0 2 0 1"
-    yield "falling and bad", book([name(b"b"), name(b"a!")], []), b"", "4 0 0"
-    yield "third below the second", book([name(b"a"), name(b"c"), name(b"b")], []), b"", "5 0 0"
 
-    # 6
-    yield "M = 0", book(A, []), b"", "0 1 0 -"
+def number_cases():
+    """6: parents, then all children of a block at once."""
     yield "M = 65535", book(A, [], m=65535), b"", "2 0 0"
     yield "M = 65535, bad parent", book(A, [block(1, [])], m=65535), b"", "6 0 0"
     yield "no child", book(A, [block(0, [])]), b"", "0 1 1 - 0:0:0"
     yield "255 children", book(A, [block(0, [0] * 255)]), b"", "0 1 1 - 0:0:255"
-    yield "parent N - 1", book(AB, [block(1, [])]), b"", "0 2 1 - 1:0:0"
-    yield "parent N", book(AB, [block(2, [])]), b"", "6 0 0"
+    yield "parent N - 1", book(AB, [block(1, [0])]), b"", "0 2 1 - 1:0:1"
+    yield "parent N", book(AB, [block(2, [0, 1])]), b"", "6 0 0"
     yield "parent N, nothing behind", book(AB, [b"\2"]), b"", "6 0 0"
     yield "child N - 1", book(AB, [block(0, [1])]), b"", "0 2 1 - 0:0:1"
-    yield "child N", book(AB, [block(0, [2])]), b"", "6 0 0"
-    yield "last child N", book(AB, [block(0, [0] * 254 + [2])]), b"", "6 0 0"
+    yield "child N", book(AB, [block(0, [1, 2])]), b"", "6 0 0"
+    yield "last child N", book(AB, [block(0, [1] * 254 + [2])]), b"", "6 0 0"
     yield "bad child, last child missing", book(AB, [bytes([0, 0, 2, 9])]), b"", "2 0 0"
     yield "bad child in the second block", book(AB, [block(0, [1]), block(1, [9])]), b"", "6 0 0"
-    yield "bad child and bytes left over", book(AB, [block(0, [2])]) + b"\0", b"", "6 0 0"
+    yield "bad child and bytes left over", book(AB, [block(0, [1, 2])]) + b"\0", b"", "6 0 0"
 
-    # 16, behind the parent and before the child count
+
+def text_cases():
+    """16, behind the parent and before the child count."""
     yield "text byte missing", book(AB, [b"\0"]), b"", "2 0 0"
     yield "text byte 0", book(AB, [block(0, [1], 0)]), b"", "0 2 1 - 0:0:1"
     yield "text byte 1", book(AB, [block(0, [1], 1)]), b"", "0 2 1 - 0:1:1"
@@ -123,13 +142,63 @@ def cases():
     yield "text byte 2, count missing", book(AB, [b"\0\2"]), b"", "16 0 0"
     yield "text byte 1, child missing", book(AB, [b"\0\1\1"]), b"", "2 0 0"
     yield "text byte 2, child missing", book(AB, [b"\0\2\1"]), b"", "16 0 0"
-    yield "parent N, text byte 2", book(AB, [block(2, [], 2)]), b"", "6 0 0"
-    yield "text byte 1, bad child", book(AB, [block(0, [2], 1)]), b"", "6 0 0"
-    yield "text byte 2, bad child", book(AB, [block(0, [2], 2)]), b"", "16 0 0"
-    yield "text without children", book(AB, [block(1, [], 1)]), b"", "0 2 1 - 1:1:0"
+    yield "parent N, text byte 2", book(AB, [block(2, [0, 1], 2)]), b"", "6 0 0"
+    yield "text byte 1, bad child", book(AB, [block(0, [1, 2], 1)]), b"", "6 0 0"
+    yield "text byte 2, bad child", book(AB, [block(0, [1, 2], 2)]), b"", "16 0 0"
+    yield "text without children", book(AB, [block(0, []), block(1, [], 1)]), b"", "0 2 2 - 0:0:0 1:1:0"
     yield "text byte 2 in the second block", book(AB, [block(0, [1]), block(1, [0], 2)]), b"", "16 0 0"
-    yield "bad child, then text byte 2", book(AB, [block(0, [2]), block(1, [], 2)]), b"", "6 0 0"
-    yield "text byte 2 and bytes left over", book(AB, [block(0, [], 2)]) + b"\0", b"", "16 0 0"
+    yield "bad child, then text byte 2", book(AB, [block(0, [1, 2]), block(1, [], 2)]), b"", "6 0 0"
+    yield "text byte 2 and bytes left over", book(AB, [block(0, [1], 2)]) + b"\0", b"", "16 0 0"
+
+
+def unused_cases():
+    """17: a name that no block uses, and the same name used in one way only."""
+    yield "M = 0", book(A, []), b"", "17 0 0"
+    yield "M = 0, N = 64", book(letters(64), []), b"", "17 0 0"
+    yield "one name of 64 used", book(letters(64), [block(63, [63])]), b"", "17 0 0"
+    yield "two names of 64 unused", book(letters(64), [block_of(sorted(set(range(64)) - {5, 40}))]), b"", "17 0 0"
+    for n, numbers in ((3, (0, 1, 2)), (64, (0, 1, 31, 32, 62, 63))):
+        names = letters(n)
+        for i in numbers:
+            others = [x for x in range(n) if x != i]
+            first = others[0]
+            head = f"0 {n} 2 - {first}:0:{n - 2}"
+            yield f"name {i} of {n} unused", book(names, [block_of(others)]), b"", "17 0 0"
+            yield (f"name {i} of {n} only a parent", book(names, [block_of(others), block(i, [])]), b"",
+                   f"{head} {i}:0:0")
+            yield (f"name {i} of {n} only a child", book(names, [block_of(others), block(first, [i])]), b"",
+                   f"{head} {first}:0:1")
+
+
+def unused_place_cases():
+    """17: where in the blocks a name is used, or that it is in none of them."""
+    ab, filled = block(0, [1]), [1] * 254
+    yield "text alone in each block", book(AB, [block(0, [], 1), block(1, [], 1)]), b"", "0 2 2 - 0:1:0 1:1:0"
+    yield "used only in the first block", book(ABC, [block(0, [2])] + [ab] * 3), b"", "0 3 4 -" + " 0:0:1" * 4
+    yield "used only in the last block", book(ABC, [ab] * 3 + [block(0, [2])]), b"", "0 3 4 -" + " 0:0:1" * 4
+    yield "parent of the first block alone", book(ABC, [block(2, [])] + [ab] * 2), b"", "0 3 3 - 2:0:0" + " 0:0:1" * 2
+    yield "first of 255 children", book(ABC, [block(0, [2] + filled)]), b"", "0 3 1 - 0:0:255"
+    yield "last of 255 children", book(ABC, [block(0, filled + [2])]), b"", "0 3 1 - 0:0:255"
+    yield "none of 255 children", book(ABC, [block(0, filled + [1])]), b"", "17 0 0"
+    yield "none of many blocks", book(ABC, [ab] * 300), b"", "17 0 0"
+    yield "a name that is its own only child", book(A, [block(0, [0])]), b"", "0 1 1 - 0:0:1"
+
+
+def unused_order_cases():
+    """17, after 2, 6, 16 and 7."""
+    yield "unused, block missing", book(ABC, [block(0, [1])], m=2), b"", "2 0 0"
+    yield "unused, bad child", book(ABC, [block(0, [1, 3])]), b"", "6 0 0"
+    yield "unused, text byte 2", book(ABC, [block(0, [1], 2)]), b"", "16 0 0"
+    yield "unused, bytes left over", book(ABC, [block(0, [1])]) + b"\0", b"", "7 0 0"
+    yield "left over after M = 0", book(A, []) + b"\0", b"", "7 0 0"
+    yield "a block left over that uses the name", book(AB, [block(0, [0])]) + block(1, []), b"", "7 0 0"
+
+
+def cases():
+    """Each case: a label, the book, a text to look up, and the line that is due behind the label."""
+    for part in (example_cases, length_cases, count_cases, name_cases, number_cases, text_cases, unused_cases,
+                 unused_place_cases, unused_order_cases):
+        yield from part()
 
 
 def size(text):

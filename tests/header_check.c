@@ -75,14 +75,6 @@ static void check_write_dtd(void) {
     expect(written.refusal == 0 && written.length == length, "a buffer of the DTD's length is long enough");
     expect(memcmp(buffer, dtd, length) == 0, "the DTD has a line for each parent with a block");
     expect(all_seven(buffer + length, sizeof buffer - length), "the bytes behind the DTD are kept");
-
-    const uint8_t no_block[] = {1, 0, 1, 'a', 0, 0};
-    memset(buffer, 7, sizeof buffer);
-    written = curlewsong_write_dtd(no_block, sizeof no_block, buffer, 0);
-    expect(written.refusal == 0 && written.length == 0, "a book without blocks has an empty DTD");
-    written = curlewsong_write_dtd(no_block, sizeof no_block, buffer, sizeof buffer);
-    expect(written.refusal == 0 && written.length == 0, "also where the buffer is long");
-    expect(all_seven(buffer, sizeof buffer), "an empty DTD changes no byte");
 }
 
 /* One plain factor for each of so many names from 0 on. */
@@ -221,6 +213,63 @@ static void check_text_records(void) {
     }
 }
 
+/* A book that is refused with this number, given to each call that finds a model or writes, with so many places of a
+ * buffer. No byte of the buffer changes. */
+static void check_refused_with(const uint8_t *bytes, size_t length, size_t parent, curlewsong_model model,
+                               size_t places, uint8_t number, const char *what) {
+    const curlewsong_model empty = plain_names(0);
+    uint8_t buffer[99];
+    memset(buffer, 7, sizeof buffer);
+    const curlewsong_model_answer found = curlewsong_model_of_parent(bytes, length, parent);
+    expect(found.refusal == number && same(&found.model, &empty), what);
+    const curlewsong_written written[] = {
+        curlewsong_write_declaration(bytes, length, parent, model, buffer, places),
+        curlewsong_write_from_sample(bytes, length, parent, buffer, places),
+        curlewsong_write_dtd(bytes, length, buffer, places),
+    };
+    for (size_t i = 0; i < sizeof written / sizeof *written; i++) {
+        expect(written[i].refusal == number && written[i].length == 0, what);
+    }
+    expect(all_seven(buffer, sizeof buffer), what);
+}
+
+/* A book that is refused with this number by each call that takes a book, whatever else the call is given: what is good
+ * for other books, and what they refuse with 8, 9, 10, 12, 13, 14 and 15. */
+static void check_refused_book(const uint8_t *bytes, size_t length, uint8_t number, const char *what) {
+    const curlewsong_model empty = plain_names(0), bad = plain_names(CURLEWSONG_PLACES);
+    const char *const texts[] = {"<!ELEMENT a EMPTY>", "<!ELEMENT a", "<!ELEMENT z EMPTY>", "<!ELEMENT a (a,a)>"};
+    for (size_t parent = 0; parent < 4; parent++) {
+        check_refused_with(bytes, length, parent, empty, 99, number, what);
+        check_refused_with(bytes, length, parent, bad, 99, number, what);
+        check_refused_with(bytes, length, parent, empty, 0, number, what);
+    }
+    for (size_t i = 0; i < sizeof texts / sizeof *texts; i++) {
+        const curlewsong_read read =
+            curlewsong_read_declaration(bytes, length, (const uint8_t *)texts[i], strlen(texts[i]));
+        expect(read.refusal == number && read.parent == 0 && same(&read.model, &empty), what);
+    }
+}
+
+/* The names a, b and c. One block has two of them as its parent and its child, so that the third one is used by none;
+ * a second block, if it is counted, has that one as its parent. */
+static void check_unused_name(uint8_t unused) {
+    const uint8_t parent = unused == 0, child = unused == 2 ? 1 : 2;
+    uint8_t bytes[] = {3, 0, 1, 'a', 1, 'b', 1, 'c', 1, 0, parent, 0, 1, child, unused, 0, 0};
+    check_refused_book(bytes, sizeof bytes - 3, 17, "a name that no block uses is refused");
+    check_refused_book(bytes, sizeof bytes, 7, "bytes left over are seen first");
+    bytes[8] = 2;
+    expect(curlewsong_model_of_parent(bytes, sizeof bytes, unused).refusal == 0, "a block that uses it is enough");
+    expect(curlewsong_model_of_parent(bytes, sizeof bytes, child).refusal == 9, "a name may be a child alone");
+}
+
+static void check_unused_names(void) {
+    const uint8_t no_block[] = {1, 0, 1, 'a', 0, 0};
+    check_refused_book(no_block, sizeof no_block, 17, "a book without blocks is refused");
+    for (uint8_t unused = 0; unused < 3; unused++) {
+        check_unused_name(unused);
+    }
+}
+
 int main(void) {
     const size_t length = sizeof declaration - 1;
     uint8_t buffer[CURLEWSONG_LONGEST_DECLARATION];
@@ -264,6 +313,7 @@ int main(void) {
     check_within();
     check_text_of_samples();
     check_text_records();
+    check_unused_names();
 
     if (failures == 0) {
         printf("header_check: every call of include/curlewsong.h answers as the papers have it\n");

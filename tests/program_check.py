@@ -1,5 +1,5 @@
 #!/usr/bin/env python3
-"""The program on the longest books, on inputs that come in pieces and on inputs that cannot be read.
+"""The program on the longest books, on names that no block uses, on slow inputs and on inputs that cannot be read.
 
 Usage: python3 tests/program_check.py target/bin/dtd
 
@@ -44,9 +44,8 @@ EXAMPLE = book(
 EXAMPLE_PRINTED = b"<!ELEMENT entry (member,(contribution|leaver),(reason|total))>\n"
 
 
-def book_of(size):
+def book_of(size, names=(b"a", b"b")):
     """A book of so many bytes: blocks of a with 255 times b, and a last block of b that is filled with a."""
-    names = [b"a", b"b"]
     full, left = divmod(size - len(book(names, [])), len(block(0, [1] * 255)))
     whole = book(names, [block(0, [1] * 255)] * full + [block(1, [0] * (left - len(block(1, []))))])
     assert len(whole) == size
@@ -62,6 +61,13 @@ TEXTS = book(
     [block(0, [2]), block(1, [], 1), block(0, [1, 1], 1), block(1, []), block(2, []), block(0, [])],
 )
 TEXTS_PRINTED = b"<!ELEMENT a (#PCDATA|b|c)*>\n<!ELEMENT b (#PCDATA)>\n<!ELEMENT c EMPTY>\n"
+
+# Paper 02, request U6: books of 64 names. One block uses all of them, or all but one.
+MANY = [b"n%02d" % i for i in range(64)]
+ALL_USED = book(MANY, [block(0, range(1, 64))])
+ALL_USED_PRINTED = b"<!ELEMENT n00 (" + b",".join(MANY[1:]) + b")>\n"
+LAST_UNUSED = book(MANY, [block(0, range(1, 63))])
+FIRST_UNUSED = book(MANY, [block(1, range(2, 64))])
 
 
 # ---- inputs: each is a context that gives the file descriptor to read from
@@ -145,6 +151,26 @@ def closed():
 
 # ---- the cases: what it is, the input, what is printed, what is said on standard error
 
+def unused_cases():
+    """Names that no block uses, and books on the other side of that border."""
+    three = book_of(LONGEST, [b"a", b"b", b"c"])
+    with_c = b"<!ELEMENT a (b+)>\n<!ELEMENT b (a+,c)>\n"
+    return [
+        ("a book without blocks", file_of(book([b"a"], [])), b"refused 17\n", b""),
+        ("a book of 64 names without blocks", file_of(book(MANY, [])), b"refused 17\n", b""),
+        ("a book without blocks and one byte more", file_of(book([b"a"], []) + b"\0"), b"refused 7\n", b""),
+        ("64 names that are all used", file_of(ALL_USED), ALL_USED_PRINTED, b""),
+        ("64 names, the last one unused", file_of(LAST_UNUSED), b"refused 17\n", b""),
+        ("64 names, the first one unused", file_of(FIRST_UNUSED), b"refused 17\n", b""),
+        ("64 names, the first one unused, and one byte more", file_of(FIRST_UNUSED + b"\0"), b"refused 7\n", b""),
+        ("an unused name and a text byte of 2", file_of(book([b"a", b"b"], [block(0, [], 2)])), b"refused 16\n", b""),
+        ("an unused name and a child that is no number", file_of(book([b"a", b"b"], [block(0, [2])])),
+         b"refused 6\n", b""),
+        ("an unused name in 60,000 bytes", file_of(three), b"refused 17\n", b""),
+        ("the same name used in the last of 60,000 bytes", file_of(three[:-1] + b"\2"), with_c, b""),
+    ]
+
+
 def cases():
     full = book_of(LONGEST)
     return [
@@ -160,6 +186,7 @@ def cases():
         ("a text byte of 2", file_of(book([b"a"], [block(0, [], 2)])), b"refused 16\n", b""),
         ("a text byte of 255 in the last block", file_of(TEXTS[:-2] + b"\xff\0"), b"refused 16\n", b""),
         ("a text byte of 2 and nothing behind it", file_of(book([b"a"], [block(0, [], 2)])[:-1]), b"refused 16\n", b""),
+        *unused_cases(),
         ("a book of 60,000 bytes in pieces of 1,000", pipe_of(full, 1000, 0.003), FULL_PRINTED, b""),
         ("a book that comes byte by byte", pipe_of(EXAMPLE, 1, 0.005), EXAMPLE_PRINTED, b""),
         ("a non-blocking pipe with a book in it and its end", non_blocking(EXAMPLE, ended=True), EXAMPLE_PRINTED, b""),

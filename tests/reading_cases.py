@@ -5,9 +5,10 @@ due of each.
 The reader and the writer here are written from paper 01 and from requests U1 and U5 of paper 02 alone. Without an
 argument the script writes crates/test_reading/stdin and stdout; with --check it says whether they are as written here.
 The program takes a text as a line. A line feed in a text is the byte 1F in its line, in both files, so no text here has
-a byte 1F of its own. A line of output has the refusal's number, the parent's number, the count of factors and the text
-byte of the record; then, behind bars, the factor of each of the five names and the mode of each of the first five
-factors; and the text between `[` and `]`:
+a byte 1F of its own. First come two lines of texts that the program has itself, with books that are refused: one is
+cut short (2), and one has a name that no block uses (17). A line of output has the refusal's number, the parent's
+number, the count of factors and the text byte of the record; then, behind bars, the factor of each of the five names
+and the mode of each of the first five factors; and the text between `[` and `]`:
 
   0 4 1 1 | 255 0 0 255 255 | 3 0 0 0 0 [<!ELEMENT d (#PCDATA|b|a)*>]
 """
@@ -583,8 +584,9 @@ def cases():
 def files():
     texts = cases()
     assert not any(FEED in t for t in texts)
-    cut = b"<!ELEMENT a (b)>"
-    due = line(cut, refused(2)) + b"".join(line(t, read(t)) for t in texts)
+    # The second text is not whole: 17 comes before 13.
+    due = line(b"<!ELEMENT a (b)>", refused(2)) + line(b"<!ELEMENT a (b", refused(17))
+    due += b"".join(line(t, read(t)) for t in texts)
     return {"stdin": b"".join(t.replace(b"\n", FEED) + b"\n" for t in texts), "stdout": due}
 
 

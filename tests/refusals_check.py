@@ -27,27 +27,30 @@ ROOT = pathlib.Path(__file__).resolve().parent.parent
 LIST = "crates/refusal/src/lib.rt"
 TABLE = "crates/refusal/specs/Table.antt"
 CONDITIONS = "crates/demands/specs/Conditions.antt"
+STOPS = "crates/book/specs/Stops.antt"
 HEADER = "include/curlewsong.h"
 
 Refusal = namedtuple("Refusal", "number name text")
 
 # A table of refusals: its file; how the line before it begins and the line after it, "" being an empty line; the
-# pattern of a row, and what a row should be; whether it has only the refusals of a book, those of `BookConditions`.
-Place = namedtuple("Place", "file start end row right of_book")
+# pattern of a row, and what a row should be; which refusals it has: all of them, those of a book (`BookConditions`), or
+# those that `Stops` states of the bytes of a book.
+Place = namedtuple("Place", "file start end row right kind")
+ALL, OF_BOOK, OF_BYTES = range(3)
 
 PLACES = [
-    Place(LIST, "pub fn number(", "}", r"Refusal::\w+ => (?P<number>\d+),", "Refusal::{name} => {number},", False),
-    Place(TABLE, "abbrev pub numberOf :", "", r"numberOf \w+ = (?P<number>\d+)", "numberOf {name} = {number}", False),
+    Place(LIST, "pub fn number(", "}", r"Refusal::\w+ => (?P<number>\d+),", "Refusal::{name} => {number},", ALL),
+    Place(TABLE, "abbrev pub numberOf :", "", r"numberOf \w+ = (?P<number>\d+)", "numberOf {name} = {number}", ALL),
     Place(CONDITIONS, "pub record BookConditions ", "", r"\(k ≡ (?P<number>\d+)\) ↔ Stops bytes \w+",
-          "(k ≡ {number}) ↔ Stops bytes {name}", True),
+          "(k ≡ {number}) ↔ Stops bytes {name}", OF_BYTES),
     Place(HEADER, " * refusal: 0 where", " * Several conditions", r" \* +(?P<number>\d+)  .*",
-          " *   {number:2}  {text}", False),
+          " *   {number:2}  {text}", ALL),
     Place("rust/curlewsong/src/lib.rs", "impl std::fmt::Display for Refusal", "}", r'(?P<number>\d+) => ".*",',
-          '{number} => "{text}",', False),
-    Place("tools/book.py", "REASONS = {", "}", r'(?P<number>\d+): ".*",', '{number}: "{text}",', True),
+          '{number} => "{text}",', ALL),
+    Place("tools/book.py", "REASONS = {", "}", r'(?P<number>\d+): ".*",', '{number}: "{text}",', OF_BOOK),
     Place("docs/REFUSALS.md", "| number |", "", r"\| (?P<number>\d+) \|[^|]*\|[^|]*\|",
-          "| {number} | `{name}` | {text} |", False),
-    Place("docs/FORMAT.md", "| Number |", "", r"\| (?P<number>\d+) \|[^|]*\|", "| {number} | {text} |", False),
+          "| {number} | `{name}` | {text} |", ALL),
+    Place("docs/FORMAT.md", "| Number |", "", r"\| (?P<number>\d+) \|[^|]*\|", "| {number} | {text} |", ALL),
 ]
 
 # Each call, and the program, with the record that has its conditions.
@@ -59,8 +62,11 @@ CALLS = {
     "write_from_sample": "SampleConditions",
     "write_dtd": "DtdConditions",
     "read_declaration": "ReadConditions",
-    "dtd": "BookConditions",
+    "dtd": "ProgramConditions",
 }
+
+# What the records of the calls that take a book share.
+SHARED = "BookConditions"
 
 # The documents with a table of the calls and their numbers, and the head of the first column with numbers.
 TABLES_OF_CALLS = {"README.md": "refusals", "docs/REFUSALS.md": "refusals", "docs/FORMAT.md": "first"}
@@ -118,21 +124,31 @@ def conditions(root):
         for _, text in part(root, CONDITIONS, f"pub record {record} ", ""):
             field = re.match(r"  pub \S+ : (?:\(k ≡ ([1-9]\d*)\) ↔|BookConditions )", text)
             if field:
-                found += [int(field.group(1))] if field.group(1) else numbers("BookConditions")
-        return sorted(found) if record == "BookConditions" else found
+                found += [int(field.group(1))] if field.group(1) else numbers(SHARED)
+        return sorted(found) if record == SHARED else found
     return {call: numbers(record) for call, record in CALLS.items()}
+
+
+def kinds(root, refusals):
+    """The refusals that the tables of each kind have."""
+    book, stops = conditions(root)["dtd"], (root / STOPS).read_text()
+    return {
+        ALL: refusals,
+        OF_BOOK: [one for one in refusals if one.number in book],
+        OF_BYTES: [one for one in refusals if re.search(rf"→ Stops s {one.name}\b", stops)],
+    }
 
 
 def unknown_records(root):
     """The records of conditions whose call is not among CALLS."""
     for line, text in enumerate((root / CONDITIONS).read_text().splitlines(), 1):
         record = re.match(r"pub record (\w+Conditions) ", text)
-        if record and record.group(1) not in CALLS.values():
+        if record and record.group(1) not in (SHARED, *CALLS.values()):
             yield finding(CONDITIONS, line, f"record {record.group(1)}", "in CALLS of tests/refusals_check.py")
 
 
 def numbers_in(text):
-    """The numbers of a text such as `1 to 7, 16, 8, 9`."""
+    """The numbers of a text such as `1 to 7, 16, 17, 8, 9`."""
     found = re.findall(r"(\d+)(?: to (\d+))?", text)
     return [number for first, last in found for number in range(int(first), int(last or first) + 1)]
 
@@ -179,10 +195,8 @@ def wrong_givers(root):
 
 
 def findings(root):
-    refusals, book = the_list(root), conditions(root)["dtd"]
-    found = []
-    for place in PLACES:
-        found += wrong_rows(root, place, [one for one in refusals if not place.of_book or one.number in book])
+    refusals = kinds(root, the_list(root))
+    found = [one for place in PLACES for one in wrong_rows(root, place, refusals[place.kind])]
     return [*found, *unknown_records(root), *wrong_calls(root), *wrong_givers(root)]
 
 

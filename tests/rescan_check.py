@@ -59,18 +59,24 @@ def word(chance, order):
 
 
 def chance_book(chance):
-    """Several parents, each with words over names of its own, some with text; the blocks in any order."""
+    """Several parents, each with words over names of its own, some with text; the blocks in any order.
+
+    Where names are left, one more block uses them, but for one book of ten, which has to be refused with 17.
+    """
     n = chance.choice([1, 2, 3, 5, 8, 20, 64])
-    names = sorted({bytes(chance.choices(b"abXYZ_", k=3)) + b"%d" % i for i in range(n)})
+    names = sorted(bytes(chance.choices(b"abXYZ_", k=3)) + b"%d" % i for i in range(n))
     blocks = []
     for parent in chance.sample(range(n), chance.randint(0, min(n, 12))):
         order = chance.sample(range(n), chance.randint(0, min(n, 10)))
         often = chance.choice([0, 0, 0.5, 1])
         for _ in range(chance.randint(1, 6)):
-            children = tuple(names[x] for x in word(chance, order))
-            blocks.append((names[parent], int(chance.random() < often), children))
+            blocks.append((parent, int(chance.random() < often), word(chance, order)))
+    unused = sorted(set(range(n)) - tool.used_in(blocks))
+    if unused and chance.random() < 0.9:
+        blocks.append((chance.randrange(n), 0, unused))
     chance.shuffle(blocks)
-    return tool.book_of(blocks, names)
+    return book_cases.book([book_cases.name(name) for name in names],
+                           [book_cases.block(parent, children, text) for parent, text, children in blocks])
 
 
 def chance_books():

@@ -37,6 +37,15 @@ def shown(book):
     return tool.lines_of(*tool.read_book(book))
 
 
+def refusal(book):
+    """What the tool says of a book that is refused, or None."""
+    try:
+        tool.read_book(book)
+    except tool.Refused as e:
+        return str(e)
+    return None
+
+
 class Lines(unittest.TestCase):
     def test_paper_example(self):
         lines = b"entry: member contribution total\nentry: member leaver reason\nentry: member contribution reason\n"
@@ -58,7 +67,7 @@ class Lines(unittest.TestCase):
 
     def test_text_in_another_place(self):
         for line in (b"note: b #PCDATA", b"note: #PCDATA #PCDATA", b"note: #PCDATA b #PCDATA", b"#PCDATA: b",
-                     b"#PCDATA note: b", b"note #PCDATA: b", b"+ #PCDATA", b"+ b #PCDATA"):
+                     b"#PCDATA note: b", b"note #PCDATA: b"):
             with self.subTest(line=line), self.assertRaises(tool.Bad) as raised:
                 made(b"a:\n" + line + b"\n")
             self.assertIn("line 2: #PCDATA is not in its place", str(raised.exception))
@@ -71,7 +80,7 @@ class Lines(unittest.TestCase):
         for line in (b"note: #pcdata", b"note: #PCDATAb", b"note: # PCDATA", b"note: #PCDATA, b"):
             with self.subTest(line=line), self.assertRaisesRegex(tool.Bad, "line 1: the name '#.*' holds '#'"):
                 made(line)
-        for line in (b"a: #pcdata", b"a: (#PCDATA)", b"a: #PCDATA|b", b"a: (#PCDATA | b)*", b"+ #Pcdata"):
+        for line in (b"a: #pcdata", b"a: (#PCDATA)", b"a: #PCDATA|b", b"a: (#PCDATA | b)*"):
             with self.subTest(line=line), self.assertRaises(tool.Bad) as raised:
                 made(line)
             self.assertIn("; a block with text is written as 'note: #PCDATA em ref'", str(raised.exception))
@@ -79,8 +88,13 @@ class Lines(unittest.TestCase):
             self.assertEqual(shown(made(b"a:\n" + line)[0]), b"a:\n")
 
     def test_names_without_a_block(self):
-        self.assertEqual(made(b"a:\n+ c b\n+\n")[0], b"\3\0\1a\1b\1c\1\0\0\0\0")
-        self.assertEqual(shown(b"\3\0\1a\1b\1c\0\0"), b"+ a b c\n")
+        """No line gives such names: what a line with '+' gave is refused, also where a block uses the names."""
+        for line in (b"+ memo", b"+memo", b"+", b"+ b", b" + memo b", b"+ #PCDATA", b"+ memo: b"):
+            with self.subTest(line=line), self.assertRaises(tool.Bad) as raised:
+                made(b"a: b\n" + line + b"\n")
+            self.assertIn("line 2: the names behind '+' are in no block, and every call refuses a book with such a "
+                          "name (17); remove the line, or write a block that uses the name", str(raised.exception))
+        self.assertEqual(made(b"# + memo\na:\n")[0], b"\1\0\1a\1\0\0\0\0")
 
     def test_bad_lines(self):
         for text, said in (
@@ -101,14 +115,14 @@ class Lines(unittest.TestCase):
             (book_cases.EXAMPLE, "it is UTF-16 or no text"),
             (b"a: " + b"b" * 33 + b"\n", "has 33 bytes"),
             (b"a:" + b" b" * 256 + b"\n", "'a' has 256 children"),
-            (b"+ " + b" ".join(b"n%d" % i for i in range(65)), "there are 65 names"),
+            (b"n0: " + b" ".join(b"n%d" % i for i in range(65)), "there are 65 names"),
         ):
             with self.subTest(text=text[:20]), self.assertRaises(tool.Bad) as raised:
                 made(text)
             self.assertIn(said, str(raised.exception))
 
     def test_limits_that_pass(self):
-        for text in (b"a: " + b"b" * 32, b"a:" + b" b" * 255, b"+ " + b" ".join(b"n%d" % i for i in range(64))):
+        for text in (b"a: " + b"b" * 32, b"a:" + b" b" * 255, b"n0: " + b" ".join(b"n%d" % i for i in range(64))):
             self.assertEqual(made(shown(made(text)[0]))[0], made(text)[0])
 
     def test_size(self):
@@ -371,6 +385,32 @@ class Books(unittest.TestCase):
             self.assertEqual(raised.exception.number, number)
         self.assertEqual(tool.read_book(b"\1\0\1a\2\0\0\1\1\0\0\0\0"), ([b"a"], [(0, 1, (0,)), (0, 0, ())]))
 
+    def test_names_that_no_block_uses(self):
+        """17, after all of the book was read: what the message says of the first such name, and of how many more."""
+        names = b"\3\0\1a\2bb\4memo"
+        for blocks, said in (
+            (b"\0\0", "name 0, 'a', and 2 more, byte 3"),
+            (b"\1\0\0\0\0", "name 1, 'bb', and 1 more, byte 5"),
+            (b"\1\0\1\0\1\2", "name 0, 'a', byte 3"),
+            (b"\1\0\0\1\2\0\2", "name 1, 'bb', byte 5"),
+            (b"\2\0\0\0\1\1\1\0\1\0", "name 2, 'memo', byte 8"),
+            # each name is a parent only, or a child only
+            (b"\2\0\0\0\1\1\2\0\0", None),
+            (b"\3\0\2\0\0\1\1\0\0\0\0", None),
+        ):
+            with self.subTest(blocks=blocks):
+                self.assertEqual(refusal(names + blocks), said and (
+                    f"refused 17: a name in the book is neither a parent nor a child in any block ({said}); "
+                    "remove each such name, or add a block that uses it"))
+
+    def test_the_byte_of_an_unused_name(self):
+        names = [b"n%02d" % i + b"x" * (i % 9) for i in range(64)]
+        for i in range(64):
+            book = book_cases.book([book_cases.name(name) for name in names],
+                                   [book_cases.block_of([x for x in range(64) if x != i])])
+            with self.subTest(i=i):
+                self.assertIn(f"(name {i}, '{names[i].decode()}', byte {book.index(names[i])})", refusal(book))
+
     def test_lines_and_back(self):
         for label, book, _, line in book_cases.cases():
             if line.startswith("0"):
@@ -398,6 +438,10 @@ class Commands(unittest.TestCase):
         self.assertEqual((status, out), (1, b""))
         self.assertIn("refused 16: a text byte in the book is above 1 (that of block 0 is 2, byte 7); a book from "
                       "before there were text bytes has to be made again", said)
+        status, out, said = run("show", fed=b"\2\0\1a\4memo\1\0\0\0\0")
+        self.assertEqual((status, out), (1, b""))
+        self.assertIn("standard input: refused 17: a name in the book is neither a parent nor a child in any block "
+                      "(name 1, 'memo', byte 5); remove each such name, or add a block that uses it", said)
 
     def test_missing_file(self):
         status, out, said = run("make", "no-such-file")

@@ -8,7 +8,8 @@ import unittest
 
 import refusals_check as checker
 
-FILES = {place.file for place in checker.PLACES} | set(checker.TABLES_OF_CALLS) | {checker.HEADER, checker.CONDITIONS}
+FILES = {place.file for place in checker.PLACES} | set(checker.TABLES_OF_CALLS) | {
+    checker.HEADER, checker.CONDITIONS, checker.STOPS}
 
 TWELVE = "the output buffer is shorter than the text to be written, or has fewer than 65 places for a word"
 
@@ -81,13 +82,14 @@ class Refusals(unittest.TestCase):
 
     def test_a_new_refusal(self):
         """One line in each place is asked for."""
-        found, _ = self.planted(checker.LIST, "    BadText,\n", "    BadText,\n    // 17: it is late.\n    Late,\n")
+        last = "    UnusedName,\n"
+        found, _ = self.planted(checker.LIST, last, last + "    // 18: it is late.\n    Late,\n")
         self.assertEqual([one.split("should be: ")[1] for one in found], [
-            "Refusal::Late => 17,", "numberOf Late = 17", "*   17  it is late", '17 => "it is late",',
-            "| 17 | `Late` | it is late |", "| 17 | it is late |"])
+            "Refusal::Late => 18,", "numberOf Late = 18", "*   18  it is late", '18 => "it is late",',
+            "| 18 | `Late` | it is late |", "| 18 | it is late |"])
 
     def test_a_list_out_of_form(self):
-        for old, new in (("// 3: ", "// 4: "), ("// 3: ", "// "), ("    BadName,\n", ""), ("    BadText,\n", "")):
+        for old, new in (("// 3: ", "// 4: "), ("// 3: ", "// "), ("    BadName,\n", ""), ("    UnusedName,\n", "")):
             said = rf"{checker.LIST}:\d+: .*\n    should be: // \d+: text"
             with self.subTest(new=new), self.assertRaisesRegex(SystemExit, said):
                 self.planted(checker.LIST, old, new)
@@ -111,11 +113,15 @@ class Refusals(unittest.TestCase):
         self.assertIn("the numbers of accepts_word are missing", found)
 
     def test_a_number_of_a_book_that_is_left_out(self):
-        """Each call that takes a book gives 16, and so does the program."""
-        (found,), _ = self.planted("docs/REFUSALS.md", "`write_dtd` | 1 to 7, 16, 12 |", "`write_dtd` | 1 to 7, 12 |")
-        self.assertIn("write_dtd: 1 to 7, 12\n    should be: 1, 2, 3, 4, 5, 6, 7, 16, 12", found)
-        (found,), _ = self.planted("tools/book.py", '    16: "a text byte in the book is above 1",\n', "")
-        self.assertIn('a row is missing in the table\n    should be: 16: "a text byte in the book is above 1",', found)
+        """Each call that takes a book gives 16 and 17, and so does the program."""
+        for numbers in ("1 to 7, 12", "1 to 7, 16, 12", "1 to 7, 17, 12", "1 to 7, 16, 12, 17"):
+            (found,), _ = self.planted("docs/REFUSALS.md", "`write_dtd` | 1 to 7, 16, 17, 12 |",
+                                       f"`write_dtd` | {numbers} |")
+            self.assertIn(f"write_dtd: {numbers}\n    should be: 1, 2, 3, 4, 5, 6, 7, 16, 17, 12", found)
+        for row in ('16: "a text byte in the book is above 1",',
+                    '17: "a name in the book is neither a parent nor a child in any block",'):
+            (found,), _ = self.planted("tools/book.py", f"    {row}\n", "")
+            self.assertIn(f"a row is missing in the table\n    should be: {row}", found)
 
     def test_other_calls_of_a_number(self):
         calls = "| `model_of_parent`, `write_from_sample` |"
@@ -131,10 +137,19 @@ class Refusals(unittest.TestCase):
     def test_a_new_condition_of_a_book(self):
         """Its text is asked for in the tool, too."""
         field = "  pub seven : (k ≡ 7)"
-        planted = f"  pub eight : (k ≡ 8) ↔ Stops bytes BadParent\n{field}"
-        found, _ = self.planted(checker.CONDITIONS, field, planted)
+        found, _ = self.planted(checker.CONDITIONS, field, f"  pub eight : (k ≡ 8) ↔ Late\n{field}")
         self.assertIn('should be: 8: "the parent asked for', found[0])
         self.assertTrue(found[0].startswith("tools/book.py:"))
+
+    def test_conditions_of_the_bytes_of_a_book(self):
+        """Those of `Stops`, and no others, are stated by it."""
+        row = "(k ≡ 16) ↔ Stops bytes BadText"
+        (found,), _ = self.planted(checker.CONDITIONS, row, "(k ≡ 16) ↔ Late")
+        self.assertTrue(found.startswith(checker.CONDITIONS))
+        self.assertIn(f"a row is missing in the table\n    should be: {row}", found)
+        (found,), _ = self.planted(checker.STOPS, "→ Stops s BadText", "→ Stops s Late")
+        self.assertTrue(found.startswith(f"{checker.CONDITIONS}:"))
+        self.assertIn(f"{row}\n    should be: no such row", found)
 
     def test_a_new_condition(self):
         """A number that a call gives besides is asked for in each place that lists its numbers."""

@@ -33,6 +33,7 @@ SEED = 20261115
 FEEDS = 8
 CHANGES = 12
 PARENT, CHILDREN, LONGEST_WORD = "d", "abc", 4
+ALL_NAMES = b"all-names"  # a parent that no document has
 
 STORY = """<feed>
 <entry><member>Zoë</member><contribution/><total>1.00</total></entry>
@@ -162,10 +163,11 @@ def valid(dtd_file, document, folder):
     return done.returncode == 0
 
 
-def accepted(verdict, book, blocks, names, folder):
-    """What VERDICT says of these blocks: both books have all the names, used or not."""
-    (folder / "sample.book").write_bytes(book)
-    (folder / "other.book").write_bytes(tool.book_of(blocks, names))
+def accepted(verdict, sample, blocks, folder):
+    """What VERDICT says of these blocks. Both books have the same names, since one block more uses all of them."""
+    common = ALL_NAMES, 0, tuple(sorted(tool.used_in(sample + blocks)))
+    (folder / "sample.book").write_bytes(tool.book_of(sample + [common]))
+    (folder / "other.book").write_bytes(tool.book_of(blocks + [common]))
     command = [*verdict, str(folder / "sample.book"), str(folder / "other.book")]
     done = subprocess.run(command, capture_output=True, text=True)
     if done.stdout not in ("yes\n", "no\n"):
@@ -187,11 +189,9 @@ def printed(program, book, folder):
 
 def check(program, verdict, documents, others, folder, line=""):
     """How many documents were compared, of which so many are not valid; the DTD must have this line."""
-    sample = blocks_of(documents)
-    holders = tool.with_children(sample)
-    names = {name for parent, _, children in sample + blocks_of(others) for name in (parent, *children)}
-    book = tool.book_of(tool.with_text(sample, holders), names)
-    dtd, dtd_file = printed(program, book, folder)
+    holders = tool.with_children(blocks_of(documents))
+    sample = tool.with_text(blocks_of(documents), holders)
+    dtd, dtd_file = printed(program, tool.book_of(sample), folder)
     if line not in dtd:
         sys.exit(f"xmllint_check: the DTD does not have {line}\n{dtd}\n{documents}")
     models = models_of(dtd)
@@ -206,7 +206,7 @@ def check(program, verdict, documents, others, folder, line=""):
             fail(f"valid is {theirs} for xmllint and {ours} by the printed models")
         # As in the sample, white space is text only in elements that have no children there.
         blocks = tool.with_text(blocks_of([document]), holders)
-        if verdict and accepted(verdict, book, blocks, names, folder) != theirs:
+        if verdict and accepted(verdict, sample, blocks, folder) != theirs:
             fail(f"valid is {theirs} for xmllint and {not theirs} by the calls")
         turned_away += not theirs
     return len(documents + others), turned_away

@@ -12,10 +12,10 @@ A file that begins with '<' is an XML document; any other file holds lines:
   note: #PCDATA em ref                a block with text: #PCDATA comes first behind the colon
   total: #PCDATA                      a block with text and without children
   batch-end:                          a block without text and children
-  + memo                              names that the book holds though no block does
   # words                             a comment; empty lines count for nothing
 
-A line that begins with the word #PCDATA is no comment, and is refused. A line ends in LF, CR LF or CR.
+A line that begins with the word #PCDATA is no comment, and is refused. A line ends in LF, CR LF or CR. The names of the
+book are those in its blocks. A book with a further name is refused by every call (17); `show` says which name it is.
 
 Of an XML document each element is a block: its name, whether it has text, and the names of its child elements in order.
 It has text where character data other than white space is directly in it. White space is text only where no block of
@@ -59,6 +59,13 @@ REASONS = {
     6: "a parent or child number in the book is not below the count of names",
     7: "the book has bytes left over after its last block",
     16: "a text byte in the book is above 1",
+    17: "a name in the book is neither a parent nor a child in any block",
+}
+
+# What to do about a refusal, where more is to be said than its reason.
+REMEDIES = {
+    16: "; a book from before there were text bytes has to be made again",
+    17: "; remove each such name, or add a block that uses it",
 }
 
 # The word that says in a line, as in a declaration, that there is text.
@@ -73,8 +80,8 @@ class Refused(Exception):
     """A refused book: its number, and the place in the book with what is there."""
 
     def __init__(self, number, place, detail):
-        again = "; a book from before there were text bytes has to be made again" if number == 16 else ""
-        super().__init__(f"refused {number}: {REASONS[number]} ({detail}, byte {place}){again}")
+        remedy = REMEDIES.get(number, "")
+        super().__init__(f"refused {number}: {REASONS[number]} ({detail}, byte {place}){remedy}")
         self.number = number
 
 
@@ -116,8 +123,7 @@ def checked(name, where, advice=""):
 
 # What a file gives are blocks (parent, content, children). Content is the greatest of these that is in the element:
 # comments or processing instructions; references to entities; white space as it is; CDATA sections, and white space
-# written as character references; text. A book is made of blocks (parent, text, children), and of names that no block
-# may have.
+# written as character references; text. A book is made of blocks (parent, text, children).
 NOTHING, REMARK, REFERENCE, BLANK, MARKED, TEXT = range(6)
 
 
@@ -143,17 +149,16 @@ def size_of(blocks):
     return sum(3 + len(children) for _, _, children in blocks)
 
 
-def book_of(blocks, more_names=(), distinct=False):
-    """The bytes of the book with these blocks, each a parent, a text byte and children."""
+def used_in(blocks):
+    """The names, or the numbers, that are a parent or a child in some block."""
+    return {one for parent, _, children in blocks for one in (parent, *children)}
+
+
+def book_of(blocks, distinct=False):
+    """The bytes of the book with these blocks, one at least, each a parent, a text byte and children."""
     if distinct:
         blocks = list(dict.fromkeys(blocks))
-    names = set(more_names)
-    for parent, _, children in blocks:
-        names.add(parent)
-        names.update(children)
-    names = sorted(names)
-    if not names:
-        raise Bad("there is no name, and a book has at least one")
+    names = sorted(used_in(blocks))
     if len(names) > NAMES:
         raise Bad(f"there are {len(names)} names, and a book has at most {NAMES}; the names after these: "
                   + ", ".join(shown(n) for n in names[NAMES:NAMES + 5]) + (", .." if len(names) > NAMES + 5 else ""))
@@ -194,6 +199,9 @@ def checked_names(words, where):
 
 
 def block_of_line(line, where):
+    if line.startswith(b"+"):
+        raise Bad(f"{where}: the names behind '+' are in no block, and every call refuses a book with such a name "
+                  "(17); remove the line, or write a block that uses the name")
     parent, colon, behind = line.partition(b":")
     if not colon:
         raise Bad(f"{where}: no ':' behind the parent; a block is written as 'entry: member contribution total'; "
@@ -208,8 +216,8 @@ def block_of_line(line, where):
 
 
 def blocks_of_lines(data, file):
-    """The blocks of a file of lines, the place of each, and the further names."""
-    blocks, places, more = [], [], []
+    """The blocks of a file of lines, and the place of each."""
+    blocks, places = [], []
     if data[:2] in UTF_16 or b"\0" in data:
         raise Bad(f"{file}: neither an XML document nor lines of text in UTF-8: it is UTF-16 or no text")
     for at, line in enumerate(data.splitlines(), 1):
@@ -218,26 +226,16 @@ def blocks_of_lines(data, file):
         # A line that begins with the word #PCDATA is no comment, but a block that was written wrongly.
         if not line or line.startswith(b"#") and not re.match(rb"#PCDATA(?![^\s:])", line):
             continue
-        if line.startswith(b"+"):
-            more += checked_names(line[1:].split(), where)
-        else:
-            blocks.append(block_of_line(line, where))
-            places.append(where)
-    return blocks, places, more
+        blocks.append(block_of_line(line, where))
+        places.append(where)
+    return blocks, places
 
 
 def lines_of(names, blocks):
-    """A book as lines: its blocks in order, then the names that none of them holds."""
-    out = []
-    used = set()
-    for parent, text, children in blocks:
-        used.add(parent)
-        used.update(children)
-        out.append(b" ".join([names[parent] + b":"] + [PCDATA] * text + [names[child] for child in children]))
-    left = [name for number, name in enumerate(names) if number not in used]
-    if left:
-        out.append(b" ".join([b"+"] + left))
-    return b"".join(line + b"\n" for line in out)
+    """A book as lines: its blocks in order."""
+    lines = [b" ".join([names[parent] + b":"] + [PCDATA] * text + [names[child] for child in children])
+             for parent, text, children in blocks]
+    return b"".join(line + b"\n" for line in lines)
 
 
 # XML documents
@@ -388,6 +386,16 @@ def slips_of(blocks, places):
 # Books
 
 
+def check_names_used(names, blocks):
+    """Refuses the book with these names and blocks where no block uses one of the names."""
+    unused = sorted(set(range(len(names))) - used_in(blocks))
+    if unused:
+        first = unused[0]
+        place = 2 + sum(1 + len(name) for name in names[:first]) + 1
+        more = f", and {len(unused) - 1} more" if len(unused) > 1 else ""
+        raise Refused(17, place, f"name {first}, {shown(names[first])}{more}")
+
+
 def read_book(data):
     """The names and the blocks (as numbers) of a book, or Refused."""
     if len(data) > BOOK_BYTES:
@@ -432,6 +440,7 @@ def read_book(data):
         blocks.append((parent, text, tuple(children)))
     if at < len(data):
         raise Refused(7, at, f"{len(data) - at} of them")
+    check_names_used(names, blocks)
     return names, blocks
 
 
@@ -459,7 +468,7 @@ def is_xml(data):
 
 
 def make(files, distinct, say):
-    blocks, places, more, documents = [], [], [], []
+    blocks, places, documents = [], [], []
     for file in files:
         data, called = contents(file)
         if is_xml(data):
@@ -468,14 +477,13 @@ def make(files, distinct, say):
             blocks += document.blocks
             places += map(document.where, document.tags)
         else:
-            found, lines, names = blocks_of_lines(data.removeprefix(b"\xef\xbb\xbf"), called)
-            if not found and not names:
+            found, lines = blocks_of_lines(data.removeprefix(b"\xef\xbb\xbf"), called)
+            if not found:
                 raise Bad(f"{called}: holds no block: neither an XML document nor a line such as "
                           "'entry: member total'")
             blocks += found
             places += lines
-            more += names
-    book = book_of(with_text(blocks, with_children(blocks)), more, distinct)
+    book = book_of(with_text(blocks, with_children(blocks)), distinct)
     for note in (*notes_of(documents, blocks), *slips_of(blocks, places)):
         say(note)
     return book

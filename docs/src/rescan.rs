@@ -2,8 +2,8 @@
 //
 // This program is only for comparison. Request U2 of paper 02 asks for the facts of all parents in one reading of the
 // book, measured against a simple program that rescans for each parent: this one. `docs/BENCHMARK.md` has the figures.
-// It follows paper 01 and request U5 of paper 02 sentence by sentence, with tables of yes and no. The book is checked
-// once; then each parent takes one scan of the blocks, one chain if it has no text, and one line.
+// It follows paper 01 and requests U5 and U6 of paper 02 sentence by sentence, with tables of yes and no. The book is
+// checked once; then each parent takes one scan of the blocks, one chain if it has no text, and one line.
 //
 //     rustc -O docs/src/rescan.rs -o target/rescan
 //     target/rescan < samples/feed.book
@@ -72,8 +72,8 @@ fn take_names<'a>(left: &mut &'a [u8], count: usize) -> Result<Vec<&'a [u8]>, Re
     Ok(names)
 }
 
-/// Takes one block and checks it: its parent, its text byte and its word.
-fn take_block(left: &mut &[u8], names: usize) -> Result<(), Refusal> {
+/// Takes one block and checks it: its parent, its text byte and its word. Marks the names that it uses.
+fn take_block(left: &mut &[u8], names: usize, used: &mut Row) -> Result<(), Refusal> {
     let parent = take(left, 1)?[0] as usize;
     if parent >= names {
         return Err(6);
@@ -85,6 +85,10 @@ fn take_block(left: &mut &[u8], names: usize) -> Result<(), Refusal> {
     let word = take(left, size)?;
     if word.iter().any(|&child| child as usize >= names) {
         return Err(6);
+    }
+    used[parent] = true;
+    for &child in word {
+        used[child as usize] = true;
     }
     Ok(())
 }
@@ -102,14 +106,17 @@ fn check(bytes: &[u8]) -> Result<Book<'_>, Refusal> {
     let names = take_names(&mut left, count)?;
     let many = take_count(&mut left)?;
     let blocks = left;
+    let mut used = [false; MOST_NAMES];
     for _ in 0..many {
-        take_block(&mut left, count)?;
+        take_block(&mut left, count, &mut used)?;
     }
-    if left.is_empty() {
-        Ok(Book { names, blocks })
-    } else {
-        Err(7)
+    if !left.is_empty() {
+        return Err(7);
     }
+    if used[..count].contains(&false) {
+        return Err(17);
+    }
+    Ok(Book { names, blocks })
 }
 
 /// The follow facts of one parent.

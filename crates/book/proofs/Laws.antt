@@ -2,15 +2,15 @@
 -- Assumes nothing.
 use Prim.Native.Nat.{ℕ, zero, suc, _+_, _-_, _≤_, _<_}
 use mathlib.Core.Path.{_≡_, refl, sym, _∙_, ap, subst}
-use mathlib.Core.Bool.{Bool, true, false, _&&_, false≢true}
+use mathlib.Core.Bool.{true, false, false≢true}
 use mathlib.Core.List.{List, [], _∷_, _++_}
 use native.Mathlib.Omega.{arith}
 use native.Mathlib.Decide.{decLt}
-use native.Mathlib.Nat.{le-of-suc-le-suc}
+use native.Mathlib.Nat.{le-of-suc-le-suc, lt-of-lt-of-le}
 use lib.Dec.{ltb}
 use lib.ListN.{length, take, drop, getD, length-replicate, List·getD-append}
 use lib.Seq.{sets-eq}
-use borrow.Author.Tests.{ltb-true, ltb-false}
+use borrow.Author.Tests.{lt-ltb, ltb-true, ltb-false}
 use Rattle.refusal.specs.declared.Refusal.{Refusal}
 use Rattle.refusal.specs.declared.Refusal.the-variants.{BookTooLong}
 use Rattle.refusal.specs.declared.Outcome.the-variants.{Done, Refused}
@@ -18,6 +18,7 @@ use Rattle.refusal.specs.Answer.{Answer, given, refused, onward}
 use Rattle.refusal.proofs.Laws.{refused-alike, Done≢Refused}
 use Rattle.refusal.proofs.Answers.{onward-given, check-given, given-same}
 use Rattle.nameset.specs.Places.{places}
+use Rattle.nameset.proofs.Tests.{both, and-left, and-right}
 use Rattle.nameset.proofs.Count.{count-bounds}
 use Rattle.name.specs.Rule.{isName}
 use Rattle.name_order.specs.declared.Order.the-variants.{Below, Same}
@@ -206,13 +207,18 @@ reading-refused (refused g) r f e o = ap refused (refused-alike g f (sym (ap (λ
 
 -- ---- its words
 
-both-true : (a b : Bool) → (a && b) ≡ true → (a ≡ true) × (b ≡ true)
-both-true true b e = (refl, e)
-both-true false b e = absurd (false≢true e)
-
 -- each number of a word is below n
 pub child-below : (n : ℕ) (w : List ℕ) → allBelow n w ≡ true → (k : ℕ) → k < length w → getD w k 0 < n
 unfolding allBelow
 child-below n [] e k l = absurd (omega arith)
-child-below n (x ∷ w) e zero l = ltb-true x n (both-true (ltb x n) (allBelow n w) e .0)
-child-below n (x ∷ w) e (suc k) l = child-below n w (both-true (ltb x n) (allBelow n w) e .1) k (le-of-suc-le-suc l)
+child-below n (x ∷ w) e zero l = ltb-true x n (and-left (ltb x n) (allBelow n w) e)
+child-below n (x ∷ w) e (suc k) l = child-below n w (and-right (ltb x n) (allBelow n w) e) k (le-of-suc-le-suc l)
+
+-- a word over n names is one over more of them
+pub all-below-more : (n m : ℕ) (w : List ℕ) → n ≤ m → allBelow n w ≡ true → allBelow m w ≡ true
+unfolding allBelow
+all-below-more n m [] l h = refl
+all-below-more n m (x ∷ w) l h =
+    both (ltb x m) (allBelow m w)
+    (lt-ltb x m (lt-of-lt-of-le (ltb-true x n (and-left (ltb x n) (allBelow n w) h)) l))
+    (all-below-more n m w l (and-right (ltb x n) (allBelow n w) h))

@@ -10,5 +10,6 @@ pub mod FieldStops
 pub mod NameStops
 pub mod BlockStops
 pub mod Stops
+pub mod Used
 pub mod Taken
 pub mod Onward

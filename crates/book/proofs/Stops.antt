@@ -7,14 +7,15 @@ use mathlib.Core.Bool.{true, false, not}
 use mathlib.Core.List.{List, []}
 use mathlib.Core.Logic.{_↔_, inl, inr, ⊎-elim}
 use native.Mathlib.Omega.{arith}
-use lib.Dec.{ltb}
+use lib.Dec.{eqb, ltb}
 use lib.ListN.{length}
 use borrow.Author.Tests.{lt-ltb, le-ltb, ltb-true, ltb-false, not-true, not-false}
 use Rattle.refusal.specs.declared.Refusal.{Refusal}
-use Rattle.refusal.specs.declared.Refusal.the-variants.{BookTooLong, BytesMissing, BadNameCount, BadName, NameNotAbove, NumberNotBelow, BytesLeftOver, BadText}
-use Rattle.refusal.specs.Table.{ofBook}
+use Rattle.refusal.specs.declared.Refusal.the-variants.{BookTooLong, BytesMissing, BadNameCount, BadName, NameNotAbove, NumberNotBelow, BytesLeftOver, BadText, UnusedName}
+use Rattle.refusal.specs.Table.{numberOf, ofBook}
 use Rattle.refusal.specs.Answer.{Answer, given, refused, onward, refuseIf}
 use Rattle.refusal.proofs.Answers.{onward-given, check-given, given-same, given-refused, onward-refused, check-refused}
+use Rattle.refusal.proofs.Checks.{other}
 use Rattle.nameset.specs.Places.{goodCount, OutOfRange}
 use Rattle.nameset.proofs.Count.{count-bounds, bounds-count, count-bad}
 use Rattle.book.specs.Field.{Field, field, countSize, countAt, countOf}
@@ -245,16 +246,16 @@ module _ (s : List ℕ) (b : Book) where
   pub book-whole : IsBook s b ↔ Whole s b
   book-whole = (given-whole, whole-given)
 
--- So they are refused by the numbers of a book and by no other.
-pub book-stops : (s : List ℕ) (r : Refusal) → bookOf s ≡ refused r → ofBook r ≡ true
-book-stops s r e = own r (refused-stops s r e)
+-- So they are refused by numbers of a book and by no other, and never by 17, which is checked of a whole book.
+pub book-stops : (s : List ℕ) (r : Refusal) → bookOf s ≡ refused r → (ofBook r ≡ true) × (¬ (UnusedName ≡ r))
+book-stops s r e = let (book, apart) = own r (refused-stops s r e) in (book, other UnusedName r apart)
   where
-    own : (r : Refusal) → Stops s r → ofBook r ≡ true
-    own BookTooLong (too-long h) = refl
-    own BytesMissing (missing-bytes h) = refl
-    own BadNameCount (bad-count h) = refl
-    own BadName (bad-name a h) = refl
-    own NameNotAbove (low-name a h) = refl
-    own NumberNotBelow (bad-block a h) = refl
-    own BadText (bad-text a h) = refl
-    own BytesLeftOver (left-over a h) = refl
+    own : (r : Refusal) → Stops s r → (ofBook r ≡ true) × (eqb (numberOf UnusedName) (numberOf r) ≡ false)
+    own BookTooLong (too-long h) = (refl, refl)
+    own BytesMissing (missing-bytes h) = (refl, refl)
+    own BadNameCount (bad-count h) = (refl, refl)
+    own BadName (bad-name a h) = (refl, refl)
+    own NameNotAbove (low-name a h) = (refl, refl)
+    own NumberNotBelow (bad-block a h) = (refl, refl)
+    own BadText (bad-text a h) = (refl, refl)
+    own BytesLeftOver (left-over a h) = (refl, refl)

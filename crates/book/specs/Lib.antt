@@ -4,4 +4,5 @@ pub mod Layout
 pub mod Bytes
 pub mod Access
 pub mod Stops
+pub mod Used
 pub mod Taken

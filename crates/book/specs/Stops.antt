@@ -1,6 +1,7 @@
--- To be believed: which bytes are refused by which number, rows 1 to 7 of paper 01's "Where a call stops" and 16 of
--- paper 02, U5, and which are a book. Stated of the bytes, without the function that reads; `book-refused` and
--- `book-whole` in proofs/Stops.antt say that `bookOf` agrees. Read from `Stops`, at the end, upwards.
+-- To be believed: which bytes are refused by which number while they are read, rows 1 to 7 of paper 01's "Where a call
+-- stops" and 16 of paper 02, U5, and which are a book. Stated of the bytes, without the function that reads;
+-- `book-refused` and `book-whole` in proofs/Stops.antt say that `bookOf` agrees. 17 comes after: Used.antt and
+-- Taken.antt. Read from `Stops`, at the end, upwards.
 -- Assumes nothing.
 use Prim.Native.Nat.{ℕ, _≤_, _<_}
 use mathlib.Core.Path.{_≡_}
@@ -132,7 +133,7 @@ Missing s = (length s < countSize) ⊎ (((last rest : List ℕ) × AtName s last
 abbrev pub BadCount : List ℕ → Type 0
 BadCount s = (length s ≤ longestBook) × (countSize ≤ length s) × OutOfRange (countAt s 0)
 
--- The bytes are refused by this number. There is one line for each number of a book, and no other number is one.
+-- The bytes are refused by this number while they are read. There is one line for each such number.
 pub data Stops (s : List ℕ) : Refusal → Type 0 where
   -- 1: "above 60,000 bytes"
   too-long : longestBook < length s → Stops s BookTooLong

@@ -7,15 +7,16 @@ use mathlib.Core.Bool.{Bool, not}
 use mathlib.Core.List.{List}
 use lib.Dec.{ltb}
 use lib.ListN.{length}
-use Rattle.refusal.specs.Answer.{Answer, given, onward}
+use Rattle.refusal.specs.declared.Refusal.the-variants.{UnusedName}
+use Rattle.refusal.specs.Answer.{Answer, given, onward, refuseIf}
 use Rattle.book.specs.Book.{Book, bookOf}
+use Rattle.book.specs.Used.{hasUnused}
 
--- What is checked of a whole book that was read: nothing, since all refusals of a book, 1 to 7, 16, come while it is
--- read.
+-- What is checked of a whole book that was read: "17, an unused name, after 7 and before 8".
 unfoldable pub checkedBook : Book → Answer Book
-checkedBook b = given b
+checkedBook b = refuseIf (hasUnused b) UnusedName (given b)
 
--- The book as the calls take it: read (1 to 7, 16), then checked.
+-- The book as the calls take it: read (1 to 7, 16), then checked (17).
 unfoldable pub takenBook : List ℕ → Answer Book
 takenBook bytes = onward (bookOf bytes) checkedBook
 

@@ -8,18 +8,22 @@ use lib.ListN.{length, drop}
 use Rattle.refusal.specs.declared.Refusal.{Refusal}
 use Rattle.refusal.specs.Answer.{Answer, given, refused, onward}
 use Rattle.refusal.proofs.Answers.{onward-given, given-same}
+use Rattle.nameset.specs.declared.NameSet.{NameSet}
+use Rattle.nameset.specs.Set.{empty}
 use Rattle.book.specs.Field.{Field, field}
 use Rattle.book.specs.Book.{Block, blockOf, blocksOf}
 use Rattle.book.specs.Bytes.{headSize}
 use Rattle.book.specs.Stops.{BlocksBelow}
 use Rattle.book.proofs.Told.{block-told}
+use Rattle.book_unused.specs.Unused.{withoutBlock, blockAt}
 use Rattle.book_blocks.specs.declared.BlockStep.{BlockStep}
 use Rattle.book_blocks.specs.declared.BlockStep.the-variants.{Stopped as BlockStopped}
+use Rattle.book_blocks.specs.declared.BlocksEnd.{BlocksEnd}
 use Rattle.book_blocks.specs.declared.BlocksEnd.the-variants.{End, Stopped}
 use Rattle.book_blocks.specs.Tables.{blockStep, blocksEnd}
 use Rattle.book_blocks.specs.Gathers.{Gathers, withOthers, blocksFrom, GathersAll}
 use Rattle.book_blocks.proofs.Steps.{BlockRead, block-stopped}
-use Rattle.book_blocks.proofs.Walk.{Walk, walk-none, walk-done, walk-stopped, walk-more}
+use Rattle.book_blocks.proofs.Walk.{Walk, walk-none, walk-done, walk-rest, walk-stopped, walk-more}
 
 -- ---- the blocks from the front of some bytes
 
@@ -64,35 +68,43 @@ module _ (K : List Block → List ℕ → Type 0) (n : ℕ) (s : List ℕ) (at :
 
 -- ---- the loop
 
--- Where the loop is: it has gathered the blocks `seen`, and `left` are due from `at` on.
-pub record Gathering (K : List Block → List ℕ → Type 0) (s : List ℕ) (n m from : ℕ) (t₀ : List ℕ) (left at : ℕ) (t : List ℕ) : Type 0 where
-  pub walk : Walk s n m from left at
+-- Where a loop is: it has gathered the blocks `seen`, which leave `unused` of a set, and `left` are due from `at` on.
+pub record Gathering (K : List Block → List ℕ → Type 0) (s : List ℕ) (n m from : ℕ) (set : NameSet) (t₀ : List ℕ) (left at : ℕ) (unused : NameSet) (t : List ℕ) : Type 0 where
+  pub walk : Walk s n m from set left at unused
   pub seen : List Block
   pub kept : GathersAll K seen t₀ t
   pub split : blocksFrom n m (drop from s) ≡ seen ++ blocksFrom n left (drop at s)
 
--- the answer of the whole loop, and what it has gathered
+-- what the whole loop has gathered
 abbrev pub Gathered : (List Block → List ℕ → Type 0) → List ℕ → ℕ → ℕ → ℕ → List ℕ → List ℕ → Type 0
 Gathered K s n m from t₀ t = GathersAll K (blocksFrom n m (drop from s)) t₀ t
 
-module _ (K : List Block → List ℕ → Type 0) (s : List ℕ) (n m from : ℕ) where
-  pub gather-none : (t : List ℕ) → from ≤ length s → Gathering K s n m from t m from t
-  gather-none t h =
+module _ (K : List Block → List ℕ → Type 0) (s : List ℕ) (n m from : ℕ) (set : NameSet) where
+  pub gather-none : (unused : NameSet) (t : List ℕ) → from ≤ length s → unused ≡ set → Gathering K s n m from set t m from unused t
+  gather-none unused t h e =
       record {
-        walk = walk-none s n m from h;
+        walk = walk-none s n m from set unused h e;
         seen = [];
         kept = λ bs k. subst (λ (cs : List Block). K cs t) (sym (append-nil bs)) k;
         split = refl;
       }
 
-  module _ (t₀ : List ℕ) (left at : ℕ) (t : List ℕ) (g : Gathering K s n m from t₀ left at t) where
+  module _ (t₀ : List ℕ) (left at : ℕ) (unused : NameSet) (t : List ℕ) (g : Gathering K s n m from set t₀ left at unused t) where
     all-seen : g .seen ≡ blocksFrom n m (drop from s) → (u : List ℕ) → u ≡ t → Gathered K s n m from t₀ u
     all-seen e u q bs k = rw (q, ← e) (g .kept bs k)
 
-    pub gather-done : left ≤ 0 → (End at ≡ blocksEnd from (blocksOf n m (drop from s))) × Gathered K s n m from t₀ t
+    pub gather-done : left ≤ 0 → (End at unused ≡ blocksEnd from set (blocksOf n m (drop from s))) × Gathered K s n m from t₀ t
     gather-done h = (
-      walk-done s n m from left at (g .walk) h,
+      walk-done s n m from set left at unused (g .walk) h,
       all-seen (sym (g .split ∙ ap (λ (bs : List Block). g .seen ++ bs) (from-none n left (drop at s) h) ∙ append-nil (g .seen))) t refl,
+    )
+
+    -- where nothing is left of the set, another loop goes on with the other blocks
+    pub gather-rest : unused ≡ empty → (r : BlocksEnd) (u : List ℕ) → (r ≡ blocksEnd at empty (blocksOf n left (drop at s))) × Gathered K s n left at t u →
+        (r ≡ blocksEnd from set (blocksOf n m (drop from s))) × Gathered K s n m from t₀ u
+    gather-rest e r u (answer, more) = (
+      walk-rest s n m from set left at unused (g .walk) e r answer,
+      λ bs k. subst (λ (cs : List Block). K cs u) (append-assoc bs (g .seen) (blocksFrom n left (drop at s)) ∙ ap (λ (cs : List Block). bs ++ cs) (sym (g .split))) (more (bs ++ g .seen) (g .kept bs k)),
     )
 
     module _ (more : 0 < left) where
@@ -101,22 +113,23 @@ module _ (K : List Block → List ℕ → Type 0) (s : List ℕ) (n m from : ℕ
       first = ap (λ (l : ℕ). blocksFrom n l (drop at s)) (let k : left ≡ suc (left - 1) = omega arith in k)
 
       pub gather-stopped : (x : BlockStep) → x ≡ blockStep (blockOf n (drop at s)) → (r : Refusal) → x ≡ BlockStopped r → (u : List ℕ) → Gathers K (blockOf n (drop at s)) t u →
-          (Stopped r ≡ blocksEnd from (blocksOf n m (drop from s))) × Gathered K s n m from t₀ u
+          (Stopped r ≡ blocksEnd from set (blocksOf n m (drop from s))) × Gathered K s n m from t₀ u
       unfolding withOthers
       gather-stopped x q r v u step =
           let e = block-stopped (blockOf n (drop at s)) r (sym q ∙ v) in
           let same : u ≡ t = subst (λ (a : Answer (Field Block)). Gathers K a t u) e step in (
-            walk-stopped s n m from left at (g .walk) more r e,
+            walk-stopped s n m from set left at unused (g .walk) more r e,
             all-seen (sym (g .split ∙ ap (λ (bs : List Block). g .seen ++ bs) (first ∙ rw e) ∙ append-nil (g .seen))) u same,
           )
 
-      pub gather-more : (size : ℕ) → BlockRead n s at size → (u : List ℕ) → Gathers K (blockOf n (drop at s)) t u → Gathering K s n m from t₀ (left - 1) (at + headSize + size) u
+      pub gather-more : (size : ℕ) → BlockRead n s at size → (next : NameSet) → next ≡ withoutBlock unused (blockAt s at size) → (u : List ℕ) → Gathers K (blockOf n (drop at s)) t u →
+          Gathering K s n m from set t₀ (left - 1) (at + headSize + size) next u
       unfolding withOthers
-      gather-more size b u step =
+      gather-more size b next q u step =
           let own : Gathers K (given (b .block)) t u = subst (λ (a : Answer (Field Block)). Gathers K a t u) (b .read) step in
           let one : List Block = b .block .value ∷ [] in
           record {
-            walk = walk-more s n m from left at (g .walk) more size b;
+            walk = walk-more s n m from set left at unused (g .walk) more size b next q;
             seen = g .seen ++ one;
             kept = λ bs k. subst (λ (cs : List Block). K cs u) (append-assoc bs (g .seen) one) (own (bs ++ g .seen) (g .kept bs k));
             split =

@@ -5,14 +5,18 @@ use mathlib.Core.Path.{_≡_, refl, _∙_, ap}
 use mathlib.Core.Bool.{true, false≢true}
 use mathlib.Core.List.{List, [], _∷_}
 use native.Mathlib.Omega.{arith}
+use native.Mathlib.Nat.{lt-of-lt-of-le}
 use lib.ListN.{length, getD, take, drop}
 use Rattle.refusal.specs.declared.Refusal.{Refusal}
 use Rattle.refusal.specs.Answer.{Answer, given, refused}
+use Rattle.nameset.specs.Places.{places}
 use Rattle.book.specs.Field.{Field}
-use Rattle.book.specs.Book.{Block, allBelow, blockOf}
+use Rattle.book.specs.Book.{Block, longestBook, allBelow, blockOf}
 use Rattle.book.specs.Bytes.{headSize, textAt, blocksBytes}
 use Rattle.book.proofs.Told.{block-told}
 use Rattle.book.proofs.Placed.{block-placed}
+use Rattle.book.proofs.Laws.{all-below-more}
+use Rattle.book_unused.specs.Unused.{blockAt}
 use Rattle.book_blocks.specs.declared.BlockStep.the-variants.{Block as BlockIs, Stopped as BlockStopped}
 use Rattle.book_blocks.specs.Tables.{blockStep, behindBlocks}
 
@@ -52,6 +56,17 @@ block-read n s at k e = go (blockOf n (drop at s)) refl e
           children = t .children;
         }
     go (refused r) q e = absurd (false≢true cc)
+
+-- it is the block whose bytes stand there,
+pub same-block : (n : ℕ) (s : List ℕ) (at k : ℕ) (b : BlockRead n s at k) → blockAt s at k ≡ b .block .value
+unfolding blockAt
+same-block n s at k b = λ i. record { parent = b .parent i; text = b .text i; word = b .word i }
+
+-- and its numbers are those of names: what `without_block` asks
+pub block-small : (n : ℕ) (s : List ℕ) (at k : ℕ) (b : BlockRead n s at k) → length s ≤ longestBook → n ≤ places →
+    (length s ≤ longestBook) × (at + headSize + k ≤ length s) × (blockAt s at k .parent < places) × (allBelow places (blockAt s at k .word) ≡ true)
+block-small n s at k b short few =
+    rw (same-block n s at k b) (short, b .fits, lt-of-lt-of-le (b .below) few, all-below-more n places (b .block .value .word) few (b .children))
 
 -- the part of the bytes that the code takes as the children
 pub part-read : (n : ℕ) (s : List ℕ) (at k : ℕ) (b : BlockRead n s at k) (w : List ℕ) → w ≡ take (at + headSize + k - (at + headSize)) (drop (at + headSize) s) → w ≡ b .block .value .word

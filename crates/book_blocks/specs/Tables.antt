@@ -4,9 +4,11 @@ use Prim.Native.Nat.{ℕ, _+_}
 use mathlib.Core.List.{List, [], _∷_}
 use lib.ListN.{length}
 use Rattle.refusal.specs.Answer.{Answer, given, refused}
+use Rattle.nameset.specs.declared.NameSet.{NameSet}
 use Rattle.book.specs.Field.{Field}
 use Rattle.book.specs.Book.{Block}
 use Rattle.book.specs.Bytes.{headSize}
+use Rattle.book_unused.specs.Unused.{withoutBlocks}
 use Rattle.book_blocks.specs.declared.BlockStep.{BlockStep}
 use Rattle.book_blocks.specs.declared.BlockStep.the-variants.{Block as BlockIs, Stopped as BlockStopped}
 use Rattle.book_blocks.specs.declared.BlocksEnd.{BlocksEnd}
@@ -22,6 +24,7 @@ unfoldable pub behindBlocks : ℕ → List Block → ℕ
 behindBlocks at [] = at
 behindBlocks at (b ∷ bs) = behindBlocks (at + headSize + length (b .word)) bs
 
-unfoldable pub blocksEnd : ℕ → Answer (Field (List Block)) → BlocksEnd
-blocksEnd at (given blocks) = End (behindBlocks at (blocks .value))
-blocksEnd at (refused r) = BlocksStopped r
+-- where such blocks end, and what is left of a set without the names that they use
+unfoldable pub blocksEnd : ℕ → NameSet → Answer (Field (List Block)) → BlocksEnd
+blocksEnd at set (given blocks) = End (behindBlocks at (blocks .value)) (withoutBlocks set (blocks .value))
+blocksEnd at set (refused r) = BlocksStopped r

@@ -5,10 +5,14 @@ use book::TEXT_AT;
 use book_bytes::all_below;
 use book_bytes::part;
 use book_bytes::wide;
+use book_unused::without_block;
+use nameset::NameSet;
 use refusal::Refusal;
 ghost use mathlib.Core.Path.{_≡_};
-ghost use Prim.Native.Nat.{_+_, _≤_};
+ghost use Prim.Native.Nat.{_+_, _≤_, _<_};
 ghost use lib.ListN.{length, drop};
+ghost use Rattle.nameset.specs.Places.{places};
+ghost use Rattle.nameset.specs.Set.{empty, below};
 ghost use Rattle.book.specs.Book.{longestBook, blockOf, blocksOf};
 ghost use Rattle.book_blocks.specs.Tables.{blockStep, blocksEnd};
 
@@ -18,9 +22,9 @@ pub enum BlockStep {
     Stopped(Refusal),
 }
 
-// Where the last block ends, or why the call stops.
+// Where the last block ends, and the names that no block uses; or why the call stops.
 pub enum BlocksEnd {
-    End(usize),
+    End(usize, NameSet),
     Stopped(Refusal),
 }
 
@@ -58,14 +62,14 @@ pub fn block_at(bytes: &[u8], n: usize, at: usize) -> BlockStep
     }
 }
 
-// The m blocks from a place on.
-pub fn read_blocks(bytes: &[u8], n: usize, m: usize, from: usize) -> BlocksEnd
+// The m blocks from a place on, where the blocks before them use all names.
+fn read_rest(bytes: &[u8], n: usize, m: usize, from: usize) -> BlocksEnd
     requires { ⌜ (from ≤ length (now bytes)) × (length (now bytes) ≤ longestBook) ⌝ }
-    ensures { λ r. ⌜ r ≡ blocksEnd from (blocksOf n m (drop from (now (bytes .entry)))) ⌝ }
+    ensures { λ r. ⌜ r ≡ blocksEnd from empty (blocksOf n m (drop from (now (bytes .entry)))) ⌝ }
 {
-    let mut left = m;
+    let mut more = m;
     let mut at = from;
-    while 0 < left {
+    while 0 < more {
         match block_at(bytes, n, at) {
             BlockStep::Block(size) => {
                 at = at + HEAD_SIZE + size;
@@ -74,7 +78,34 @@ pub fn read_blocks(bytes: &[u8], n: usize, m: usize, from: usize) -> BlocksEnd
                 return BlocksEnd::Stopped(refusal);
             }
         }
-        left -= 1;
+        more -= 1;
     }
-    BlocksEnd::End(at)
+    BlocksEnd::End(at, NameSet::empty())
+}
+
+// The m blocks from a place on, over n names, and which of the names they do not use. Once all are used, a loop without
+// the set goes on: in most books after a few blocks.
+pub fn read_blocks(bytes: &[u8], n: usize, m: usize, from: usize) -> BlocksEnd
+    requires { ⌜ (from ≤ length (now bytes)) × (length (now bytes) ≤ longestBook) × (0 < n) × (n ≤ places) ⌝ }
+    ensures { λ r. ⌜ r ≡ blocksEnd from (below n) (blocksOf n m (drop from (now (bytes .entry)))) ⌝ }
+{
+    let mut left = m;
+    let mut at = from;
+    let mut unused = NameSet::below(n);
+    while 0 < left {
+        match block_at(bytes, n, at) {
+            BlockStep::Block(size) => {
+                unused = without_block(unused, bytes, at, size);
+                at = at + HEAD_SIZE + size;
+            }
+            BlockStep::Stopped(refusal) => {
+                return BlocksEnd::Stopped(refusal);
+            }
+        }
+        left -= 1;
+        if unused.is_empty() {
+            return read_rest(bytes, n, left, at);
+        }
+    }
+    BlocksEnd::End(at, unused)
 }

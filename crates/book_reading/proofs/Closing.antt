@@ -2,7 +2,7 @@
 -- Assumes nothing.
 use Prim.Native.Nat.{ℕ, _+_, _-_, _≤_, _<_}
 use mathlib.Core.Path.{_≡_, refl, sym, _∙_, ap, subst}
-use mathlib.Core.Bool.{Bool, true, false, cond}
+use mathlib.Core.Bool.{Bool, true, false, not, cond}
 use mathlib.Core.List.{List, []}
 use native.Mathlib.Omega.{arith}
 use native.Mathlib.Decide.{decLt}
@@ -11,21 +11,27 @@ use lib.ListN.{length, drop, length-drop}
 use lib.Seq.{drop-drop}
 use borrow.Author.Tests.{lt-ltb, le-ltb, ltb-false}
 use Rattle.refusal.specs.declared.Refusal.{Refusal}
-use Rattle.refusal.specs.declared.Refusal.the-variants.{BookTooLong, BytesLeftOver}
+use Rattle.refusal.specs.declared.Refusal.the-variants.{BookTooLong, BytesLeftOver, UnusedName}
 use Rattle.refusal.specs.declared.Outcome.the-variants.{Done, Refused}
 use Rattle.refusal.specs.Answer.{Answer, given, refused, onward, refuseIf, valueOr}
 use Rattle.refusal.proofs.Laws.{refused-alike, Done≢Refused}
 use Rattle.refusal.proofs.Answers.{onward-given, check-given, given-same}
+use Rattle.nameset.specs.declared.NameSet.{NameSet}
 use Rattle.nameset.specs.Places.{places}
+use Rattle.nameset.specs.Set.{below, isEmpty}
 use Rattle.nameset.proofs.Count.{count-bounds}
 use Rattle.book.specs.declared.Layout.{Layout}
 use Rattle.book.specs.declared.Reading.{Reading}
 use Rattle.book.specs.Field.{Field, countSize, countOf}
 use Rattle.book.specs.Book.{Block, Book, longestBook, nameSection, blocksOf, blockSection, bookOf}
 use Rattle.book.specs.Layout.{offsetTable, endFrom, layoutOf, noReading, readingOf}
+use Rattle.book.specs.Used.{someUnused, hasUnused}
 use Rattle.book.specs.Taken.{checkedBook, takenBook}
 use Rattle.book.proofs.Told.{blocks-told}
+use Rattle.book.proofs.Taken.{checked-given}
 use Rattle.book.proofs.Sections.{name-section-told, count-told, behind-names}
+use Rattle.book_unused.specs.Unused.{withoutBlocks}
+use Rattle.book_unused.proofs.Laws.{all-taken-out}
 use Rattle.book_blocks.specs.declared.BlocksEnd.{BlocksEnd}
 use Rattle.book_blocks.specs.declared.BlocksEnd.the-variants.{End}
 use Rattle.book_blocks.specs.Tables.{behindBlocks, blocksEnd}
@@ -36,20 +42,15 @@ use Rattle.book_reading.specs.Opening.{Head, headOf, bodyOf, blocksRead,
 
 -- ---- the head, then the body
 
-all-taken : (s : List ℕ) → bookOf s ≡ takenBook s
-unfolding takenBook checkedBook
-all-taken s = go (bookOf s)
-  where
-    go : (a : Answer Book) → a ≡ onward a (λ b. given b)
-    go (given b) = refl
-    go (refused f) = refl
-
 -- the parts of both, by name
 abbrev headed : List (List ℕ) → Field ℕ → Answer Head
 headed names m = given (record { names = names; count = m .value; rest = m .rest })
 
 abbrev whole : List (List ℕ) → List Block → Answer Book
 whole names blocks = given (record { names = names; blocks = blocks })
+
+abbrev checked : List (List ℕ) → List Block → Answer Book
+checked names blocks = checkedBook (record { names = names; blocks = blocks })
 
 abbrev ended : {A : Type 0} → Field (List Block) → (List Block → Answer A) → Answer A
 ended blocks next = refuseIf (ltb 0 (length (blocks .rest))) BytesLeftOver (next (blocks .value))
@@ -61,37 +62,35 @@ abbrev sectioned : Field (List (List ℕ)) → Answer Book
 sectioned names = onward (blockSection (length (names .value)) (names .rest)) (whole (names .value))
 
 by-end : (names : List (List ℕ)) (a : Answer (Field (List Block))) →
-    onward a (λ blocks. ended blocks (whole names)) ≡ onward (onward a (λ blocks. ended blocks given)) (whole names)
+    onward a (λ blocks. ended blocks (checked names)) ≡ onward (onward (onward a (λ blocks. ended blocks given)) (whole names)) checkedBook
 by-end names (refused r) = refl
 by-end names (given blocks) = go (ltb 0 (length (blocks .rest)))
   where
-    go : (left : Bool) → refuseIf left BytesLeftOver (whole names (blocks .value)) ≡ onward (refuseIf left BytesLeftOver (given (blocks .value))) (whole names)
+    go : (left : Bool) →
+        refuseIf left BytesLeftOver (checked names (blocks .value)) ≡ onward (onward (refuseIf left BytesLeftOver (given (blocks .value))) (whole names)) checkedBook
     go true = refl
     go false = refl
 
-by-count : (names : Field (List (List ℕ))) → onward (named names) bodyOf ≡ sectioned names
+by-count : (names : Field (List (List ℕ))) → onward (named names) bodyOf ≡ onward (sectioned names) checkedBook
 unfolding bodyOf blockSection
 by-count names = go (countOf (names .rest))
   where
     go : (a : Answer (Field ℕ)) → onward (onward a (headed (names .value))) bodyOf
-        ≡ onward (onward a (λ m. onward (blocksOf (length (names .value)) (m .value) (m .rest)) (λ blocks. ended blocks given))) (whole (names .value))
+        ≡ onward (onward (onward a (λ m. onward (blocksOf (length (names .value)) (m .value) (m .rest)) (λ blocks. ended blocks given))) (whole (names .value))) checkedBook
     go (refused r) = refl
     go (given m) = by-end (names .value) (blocksOf (length (names .value)) (m .value) (m .rest))
 
-by-head : (s : List ℕ) → onward (headOf s) bodyOf ≡ bookOf s
-unfolding headOf bookOf
-by-head s = long (ltb longestBook (length s))
+pub taken-by-head : (s : List ℕ) → onward (headOf s) bodyOf ≡ takenBook s
+unfolding headOf bookOf takenBook
+taken-by-head s = long (ltb longestBook (length s))
   where
-    names-first : (a : Answer (Field (List (List ℕ)))) → onward (onward a named) bodyOf ≡ onward a sectioned
+    names-first : (a : Answer (Field (List (List ℕ)))) → onward (onward a named) bodyOf ≡ onward (onward a sectioned) checkedBook
     names-first (refused r) = refl
     names-first (given names) = by-count names
 
-    long : (t : Bool) → onward (refuseIf t BookTooLong (onward (nameSection s) named)) bodyOf ≡ refuseIf t BookTooLong (onward (nameSection s) sectioned)
+    long : (t : Bool) → onward (refuseIf t BookTooLong (onward (nameSection s) named)) bodyOf ≡ onward (refuseIf t BookTooLong (onward (nameSection s) sectioned)) checkedBook
     long true = refl
     long false = names-first (nameSection s)
-
-pub taken-by-head : (s : List ℕ) → onward (headOf s) bodyOf ≡ takenBook s
-taken-by-head s = by-head s ∙ all-taken s
 
 -- ---- a head that was read
 
@@ -141,15 +140,17 @@ opening-refused (refused g) r f e o = ap refused (refused-alike g f (sym (ap (λ
 
 -- ---- the end
 
--- what is left of the bytes decides whether the book ends well
-closed : (s : List ℕ) (l : Layout) (names : List (List ℕ)) (blocks : Field (List Block)) (at : ℕ) → l ≡ layoutOf (record { names = names; blocks = blocks .value }) →
-    length (blocks .rest) ≡ length s - at → closing (length s) l (End at) ≡ readingOf (ended blocks (whole names))
-unfolding closing readingOf
-closed s l names blocks at el er = go (decLt at (length s))
+-- what is left of the bytes, and of the names, decides whether the book ends well
+closed : (s : List ℕ) (l : Layout) (b : Book) (blocks : Field (List Block)) (at : ℕ) (unused : NameSet) → blocks .value ≡ b .blocks → l ≡ layoutOf b →
+    length (blocks .rest) ≡ length s - at → isEmpty unused ≡ not (hasUnused b) → closing (length s) l (End at unused) ≡ readingOf (ended blocks (checked (b .names)))
+unfolding closing readingOf checkedBook
+closed s l b blocks at unused eb el er eu = go (decLt at (length s)) (hasUnused b) refl
   where
-    go : Dec (at < length s) → cond (ltb at (length s)) (noReading BytesLeftOver) (record { outcome = Done; layout = l }) ≡ readingOf (ended blocks (whole names))
-    go (yes h) = rw (lt-ltb at (length s) h, lt-ltb 0 (length (blocks .rest)) (omega arith))
-    go (no h) = rw (le-ltb at (length s) (omega arith), le-ltb 0 (length (blocks .rest)) (omega arith), el)
+    go : Dec (at < length s) → (t : Bool) → hasUnused b ≡ t →
+        cond (ltb at (length s)) (noReading BytesLeftOver) (cond (isEmpty unused) (record { outcome = Done; layout = l }) (noReading UnusedName)) ≡ readingOf (ended blocks (checked (b .names)))
+    go (yes h) t q = rw (lt-ltb at (length s) h, lt-ltb 0 (length (blocks .rest)) (omega arith))
+    go (no h) true q = rw (le-ltb at (length s) (omega arith), le-ltb 0 (length (blocks .rest)) (omega arith), eb, eu, q)
+    go (no h) false q = rw (le-ltb at (length s) (omega arith), le-ltb 0 (length (blocks .rest)) (omega arith), eb, eu, q, el)
 
 same-layout : (h : Head) (bs : List Block) → length bs ≡ h .count → headLayout h ≡ layoutOf (record { names = h .names; blocks = bs })
 unfolding headLayout layoutOf
@@ -207,6 +208,9 @@ module _ (s : List ℕ) (r : Reading) (opened : r ≡ openingOf (headOf s)) wher
     pub within : r .layout .body ≤ length s
     within = rw body-is (told .fits)
 
+    pub some : 0 < r .layout .names
+    some = rw names-are (told .some)
+
     pub few : r .layout .names ≤ places
     few = rw names-are (told .few)
 
@@ -226,22 +230,24 @@ module _ (s : List ℕ) (r : Reading) (opened : r ≡ openingOf (headOf s)) wher
     gathered-all K t u k g = subst (λ (bs : List Block). K bs u) all-read (g [] k)
 
     closes : (a : Answer (Field (List Block))) → blocksOf (length (head .names)) (head .count) (head .rest) ≡ a →
-        closing (length s) (r .layout) (blocksEnd (r .layout .body) a) ≡ readingOf (onward a (λ blocks. ended blocks (whole (head .names))))
-    unfolding closing blocksEnd readingOf
+        closing (length s) (r .layout) (blocksEnd (r .layout .body) (below (r .layout .names)) a) ≡ readingOf (onward a (λ blocks. ended blocks (checked (head .names))))
+    unfolding closing blocksEnd readingOf hasUnused
     closes (refused f) e = refl
     closes (given blocks) e =
         let t = blocks-told (length (head .names)) (head .count) (head .rest) blocks e in
         let behind : drop (behindBlocks (r .layout .body) (blocks .value)) s ≡ blocks .rest =
         behind-blocks s (r .layout .body) (blocks .value) (blocks .rest) (ap (λ (k : ℕ). drop k s) body-is ∙ told .rest ∙ t .bytes) in
-        closed s (r .layout) (head .names) blocks (behindBlocks (r .layout .body) (blocks .value)) (layout-is ∙ same-layout head (blocks .value) (t .many))
+        closed s (r .layout) (record { names = head .names; blocks = blocks .value }) blocks (behindBlocks (r .layout .body) (blocks .value))
+        (withoutBlocks (below (r .layout .names)) (blocks .value)) refl (layout-is ∙ same-layout head (blocks .value) (t .many))
         (ap length (sym behind) ∙ length-drop (behindBlocks (r .layout .body) (blocks .value)) s)
+        (all-taken-out (r .layout .names) (blocks .value) few ∙ ap (λ (n : ℕ). not (someUnused n (blocks .value))) names-are)
 
     -- A book is taken as the last step says.
-    pub closed-book : (end : BlocksEnd) → end ≡ blocksEnd (r .layout .body) (blocksOf (r .layout .names) (r .layout .blocks) (drop (r .layout .body) s)) →
+    pub closed-book : (end : BlocksEnd) → end ≡ blocksEnd (r .layout .body) (below (r .layout .names)) (blocksOf (r .layout .names) (r .layout .blocks) (drop (r .layout .body) s)) →
         closing (length s) (r .layout) end ≡ readingOf (takenBook s)
     unfolding bodyOf
     closed-book end e =
-        ap (closing (length s) (r .layout)) (e ∙ ap (blocksEnd (r .layout .body)) due)
+        ap (closing (length s) (r .layout)) (e ∙ ap (blocksEnd (r .layout .body) (below (r .layout .names))) due)
         ∙ closes (blocksOf (length (head .names)) (head .count) (head .rest)) refl
         ∙ ap readingOf (sym (ap (λ (a : Answer Head). onward a bodyOf) read) ∙ taken-by-head s)
 
@@ -255,4 +261,4 @@ taken-blocks s b e = headed (onward-given (headOf s) bodyOf b (taken-by-head s �
     headed (h, p, q) =
         let o = onward-given (blocksOf (length (h .names)) (h .count) (h .rest)) _ b q in
         let c = check-given (ltb 0 (length (o .0 .rest))) BytesLeftOver _ b (o .2) in
-        rw p (from-all (length (h .names)) (h .count) (h .rest) (o .0) (o .1)) ∙ ap (λ (x : Book). x .blocks) (given-same _ b (c .1))
+        rw p (from-all (length (h .names)) (h .count) (h .rest) (o .0) (o .1)) ∙ ap (λ (x : Book). x .blocks) (checked-given _ b (c .1) .1)

@@ -7,14 +7,16 @@ use mathlib.Core.Bool.{cond}
 use mathlib.Core.List.{List, []}
 use lib.Dec.{ltb}
 use lib.ListN.{length}
-use Rattle.refusal.specs.declared.Refusal.the-variants.{BookTooLong, BytesLeftOver}
+use Rattle.refusal.specs.declared.Refusal.the-variants.{BookTooLong, BytesLeftOver, UnusedName}
 use Rattle.refusal.specs.declared.Outcome.the-variants.{Done}
 use Rattle.refusal.specs.Answer.{Answer, given, refused, onward, refuseIf, valueOr}
+use Rattle.nameset.specs.Set.{isEmpty}
 use Rattle.book.specs.declared.Layout.{Layout}
 use Rattle.book.specs.declared.Reading.{Reading}
 use Rattle.book.specs.Field.{countSize, countOf}
 use Rattle.book.specs.Book.{Block, Book, longestBook, nameSection, blocksOf}
 use Rattle.book.specs.Layout.{offsetTable, endFrom, noReading}
+use Rattle.book.specs.Taken.{checkedBook}
 use Rattle.book_blocks.specs.declared.BlocksEnd.{BlocksEnd}
 use Rattle.book_blocks.specs.declared.BlocksEnd.the-variants.{End, Stopped}
 use Rattle.book_blocks.specs.Gathers.{blocksFrom}
@@ -33,12 +35,12 @@ headOf bytes =
     onward (countOf (names .rest)) (λ m.
     given (record { names = names .value; count = m .value; rest = m .rest }))))
 
--- The blocks behind a head, then the book's end; "7: bytes left over".
+-- The blocks behind a head, then the book's end ("7: bytes left over"), then what is checked of a whole book (17).
 unfoldable pub bodyOf : Head → Answer Book
 bodyOf h =
     onward (blocksOf (length (h .names)) (h .count) (h .rest)) (λ blocks.
     refuseIf (ltb 0 (length (blocks .rest))) BytesLeftOver
-    (given (record { names = h .names; blocks = blocks .value })))
+    (checkedBook (record { names = h .names; blocks = blocks .value })))
 
 -- The blocks that are read of these bytes before the call stops: all blocks of a book that is not refused
 -- (`taken-blocks` in proofs/Closing.antt), and of one that is refused those before the fault.
@@ -62,5 +64,7 @@ openingOf (refused r) = noReading r
 
 -- The answer to the last step, for a book of so many bytes with this layout, whose blocks ended so.
 unfoldable pub closing : ℕ → Layout → BlocksEnd → Reading
-closing size layout (End at) = cond (ltb at size) (noReading BytesLeftOver) (record { outcome = Done; layout = layout })
+closing size layout (End at unused) =
+    cond (ltb at size) (noReading BytesLeftOver)
+    (cond (isEmpty unused) (record { outcome = Done; layout = layout }) (noReading UnusedName))
 closing size layout (Stopped r) = noReading r

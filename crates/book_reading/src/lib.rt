@@ -61,19 +61,22 @@ pub fn open_book(bytes: &[u8]) -> Reading
     }
 }
 
-// The end of a book whose blocks were read: one of them was refused, bytes are left over, or all is well.
+// The end of a book whose blocks were read: one of them was refused, bytes are left over, a name is unused, or all is
+// well.
 pub fn close_book(bytes: &[u8], layout: Layout, blocks: BlocksEnd) -> Reading
     ensures { λ r. ⌜ r ≡ closing (length (now (bytes .entry))) layout blocks ⌝ }
 {
     match blocks {
-        BlocksEnd::End(at) => {
+        BlocksEnd::End(at, unused) => {
             if at < bytes.len() {
                 refused(Refusal::BytesLeftOver)
-            } else {
+            } else if unused.is_empty() {
                 Reading {
                     outcome: Outcome::Done,
                     layout,
                 }
+            } else {
+                refused(Refusal::UnusedName)
             }
         }
         BlocksEnd::Stopped(refusal) => refused(refusal),
@@ -81,7 +84,7 @@ pub fn close_book(bytes: &[u8], layout: Layout, blocks: BlocksEnd) -> Reading
 }
 
 // The book as every call takes it, of any bytes whatever: read from its first byte to its last, then checked as a whole.
-// All that there is to check is checked while it is read.
+// What that check needs is gathered while the blocks are read.
 pub fn take_book(bytes: &[u8]) -> Reading
     ensures { λ r. ⌜ r ≡ readingOf (takenBook (now (bytes .entry))) ⌝ }
 {

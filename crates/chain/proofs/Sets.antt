@@ -13,7 +13,7 @@ use Rattle.nameset.specs.declared.NameSet.{NameSet}
 use Rattle.nameset.specs.Set.{member}
 use Rattle.nameset.specs.Rows.{IsRows, rowAt}
 use Rattle.nameset.specs.Promise.{Emptiness}
-use Rattle.model.proofs.Tests.{same-test}
+use Rattle.nameset.proofs.Tests.{same-test}
 use Rattle.follow.specs.View.{viewOf}
 use Rattle.follow.specs.declared.Facts.{Facts}
 use Rattle.chain_levels.specs.Below.{anyBelow, countBelow}

@@ -15,7 +15,7 @@ use Rattle.nameset.specs.Rows.{IsRows}
 use Rattle.model.specs.declared.Chain.{Chain}
 use Rattle.model.specs.Record.{emptyChain}
 use Rattle.model.specs.Build.{withFactor}
-use Rattle.model.proofs.Tests.{same-test}
+use Rattle.nameset.proofs.Tests.{same-test}
 use Rattle.follow.specs.Follow.{Follow}
 use Rattle.follow.specs.View.{viewOf}
 use Rattle.follow.specs.declared.Facts.{Facts}

@@ -16,7 +16,7 @@ use Rattle.nameset.specs.Set.{member, minus}
 use Rattle.nameset.specs.Rows.{IsRows, HasRow, rowAt, putRow}
 use Rattle.nameset.proofs.Laws.{member-minus}
 use Rattle.nameset.proofs.Rows.{length-put}
-use Rattle.model.proofs.Tests.{same-test}
+use Rattle.nameset.proofs.Tests.{same-test}
 use Rattle.chain_levels.specs.Below.{anyBelow, countBelow}
 use Rattle.chain_levels.proofs.Tests.{some-is, both-ways, refuted, and-is, not-is}
 use Rattle.chain_levels.proofs.Below.{count-lt}

@@ -6,10 +6,10 @@ use mathlib.Core.Bool.{Bool, true, false, _&&_, _||_, not, true≢false, false�
 use mathlib.Core.Logic.{_⊎_, inl, inr, ⊎-elim, _↔_}
 use borrow.Author.Tests.{eqb-true, eq-eqb, ltb-true, lt-ltb}
 use lib.Dec.{ltb, eqb}
-use Rattle.model.specs.Check.{anyBelow}
-use Rattle.model.proofs.Tests.{both, and-left, and-right, same-test}
+use Rattle.nameset.specs.Tests.{anyBelow}
+use Rattle.nameset.proofs.Tests.{both, and-left, and-right, same-test}
 -- a search finds a number exactly when there is one
-pub use Rattle.model.proofs.Tests.{any-law as some-is}
+pub use Rattle.nameset.proofs.Tests.{any-law as some-is}
 
 pub and-is : (a b : Bool) → ((a && b) ≡ true) ↔ ((a ≡ true) × (b ≡ true))
 and-is a b = (λ e. (and-left a b e, and-right a b e), λ p. both a b (p .0) (p .1))

@@ -3,7 +3,7 @@
 use Prim.Native.Nat.{ℕ, zero, suc, _+_, max}
 use mathlib.Core.Bool.{Bool, cond}
 -- `anyBelow n test`: some number below n passes the test.
-unfoldable pub use Rattle.model.specs.Check.{anyBelow}
+unfoldable pub use Rattle.nameset.specs.Tests.{anyBelow}
 
 -- How many numbers below n pass the test.
 unfoldable pub countBelow : ℕ → (ℕ → Bool) → ℕ

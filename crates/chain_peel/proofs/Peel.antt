@@ -7,7 +7,7 @@ use mathlib.Core.Logic.{_⊎_, inl, inr, ⊎-elim, _↔_}
 use native.Mathlib.Omega.{arith}
 use native.Mathlib.Decide.{ℕ-discrete, decLt}
 use lib.Dec.{ltb, eqb}
-use Rattle.model.proofs.Tests.{same-test}
+use Rattle.nameset.proofs.Tests.{same-test}
 use Rattle.follow.specs.Follow.{Follow}
 use Rattle.chain_levels.specs.Reach.{reaches, loops, occurs, leads, isSingle}
 use Rattle.chain_levels.specs.Rank.{isBefore, levelOf, lastLevel}

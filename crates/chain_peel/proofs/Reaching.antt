@@ -3,7 +3,7 @@
 use Prim.Native.Nat.{ℕ, _<_}
 use mathlib.Core.Path.{_≡_}
 use mathlib.Core.Bool.{true}
-use Rattle.model.proofs.Tests.{same-test}
+use Rattle.nameset.proofs.Tests.{same-test}
 use Rattle.model_language.specs.Word.{start, name}
 use Rattle.follow.specs.Follow.{Follow}
 use Rattle.chain_levels.specs.Reach.{edge, reaches, occurs}

@@ -14,7 +14,7 @@ use Rattle.nameset.specs.declared.NameSet.{NameSet}
 use Rattle.nameset.specs.Set.{member}
 use Rattle.nameset.specs.Rows.{rowAt, putRow, noRows}
 use Rattle.nameset.proofs.Rows.{length-put, no-rows}
-use Rattle.model.proofs.Tests.{same-test}
+use Rattle.nameset.proofs.Tests.{same-test}
 use Rattle.model_language.specs.Reach.{Reach, one, more}
 use Rattle.follow.specs.Follow.{Follow, steps}
 use Rattle.chain_levels.specs.Below.{countBelow}

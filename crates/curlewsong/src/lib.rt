@@ -93,7 +93,7 @@ fn length_of(answer: Written) -> LengthReply
     }
 }
 
-// The model of a parent from its blocks: 1 to 7, 16, 8, 9.
+// The model of a parent from its blocks: 1 to 7, 16, 17, 8, 9.
 #[no_mangle]
 pub extern "C" fn curlewsong_model_of_parent(book: &[u8], parent: usize) -> ModelReply
     ensures { λ r. ⌜ RepliesModel (now (book .entry)) parent r ⌝ }
@@ -128,7 +128,7 @@ pub extern "C" fn curlewsong_within(
     inclusion_of(intake::within(names, first, second, word))
 }
 
-// Writes the declaration of a parent with a model: 1 to 7, 16, 8, 10, 12.
+// Writes the declaration of a parent with a model: 1 to 7, 16, 17, 8, 10, 12.
 #[no_mangle]
 pub extern "C" fn curlewsong_write_declaration(
     book: &[u8],
@@ -141,7 +141,7 @@ pub extern "C" fn curlewsong_write_declaration(
     length_of(intake::write_declaration(book, parent, model, buffer))
 }
 
-// Writes the declaration of a parent with the model from its blocks: 1 to 7, 16, 8, 9, 12.
+// Writes the declaration of a parent with the model from its blocks: 1 to 7, 16, 17, 8, 9, 12.
 #[no_mangle]
 pub extern "C" fn curlewsong_write_from_sample(
     book: &[u8],
@@ -153,7 +153,7 @@ pub extern "C" fn curlewsong_write_from_sample(
     length_of(intake::write_from_sample(book, parent, buffer))
 }
 
-// Writes the declarations of all parents with a block: 1 to 7, 16, 12.
+// Writes the declarations of all parents with a block: 1 to 7, 16, 17, 12.
 #[no_mangle]
 pub extern "C" fn curlewsong_write_dtd(book: &[u8], buffer: &mut [u8]) -> LengthReply
     ensures { λ r. ⌜ RepliesDtd (now (book .entry)) r (now (buffer .entry)) (now (buffer .exit)) ⌝ }
@@ -161,7 +161,7 @@ pub extern "C" fn curlewsong_write_dtd(book: &[u8], buffer: &mut [u8]) -> Length
     length_of(intake::write_dtd(book, buffer))
 }
 
-// Reads a declaration: 1 to 7, 16, 13, 14, 15.
+// Reads a declaration: 1 to 7, 16, 17, 13, 14, 15.
 #[no_mangle]
 pub extern "C" fn curlewsong_read_declaration(book: &[u8], text: &[u8]) -> TextReply
     ensures { λ r. ⌜ RepliesText (now (book .entry)) (now (text .entry)) r ⌝ }

@@ -17,7 +17,7 @@ use Rattle.refusal.proofs.Answers.{outcome-refused, outcome-given}
 use Rattle.nameset.specs.Places.{places}
 use Rattle.book.specs.Book.{Book}
 use Rattle.book.specs.Taken.{takenBook, TakenAs}
-use Rattle.book.proofs.Taken.{taken-law, good-parent}
+use Rattle.book.proofs.Taken.{is-book, good-parent}
 use Rattle.book.proofs.Onward.{book-given, book-later, book-first, book-or-later}
 use Rattle.model.specs.declared.Model.{Model}
 use Rattle.model.specs.Record.{IsModel, emptyModel}
@@ -57,7 +57,7 @@ module _ (s text : List ℕ) where
   Of C = (b : Book) × TakenAs s b × C (b .names)
 
   good : (b : Book) → TakenAs s b → GoodNames places (b .names)
-  good b q = good-names s b (taken-law s b .0 q)
+  good b q = good-names s b (is-book s b q)
 
   by-book : (f : Refusal) → ofBook f ≡ false → (C : List (List ℕ) → Type 0) → ((names : List (List ℕ)) → GoodNames places names → (textAnswer places names text ≡ refused f) ↔ C names)
       → (readAnswer s text ≡ refused f) ↔ Of C
@@ -66,7 +66,7 @@ module _ (s text : List ℕ) where
       let h = book-later s next f l in
       (λ e. let (b, q, g) = h .0 e in (b, q, law (b .names) (good b q) .0 g), λ (b, q, c). h .1 (b, q, law (b .names) (good b q) .1 c))
 
-  -- 1 to 7, 16: the bytes are not taken, for this reason.
+  -- 1 to 7, 16, 17: the bytes are not taken, for this reason.
   pub text-book-refused : (f : Refusal) → ofBook f ≡ true → (readAnswer s text ≡ refused f) ↔ (takenBook s ≡ refused f)
   unfolding readAnswer next
   text-book-refused f l = book-first s next f l (λ b q e. text-late f (Text.refused-only places (b .names) (good b q) text f e))
@@ -91,7 +91,7 @@ module _ (s text : List ℕ) where
       by-book NameTwice refl (λ names. (d : Form) × HasForm text d × ((x : List ℕ) → List·Memᴰ x (formNames d) → List·Memᴰ x names) × Twice (modelNames (d .factors)))
       (λ names G. Text.refused-15 places names G text)
 
-  -- No refusal but 1 to 7, 16, 13, 14 and 15 is given.
+  -- No refusal but 1 to 7, 16, 17, 13, 14 and 15 is given.
   pub refused-only : (f : Refusal) → readAnswer s text ≡ refused f → (ofBook f ≡ true) ⊎ OfText f
   unfolding readAnswer next
   refused-only f e = ⊎-elim inl (λ (b, q, h). inr (Text.refused-only places (b .names) (good b q) text f h)) (book-or-later s next f e)
@@ -103,7 +103,7 @@ written-for : (s : List ℕ) (b : Book) → TakenAs s b → (p : ℕ) (m : Model
     writeAnswer s p m room ≡ given (declaration (b .names) p m)
 unfolding writeAnswer writeIn fitted
 written-for s b q p m room l c h =
-    let k = declaration-short s b (taken-law s b .0 q) p m l c in
+    let k = declaration-short s b (is-book s b q) p m l c in
     rw (q, good-parent b p .1 l, model-law places (length (b .names)) m .1 c, le-ltb room (length (declaration (b .names) p m)) (omega arith))
 
 module _ (s text : List ℕ) (r : Declaration) (call : ReadsDeclaration s text r) where

@@ -1,5 +1,5 @@
--- A means: what the call that reads a declaration answers: 1 to 7, 16, then 13, 14, 15, in this order, else the parent
--- and the record. `read-refusals` and `read-exactly` in crates/demands/proofs/Demands.antt say what that is. To be
+-- A means: what the call that reads a declaration answers: 1 to 7, 16, 17, then 13, 14, 15, in this order, else the
+-- parent and the record. `read-refusals` and `read-exactly` in crates/demands/proofs/Demands.antt say what that is. To be
 -- believed is `Reads`.
 -- Assumes nothing.
 use Prim.Native.Nat.{ℕ}

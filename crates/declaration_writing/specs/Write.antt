@@ -1,5 +1,5 @@
--- A means: what the call that writes a declaration answers: 1 to 7, 16, 8, 10, 12, in this order, else the declaration.
--- `write-refusals`, `write-kept` and `write-done` in crates/demands/proofs/Demands.antt say what that is.
+-- A means: what the call that writes a declaration answers: 1 to 7, 16, 17, 8, 10, 12, in this order, else the
+-- declaration. `write-refusals`, `write-kept` and `write-done` in crates/demands/proofs/Demands.antt say what that is.
 -- Assumes nothing.
 use Prim.Native.Nat.{ℕ}
 use mathlib.Core.Path.{_≡_}
@@ -31,7 +31,7 @@ writeIn b parent m room =
     (fitted room (declaration (b .names) parent m)))
 
 -- The text that is due for any bytes as the book, any parent, any record, and a buffer of so many bytes: 1 to 7, 16,
--- then those.
+-- 17, then those.
 unfoldable pub writeAnswer : List ℕ → ℕ → Model → ℕ → Answer (List ℕ)
 writeAnswer bytes parent m room = onward (takenBook bytes) (λ b. writeIn b parent m room)
 

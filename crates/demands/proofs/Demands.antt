@@ -1,6 +1,6 @@
 -- The three demands, over the seven calls open to the outside, the same calls for C, and the program; then requests U2,
--- U4 and U5 of paper 02. Each statement begins with `pub`; what follows, from `unfolding` or the repeated name on, is
--- its proof: skip it. Quotes are from the demands, which call paper 01 "document 01", and from the papers.
+-- U4, U5 and U6 of paper 02. Each statement begins with `pub`; what follows, from `unfolding` or the repeated name on,
+-- is its proof: skip it. Quotes are from the demands, which call paper 01 "document 01", and from the papers.
 -- In a quarter of an hour: `no-better-model` with specs/Results, the names that end in `-refusals` with
 -- specs/Conditions, those that end in `-kept`, then demand 2. The part for C repeats them for replies in C.
 -- A theorem about an answer assumes one thing of it, `call`: the answer is as the call's contract (`ensures`) promises.
@@ -12,7 +12,7 @@ use Prim.Native.Nat.{ℕ, _≤_, _<_}
 use mathlib.Core.Path.{_≡_, refl, sym, _∙_, ap, ap₂, subst}
 use mathlib.Core.Bool.{Bool, true, false}
 use mathlib.Core.List.{List, [], _∷_, _++_, List·Memᴰ, map}
-use mathlib.Core.Logic.{_↔_}
+use mathlib.Core.Logic.{_↔_, _⊎_}
 use native.Mathlib.Omega.{arith}
 use lib.ListN.{length, take}
 use Rattle.refusal.specs.Answer.{given, valueOr, outcomeNumber}
@@ -21,10 +21,13 @@ use Rattle.refusal.proofs.Answers.{outcome-refused}
 use Rattle.nameset.specs.Places.{places}
 use Rattle.book.specs.Field.{Field}
 use Rattle.book.specs.Book.{Block, Book, IsBook}
+use Rattle.book.specs.Used.{Used, AllUsed, Unused}
 use Rattle.book.specs.Taken.{takenBook, TakenAs}
 use Rattle.book.specs.Stops.{BlocksBelow, Whole}
 use Rattle.book.proofs.Stops.{book-whole}
-use Rattle.book.proofs.Taken.{taken-law}
+use Rattle.book.proofs.Laws.{book-told}
+use Rattle.book.proofs.Used.{no-block-unused, used-or-unused}
+use Rattle.book.proofs.Taken.{taken-law, is-book}
 use Rattle.book_blocks.specs.Gathers.{Gathers}
 use Rattle.book_reading.specs.Opening.{blocksRead}
 use Rattle.model.specs.declared.Chain.{Chain}
@@ -83,7 +86,7 @@ use Rattle.curlewsong.specs.declared.InclusionReply.{InclusionReply}
 use Rattle.curlewsong.specs.declared.LengthReply.{LengthReply}
 use Rattle.curlewsong.specs.declared.TextReply.{TextReply}
 use Rattle.curlewsong.specs.Reply.{modelReply, verdict, inclusionReply, lengthReply, textReply, RepliesModel, RepliesWord, RepliesWithin, RepliesWritten, RepliesSample, RepliesDtd, RepliesText}
-use Rattle.demands.specs.Conditions.{WordConditions, WithinConditions, ModelConditions, WriteConditions, SampleConditions, DtdConditions, ReadConditions}
+use Rattle.demands.specs.Conditions.{BookConditions, WordConditions, WithinConditions, ModelConditions, WriteConditions, SampleConditions, DtdConditions, ReadConditions, ProgramConditions}
 use Rattle.demands.specs.Results.{Wrote, Asked, Minimal}
 use Rattle.demands.proofs.Refusals as Law
 use Rattle.demands.proofs.Texts as Text
@@ -144,9 +147,13 @@ pub read-refusals : (bytes text : List ℕ) (r : Declaration) (call : ReadsDecla
 read-refusals bytes text r call = subst (ReadConditions bytes text) (sym (ap outcomeNumber (call .outcome)))
     (Law.read-conditions bytes text)
 
--- The calls take bytes as the book b exactly where they are the book b; and which bytes are a book, and which one, is
--- stated of the bytes too.
-pub taken-exactly : (bytes : List ℕ) (b : Book) → TakenAs bytes b ↔ IsBook bytes b
+-- The program likewise: it prints a refusal exactly where the condition of its number holds, and else the whole DTD.
+pub program-refusals : (bytes : List ℕ) → ProgramConditions bytes (outputOf (takenBook bytes))
+program-refusals = Law.program-conditions
+
+-- The calls take bytes as the book b exactly where they are the book b and each name of it is a parent or a child in
+-- some block (U6); and which bytes are a book, and which one, is stated of the bytes too.
+pub taken-exactly : (bytes : List ℕ) (b : Book) → TakenAs bytes b ↔ (IsBook bytes b × AllUsed b)
 taken-exactly = taken-law
 
 pub book-exactly : (bytes : List ℕ) (b : Book) → IsBook bytes b ↔ Whole bytes b
@@ -318,7 +325,7 @@ module _ (bytes : List ℕ) (parent : ℕ) (r : Inferred) (b : Book) (a : Asked 
   facts = followOf (length (b .names)) words
 
   names : (w : List ℕ) → List·Memᴰ w words → Names (length (b .names)) w
-  names = sample-names bytes b (taken-law bytes b .0 (a .read)) parent
+  names = sample-names bytes b (is-book bytes b (a .read)) parent
 
   pub follow-law : (u v : Point) → steps facts u v ↔ Fact words u v
   follow-law = Levels.follow-law (length (b .names)) words names
@@ -412,7 +419,7 @@ dtd-from-table = So.dtd-by-table
 -- The same by the facts of each parent: `dtdOf` looks for its words and its text in all blocks.
 pub dtd-from-facts : (bytes : List ℕ) (b : Book) → TakenAs bytes b →
     dtdOf b ≡ factLines (b .names) (factsOf b) 0 (length (b .names))
-dtd-from-facts bytes b taken = dtd-by-facts bytes b (taken-law bytes b .0 taken)
+dtd-from-facts bytes b taken = dtd-by-facts bytes b (is-book bytes b taken)
 
 -- ==== paper 02, request U4
 
@@ -484,6 +491,22 @@ text-accepts-all = Mixed.text-accepts-all places
 -- How such models are printed, for some samples.
 pub text-samples : map lineDeclaration textLines ≡ map printedDeclaration textLines
 text-samples = with-text
+
+-- ==== paper 02, request U6
+
+-- "A book with a name that is neither a parent nor a child in any block is to be turned down", by 17, "after 7 and
+-- before 8": `seventeen` in `BookConditions` of specs/Conditions states it, of the number k of every call that takes a
+-- book, and of the program. Whatever else is asked of the call, such a book gives 17,
+pub unused-is-17 : (bytes : List ℕ) (k : ℕ) → BookConditions bytes k → (b : Book) (i : ℕ) → IsBook bytes b → Unused b i → k ≡ 17
+unused-is-17 bytes k conditions b i read unused = conditions .seventeen .1 (b, read, (i, unused))
+
+-- and "a book with M = 0 is therefore turned down always".
+pub no-block-is-17 : (bytes : List ℕ) (k : ℕ) → BookConditions bytes k → (b : Book) → IsBook bytes b → b .blocks ≡ [] → k ≡ 17
+no-block-is-17 bytes k conditions b read none = unused-is-17 bytes k conditions b 0 read (no-block-unused b (book-told bytes b read .some-name) none)
+
+-- The names of a book are used or unused, and none is both.
+pub used-or-not : (b : Book) (i : ℕ) → i < length (b .names) → (Used (b .blocks) i × (¬ Unused b i)) ⊎ (Unused b i × (¬ Used (b .blocks) i))
+used-or-not = used-or-unused
 
 -- ==== the calls for C and Rust
 

@@ -6,21 +6,22 @@ use mathlib.Core.Path.{_≡_, refl, sym, _∙_, ap, subst}
 use mathlib.Core.Bool.{Bool, true, false, not, false≢true}
 use mathlib.Core.List.{List, []}
 use mathlib.Core.Logic.{_↔_, _⊎_, inl, inr, ⊎-elim}
-use lib.Dec.{ltb}
+use lib.Dec.{eqb, ltb}
 use lib.ListN.{length}
 use borrow.Author.Tests.{lt-ltb, le-ltb, ltb-true, ltb-false, not-true, not-false}
 use Rattle.refusal.specs.declared.Refusal.{Refusal}
-use Rattle.refusal.specs.declared.Refusal.the-variants.{BookTooLong, BytesMissing, BadNameCount, BadName, NameNotAbove, NumberNotBelow, BytesLeftOver, BadParent, NoBlock, NotAModel, BadWord, BufferTooShort, NotADeclaration, UnknownName, NameTwice, BadText}
+use Rattle.refusal.specs.declared.Refusal.the-variants.{BookTooLong, BytesMissing, BadNameCount, BadName, NameNotAbove, NumberNotBelow, BytesLeftOver, BadParent, NoBlock, NotAModel, BadWord, BufferTooShort, NotADeclaration, UnknownName, NameTwice, BadText, UnusedName}
 use Rattle.refusal.specs.Table.{numberOf, ofBook}
 use Rattle.refusal.specs.Answer.{Answer, given, refused, onward, refuseIf, answerNumber}
-use Rattle.refusal.proofs.Answers.{given-refused, check-law}
+use Rattle.refusal.proofs.Answers.{given-refused, check-law, number-refused}
 use Rattle.refusal.proofs.Checks.{other, own-check, next-check, pass-check, last-check, avoids, own, own-or-next, row, row-0, number-only}
 use Rattle.nameset.specs.Places.{places, goodCount}
 use Rattle.nameset.proofs.Count.{count-bounds, bounds-count, count-bad}
-use Rattle.book.specs.Book.{Book}
+use Rattle.book.specs.Book.{Book, IsBook}
+use Rattle.book.specs.Used.{Unused}
 use Rattle.book.specs.Stops.{Stops}
 use Rattle.book.specs.Taken.{takenBook, TakenAs, badParent}
-use Rattle.book.proofs.Taken.{taken-law, taken-refused, bad-parent, good-parent}
+use Rattle.book.proofs.Taken.{is-book, taken-refused, taken-unused, taken-stops, bad-parent, good-parent}
 use Rattle.book.proofs.Onward.{book-first, book-or-later, in-book, in-given}
 use Rattle.model.specs.declared.Model.{Model}
 use Rattle.model.specs.Record.{IsModel}
@@ -46,7 +47,9 @@ use Rattle.intake_sample.specs.Inference.{sampleOf, noWord, parentModel, modelI
 use Rattle.intake_sample.specs.Writing.{sampleText}
 use Rattle.intake_sample.proofs.Samples.{no-word, some-word}
 use Rattle.intake_dtd.specs.Dtd.{dtdOf, dtdAnswer}
-use Rattle.demands.specs.Conditions.{OfBook, InRange, BookConditions, WordConditions, WithinConditions, ModelConditions, WriteConditions, sampleDeclaration, SampleConditions, DtdConditions, ReadConditions}
+use Rattle.dtd_output.specs.Output.{outputOf}
+use Rattle.dtd_output.proofs.Printed.{printed-refused}
+use Rattle.demands.specs.Conditions.{OfBook, InRange, BookConditions, WordConditions, WithinConditions, ModelConditions, WriteConditions, sampleDeclaration, SampleConditions, DtdConditions, ReadConditions, ProgramConditions}
 
 -- ---- what the tests mean
 
@@ -76,23 +79,27 @@ is-model n m = turned-back (isModel places n m) (model-law places n m)
 count-law : (n : ℕ) → (goodCount n ≡ true) ↔ InRange n
 count-law n = (count-bounds n, λ h. bounds-count n (h .0) (h .1))
 
--- ---- 1 to 7, 16
+-- ---- 1 to 7, 16, 17
 
 book-rows : {A : Type 0} (bytes : List ℕ) (a : Answer A) → ((f : Refusal) → ofBook f ≡ true → (a ≡ refused f) ↔ (takenBook bytes ≡ refused f)) → BookConditions bytes (answerNumber a)
 book-rows bytes a law =
     record {
-      one = at BookTooLong refl;
-      two = at BytesMissing refl;
-      three = at BadNameCount refl;
-      four = at BadName refl;
-      five = at NameNotAbove refl;
-      six = at NumberNotBelow refl;
-      sixteen = at BadText refl;
-      seven = at BytesLeftOver refl;
+      one = at BookTooLong refl refl;
+      two = at BytesMissing refl refl;
+      three = at BadNameCount refl refl;
+      four = at BadName refl refl;
+      five = at NameNotAbove refl refl;
+      six = at NumberNotBelow refl refl;
+      sixteen = at BadText refl refl;
+      seven = at BytesLeftOver refl refl;
+      seventeen = by UnusedName refl (taken-unused bytes);
     }
   where
-    at : (f : Refusal) → ofBook f ≡ true → (answerNumber a ≡ numberOf f) ↔ Stops bytes f
-    at f l = let h = taken-refused bytes f in row a f (λ e. h .0 (law f l .0 e), λ c. law f l .1 (h .1 c))
+    by : {C : Type 0} (f : Refusal) → ofBook f ≡ true → (takenBook bytes ≡ refused f) ↔ C → (answerNumber a ≡ numberOf f) ↔ C
+    by f l h = row a f (λ e. h .0 (law f l .0 e), λ c. law f l .1 (h .1 c))
+
+    at : (f : Refusal) → ofBook f ≡ true → eqb (numberOf UnusedName) (numberOf f) ≡ false → (answerNumber a ≡ numberOf f) ↔ Stops bytes f
+    at f l d = by f l (taken-refused bytes f (other UnusedName f d))
 
 -- ---- acceptance of a word
 
@@ -380,7 +387,7 @@ module _ (bytes text : List ℕ) where
     where
       spelled : (b : Book) → TakenAs bytes b → ((x : Declared) × (textAnswer places (b .names) text ≡ given x)) ↔ ((p : ℕ) × (m : Model) × Spelled places (b .names) text p m)
       spelled b q =
-          let good = good-names bytes b (taken-law bytes b .0 q) in (
+          let good = good-names bytes b (is-book bytes b q) in (
             λ (x, g). (x .parent, x .model, Spelling.read-exactly places (b .names) good text (x .parent) (x .model) .0 g),
             λ (p, m, S). (declared p m, Spelling.read-exactly places (b .names) good text p m .1 S),
           )
@@ -402,3 +409,17 @@ module _ (bytes text : List ℕ) where
         none = row-0 a read-given;
         no-other = number-only (λ k. (k ≡ 0) ⊎ (OfBook k ⊎ ((k ≡ 13) ⊎ ((k ≡ 14) ⊎ (k ≡ 15))))) a (inl refl) (λ f e. inr (read-only f e));
       }
+
+-- ---- the program
+
+pub program-conditions : (bytes : List ℕ) → ProgramConditions bytes (outputOf (takenBook bytes))
+unfolding outputOf
+program-conditions bytes =
+    let a = takenBook bytes in
+    record {
+      number = answerNumber a;
+      book = book-rows bytes a (λ f l. (λ e. e, λ e. e));
+      printed = λ f. let p = printed-refused a f in let n = number-refused a f in (λ e. n .1 (p .0 e), λ e. p .1 (n .0 e));
+      none = row-0 a (λ (b, e). (b, e, ap outputOf e), λ (b, e, q). (b, e));
+      no-other = number-only (λ k. (k ≡ 0) ⊎ OfBook k) a (inl refl) (λ f e. inr (f, taken-stops bytes f e, refl));
+    }

@@ -12,7 +12,7 @@ use Rattle.book.specs.Book.{Block, Book}
 use Rattle.book.specs.Stops.{BlocksBelow}
 use Rattle.book.specs.Taken.{TakenAs}
 use Rattle.book.proofs.Laws.{book-told}
-use Rattle.book.proofs.Taken.{taken-law}
+use Rattle.book.proofs.Taken.{is-book}
 use Rattle.book_reading.specs.Opening.{blocksRead}
 use Rattle.book_reading.proofs.Closing.{taken-blocks}
 use Rattle.model_language.specs.Word.{Point, Fact}
@@ -52,7 +52,7 @@ pub dtd-by-table : (bytes : List ℕ) (b : Book) (table : List ℕ) → TakenAs 
 unfolding sampleOf textOf factsOf
 dtd-by-table bytes b table taken kept =
     let n = length (b .names) in
-    let read = taken-law bytes b .0 taken in
+    let read = is-book bytes b taken in
     let small : n ≤ places = few bytes b read in
     let all : Keeps (b .blocks) table = subst (λ (bs : List Block). Keeps bs table) (taken-blocks bytes b taken) kept in
     sym

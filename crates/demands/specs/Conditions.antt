@@ -12,7 +12,8 @@ use Rattle.refusal.specs.declared.Refusal.{Refusal}
 use Rattle.refusal.specs.declared.Refusal.the-variants.{BookTooLong, BytesMissing, BadNameCount, BadName, NameNotAbove, NumberNotBelow, BytesLeftOver, BadText}
 use Rattle.refusal.specs.Table.{numberOf, ofBook}
 use Rattle.nameset.specs.Places.{places, OutOfRange}
-use Rattle.book.specs.Book.{Book}
+use Rattle.book.specs.Book.{Book, IsBook}
+use Rattle.book.specs.Used.{Unused}
 use Rattle.book.specs.Taken.{TakenAs}
 use Rattle.book.specs.Stops.{Stops}
 use Rattle.model.specs.declared.Model.{Model}
@@ -25,13 +26,14 @@ use Rattle.intake_word.specs.Acceptance.{longestWord, Passes}
 use Rattle.intake_within.specs.Comparison.{PassesBoth}
 use Rattle.intake_sample.specs.Inference.{sampleOf, parentModel}
 use Rattle.intake_dtd.specs.Dtd.{dtdOf}
+use Rattle.dtd_output.specs.Output.{refusedText}
 
--- k is the number of a refusal that concerns the book, 1 to 7, 16.
+-- k is the number of a refusal that concerns the book, 1 to 7, 16, 17.
 abbrev pub OfBook : ℕ → Type 0
 OfBook k = (f : Refusal) × (ofBook f ≡ true) × (k ≡ numberOf f)
 
 -- Of every call that takes a book. `Stops bytes f` states of the bytes alone that they are refused by f:
--- crates/book/specs/Stops.antt.
+-- crates/book/specs/Stops.antt. `IsBook bytes b`: the bytes are the book b, and none of 1 to 7 and 16 applies.
 pub record BookConditions (bytes : List ℕ) (k : ℕ) : Type 0 where
   -- "above 60,000 bytes"
   pub one : (k ≡ 1) ↔ Stops bytes BookTooLong
@@ -49,6 +51,8 @@ pub record BookConditions (bytes : List ℕ) (k : ℕ) : Type 0 where
   pub sixteen : (k ≡ 16) ↔ Stops bytes BadText
   -- "after the last block: bytes left over"
   pub seven : (k ≡ 7) ↔ Stops bytes BytesLeftOver
+  -- "a name that is neither a parent nor a child in any block", "after 7 and before 8"
+  pub seventeen : (k ≡ 17) ↔ ((b : Book) × IsBook bytes b × ((i : ℕ) × Unused b i))
 
 -- 1 to 64.
 abbrev pub InRange : ℕ → Type 0
@@ -135,3 +139,13 @@ pub record ReadConditions (bytes text : List ℕ) (k : ℕ) : Type 0 where
       ((d : Form) × HasForm text d × ((x : List ℕ) → List·Memᴰ x (formNames d) → List·Memᴰ x (b .names)) × Twice (modelNames (d .factors))))
   pub none : (k ≡ 0) ↔ ((b : Book) × TakenAs bytes b × ((p : ℕ) × (m : Model) × Spelled places (b .names) text p m))
   pub no-other : (k ≡ 0) ⊎ (OfBook k ⊎ ((k ≡ 13) ⊎ ((k ≡ 14) ⊎ (k ≡ 15))))
+
+-- The program, which prints `out` for the bytes. `number` is that of the refusal that it prints, and 0 where it
+-- prints a DTD.
+pub record ProgramConditions (bytes out : List ℕ) : Type 0 where
+  pub number : ℕ
+  pub book : BookConditions bytes number
+  -- "A refused book prints `refused `, the number in decimal and a line feed."
+  pub printed : (f : Refusal) → (out ≡ refusedText f) ↔ (number ≡ numberOf f)
+  pub none : (number ≡ 0) ↔ ((b : Book) × TakenAs bytes b × (out ≡ dtdOf b))
+  pub no-other : (number ≡ 0) ⊎ OfBook number

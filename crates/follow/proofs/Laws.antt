@@ -23,7 +23,7 @@ use Rattle.book.specs.Access.{LaidOut}
 use Rattle.book.specs.Stops.{BlocksBelow}
 use Rattle.book.proofs.Laws.{blocks-within}
 use Rattle.model.specs.Accept.{Names}
-use Rattle.model.proofs.Tests.{and-left, and-right, or-split, or-right, same-test}
+use Rattle.nameset.proofs.Tests.{and-left, and-right, or-split, or-right, same-test}
 use Rattle.follow.specs.declared.Facts.{Facts}
 use Rattle.follow.specs.Follow.{someWord, beginsWith, endsWith, hasPair, isEmpty, followOf}
 use Rattle.follow.specs.View.{viewOf}

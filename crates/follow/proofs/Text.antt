@@ -8,7 +8,7 @@ use mathlib.Core.Logic.{_↔_, _⊎_, inl, inr}
 use lib.Dec.{eqb}
 use borrow.Author.Tests.{eqb-true, eq-eqb}
 use Rattle.book.specs.Book.{Block}
-use Rattle.model.proofs.Tests.{and-left, and-right, or-split, or-right}
+use Rattle.nameset.proofs.Tests.{and-left, and-right, or-split, or-right}
 use Rattle.follow.specs.Sample.{hasText}
 
 -- one of the blocks is the parent's own and has the text byte 1

@@ -4,17 +4,16 @@ use Prim.Native.Nat.{ℕ, _+_, _-_, _≤_}
 use mathlib.Core.Path.{_≡_, refl, sym, _∙_, ap}
 use mathlib.Core.Bool.{Bool, true, false, _&&_, _||_, cond, or-false}
 use mathlib.Core.List.{List, [], _∷_, _++_}
-use native.Mathlib.Nat.{lt-of-lt-of-le}
-use lib.Dec.{eqb, ltb}
+use lib.Dec.{eqb}
 use lib.ListN.{take, drop, replicate, length-replicate}
-use borrow.Author.Tests.{eq-eqb, ne-eqb, ltb-true, lt-ltb}
+use borrow.Author.Tests.{eq-eqb, ne-eqb}
 use Rattle.nameset.specs.Places.{places}
 use Rattle.nameset.specs.Rows.{rowAt, noRows}
 use Rattle.book.specs.Book.{Block, allBelow}
 use Rattle.book.specs.Bytes.{headSize}
 use Rattle.book.specs.Stops.{BlocksBelow}
+use Rattle.book.proofs.Laws.{all-below-more}
 use Rattle.book_blocks.proofs.Steps.{BlockRead, part-read}
-use Rattle.model.proofs.Tests.{both, and-left, and-right}
 use Rattle.follow.specs.declared.Facts.{Facts}
 use Rattle.follow.specs.Sample.{wordsOf, hasText}
 use Rattle.follow.specs.Adding.{noFacts, withWord, withWords, factsOf}
@@ -83,16 +82,7 @@ module _ (p : ℕ) (bs : List Block) (b : Block) (u : List ℕ) (k : RowKeeps p 
         text = k .text ∙ sym (text-other p bs b other);
       }
 
--- a word over n names is one over more of them
-all-below-more : (n m : ℕ) (w : List ℕ) → n ≤ m → allBelow n w ≡ true → allBelow m w ≡ true
-unfolding allBelow
-all-below-more n m [] l h = refl
-all-below-more n m (x ∷ w) l h =
-    both (ltb x m) (allBelow m w)
-    (lt-ltb x m (lt-of-lt-of-le (ltb-true x n (and-left (ltb x n) (allBelow n w) h)) l))
-    (all-below-more n m w l (and-right (ltb x n) (allBelow n w) h))
-
--- so the children of a block that was read can be added to a row
+-- the children of a block that was read can be added to a row
 pub word-below : (n : ℕ) (s : List ℕ) (at size : ℕ) (b : BlockRead n s at size) (w : List ℕ) →
     w ≡ take (at + headSize + size - (at + headSize)) (drop (at + headSize) s) → n ≤ places → allBelow places w ≡ true
 word-below n s at size b w part few = rw (part-read n s at size b w part) (all-below-more n places (b .block .value .word) few (b .children))

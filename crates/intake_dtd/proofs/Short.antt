@@ -15,7 +15,7 @@ use Rattle.book.specs.Book.{Book, IsBook}
 use Rattle.book.specs.Layout.{layoutOf}
 use Rattle.book.specs.Access.{LaidOut}
 use Rattle.book.specs.Taken.{takenBook, TakenAs}
-use Rattle.book.proofs.Taken.{taken-law}
+use Rattle.book.proofs.Taken.{is-book}
 use Rattle.book.proofs.Laws.{names-in}
 use Rattle.declaration_spelling.specs.House.{declaration}
 use Rattle.declaration_spelling.specs.Length.{longestDeclaration}
@@ -30,13 +30,13 @@ use Rattle.intake_dtd.proofs.Agree.{line-by-facts, dtd-by-facts}
 
 module _ (s : List ℕ) (b : Book) (taken : TakenAs s b) where
   laid : LaidOut s (layoutOf b)
-  laid = record { book = b; read = taken-law s b .0 taken; same = refl }
+  laid = record { book = b; read = is-book s b taken; same = refl }
 
   text-short : (p : ℕ) → p < length (b .names) → ¬ (sampleOf b p ≡ []) → length (declaration (b .names) p (parentModel b p)) ≤ longestDeclaration
   unfolding layoutOf laid
   text-short p below some =
       subst (λ (names : List (List ℕ)). length (declaration names p (parentModel b p)) ≤ longestDeclaration) (names-in s (layoutOf b) laid)
-      (declaration-short s (layoutOf b) laid p below (parentModel b p) (sample-model s b (taken-law s b .0 taken) p some))
+      (declaration-short s (layoutOf b) laid p below (parentModel b p) (sample-model s b (is-book s b taken) p some))
 
   line-short : (p : ℕ) → p < length (b .names) → length (lineOf b p) ≤ longestLine
   unfolding lineOf
@@ -50,7 +50,7 @@ module _ (s : List ℕ) (b : Book) (taken : TakenAs s b) where
           omega arith
 
   read : IsBook s b
-  read = taken-law s b .0 taken
+  read = is-book s b taken
 
   pub dtd-short : length (dtdOf b) ≤ longestDtd
   dtd-short =

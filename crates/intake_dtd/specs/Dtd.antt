@@ -33,7 +33,8 @@ dtdOf b = linesFrom b 0 (length (b .names))
 unfoldable pub factsOf : Book → ℕ → ParentFacts
 factsOf b parent = parentFacts (followOf (length (b .names)) (sampleOf b parent)) (textOf b parent)
 
--- The text that is due for any bytes as the book and a buffer of so many bytes: 1 to 7, 16, then 12, else all lines.
+-- The text that is due for any bytes as the book and a buffer of so many bytes: 1 to 7, 16, 17, then 12, else all
+-- lines.
 unfoldable pub dtdAnswer : List ℕ → ℕ → Answer (List ℕ)
 dtdAnswer bytes room = onward (takenBook bytes) (λ b. fitted room (dtdOf b))
 

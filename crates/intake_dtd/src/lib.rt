@@ -11,8 +11,8 @@ ghost use Rattle.intake_dtd.specs.Dtd.{WritesDtd};
 // The most bytes that a DTD has: 64 declarations of 2,253 bytes, each with a line feed.
 pub const LONGEST: usize = 144256;
 
-// The call: any bytes as the book, any buffer. 1 to 7, 16, then 12, else the declarations of all parents with a block.
-// The blocks are gone through once, and the facts of a refused book are dropped.
+// The call: any bytes as the book, any buffer. 1 to 7, 16, 17, then 12, else the declarations of all parents with a
+// block. The blocks are gone through once, and the facts of a refused book are dropped.
 pub fn write_dtd(bytes: &[u8], buffer: &mut [u8]) -> Written
     ensures { λ r. ⌜ WritesDtd (now (bytes .entry)) r (now (buffer .entry)) (now (buffer .exit)) ⌝ }
 {

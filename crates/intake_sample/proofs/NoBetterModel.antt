@@ -13,7 +13,7 @@ use Rattle.refusal.specs.declared.Outcome.the-variants.{Done}
 use Rattle.nameset.specs.Places.{places}
 use Rattle.book.specs.Book.{Book, IsBook}
 use Rattle.book.specs.Taken.{TakenAs}
-use Rattle.book.proofs.Taken.{taken-law}
+use Rattle.book.proofs.Taken.{is-book}
 use Rattle.model.specs.declared.Chain.{Chain}
 use Rattle.model.specs.declared.Model.{Model}
 use Rattle.model.specs.Record.{noFactor, modelWith, IsChain, IsModel}
@@ -45,7 +45,7 @@ module _ (bytes : List ℕ) (parent : ℕ) (answer : Inferred) (call : answer �
   ours = answer .model
 
   read : IsBook bytes book
-  read = taken-law bytes book .0 taken
+  read = is-book bytes book taken
 
   few : n ≤ places
   few = Sample.few bytes book read

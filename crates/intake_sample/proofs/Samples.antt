@@ -18,7 +18,7 @@ use Rattle.book.specs.Layout.{layoutOf, readingOf}
 use Rattle.book.specs.Access.{LaidOut}
 use Rattle.book.specs.Stops.{BlocksBelow}
 use Rattle.book.specs.Taken.{takenBook, TakenAs}
-use Rattle.book.proofs.Taken.{taken-law, good-parent}
+use Rattle.book.proofs.Taken.{is-book, good-parent}
 use Rattle.book.proofs.Taken as Taken
 use Rattle.book.proofs.Laws.{few-names, blocks-in, blocks-within}
 use Rattle.book_reading.specs.Opening.{blocksRead}
@@ -91,7 +91,7 @@ module _ (bytes : List ℕ) (book : Book) (read : IsBook bytes book) where
 pub answer-given : (bytes : List ℕ) (book : Book) → TakenAs bytes book → (parent : ℕ) → ¬ (sampleOf book parent ≡ []) → modelAnswer bytes parent ≡ given (parentModel book parent)
 unfolding modelAnswer modelIn
 answer-given bytes book taken parent block =
-    rw (taken, good-parent book parent .1 (has-block bytes book (taken-law bytes book .0 taken) parent block), some-word (sampleOf book parent) .1 block)
+    rw (taken, good-parent book parent .1 (has-block bytes book (is-book bytes book taken) parent block), some-word (sampleOf book parent) .1 block)
 
 -- ---- a book that was taken, and the row of a parent
 

@@ -15,7 +15,7 @@ use Rattle.book.specs.Book.{Book, namesIn}
 use Rattle.book.specs.Layout.{readingOf, layoutOf}
 use Rattle.book.specs.Access.{LaidOut}
 use Rattle.book.specs.Taken.{takenBook, TakenAs, badParent}
-use Rattle.book.proofs.Taken.{taken-law, good-parent}
+use Rattle.book.proofs.Taken.{is-book, good-parent}
 use Rattle.book.proofs.Laws.{names-in}
 use Rattle.model.specs.declared.Model.{Model}
 use Rattle.model.specs.Record.{IsModel, dueModel}
@@ -79,14 +79,14 @@ module _ (s : List ℕ) (p : ℕ) (x : InferredIn) (call : x ≡ inferredIn (rea
     layout-is = ap (λ (y : InferredIn). y .layout) call ∙ ap (λ (a : Answer Book). readingOf a .layout) (told .read)
 
     laid : LaidOut s (x .layout)
-    laid = record { book = told .book; read = taken-law s (told .book) .0 (told .read); same = layout-is }
+    laid = record { book = told .book; read = is-book s (told .book) (told .read); same = layout-is }
 
     names-are : x .layout .names ≡ length (told .book .names)
     unfolding layoutOf
     names-are = ap (λ (y : Layout). y .names) layout-is
 
     model : IsModel places (length (told .book .names)) (x .model)
-    model = subst (IsModel places (length (told .book .names))) (told .is) (sample-model s (told .book) (taken-law s (told .book) .0 (told .read)) p (told .some))
+    model = subst (IsModel places (length (told .book .names))) (told .is) (sample-model s (told .book) (is-book s (told .book) (told .read)) p (told .some))
 
     pub model-writable : LaidOut s (x .layout) × (p < x .layout .names) × IsModel places (x .layout .names) (x .model)
     model-writable = (laid, rw names-are (told .below), rw names-are model)

@@ -42,7 +42,7 @@ unfoldable pub modelIn : Book → ℕ → Answer Model
 modelIn b parent =
     refuseIf (badParent b parent) BadParent (refuseIf (noWord (sampleOf b parent)) NoBlock (given (parentModel b parent)))
 
--- The call's answer for any bytes as the book and any parent: 1 to 7, 16, then those.
+-- The call's answer for any bytes as the book and any parent: 1 to 7, 16, 17, then those.
 unfoldable pub modelAnswer : List ℕ → ℕ → Answer Model
 modelAnswer bytes parent = onward (takenBook bytes) (λ b. modelIn b parent)
 

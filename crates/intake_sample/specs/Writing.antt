@@ -11,8 +11,8 @@ use Rattle.declaration_writing.specs.declared.Written.{Written}
 use Rattle.declaration_writing.specs.Write.{fitted, Writes}
 use Rattle.intake_sample.specs.Inference.{modelIn}
 
--- The text that is due for any bytes as the book, any parent and a buffer of so many bytes: 1 to 7, 16, then 8, then
--- 9, then 12, else the declaration.
+-- The text that is due for any bytes as the book, any parent and a buffer of so many bytes: 1 to 7, 16, 17, then 8,
+-- then 9, then 12, else the declaration.
 unfoldable pub sampleText : List ℕ → ℕ → ℕ → Answer (List ℕ)
 sampleText bytes parent room = onward (takenBook bytes) (λ b. onward (modelIn b parent) (λ m. fitted room (declaration (b .names) parent m)))
 

@@ -27,7 +27,7 @@ fn stopped(reading: Reading, refusal: Refusal) -> InferredIn
     }
 }
 
-// 1 to 7, 16, then 8, then 9, else the model.
+// 1 to 7, 16, 17, then 8, then 9, else the model.
 pub fn find_model(bytes: &[u8], parent: usize) -> InferredIn
     ensures { λ r. ⌜ r ≡ inferredIn (readingOf (takenBook (now (bytes .entry)))) (modelAnswer (now (bytes .entry)) parent) ⌝ }
 {

@@ -4,7 +4,7 @@ use declaration_writing::Written;
 use refusal::Outcome;
 ghost use Rattle.intake_sample.specs.Writing.{WritesSample};
 
-// The call: any bytes as the book, any parent, any buffer. 1 to 7, 16, then 8, then 9, then 12, else the
+// The call: any bytes as the book, any parent, any buffer. 1 to 7, 16, 17, then 8, then 9, then 12, else the
 // declaration.
 pub fn write_from_sample(bytes: &[u8], parent: usize, buffer: &mut [u8]) -> Written
     ensures { λ r. ⌜ WritesSample (now (bytes .entry)) parent r (now (buffer .entry)) (now (buffer .exit)) ⌝ }

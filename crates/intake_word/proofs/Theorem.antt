@@ -17,7 +17,7 @@ use Rattle.book.specs.Book.{allBelow}
 use Rattle.model.specs.declared.Model.{Model}
 use Rattle.model.specs.Check.{isModel}
 use Rattle.model.specs.Accept.{Accepts, Names}
-use Rattle.model.proofs.Tests.{never}
+use Rattle.nameset.proofs.Tests.{never}
 use Rattle.model.proofs.ModelLaw.{model-law}
 use Rattle.model.proofs.Acceptance.{accepts-law}
 use Rattle.intake_word.specs.declared.Acceptance.{Acceptance}

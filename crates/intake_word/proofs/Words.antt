@@ -9,7 +9,7 @@ use borrow.Author.Tests.{lt-ltb, le-ltb, ltb-true, ltb-false}
 use lib.Dec.{ltb}
 use Rattle.book.specs.Book.{allBelow}
 use Rattle.model.specs.Accept.{Names}
-use Rattle.model.proofs.Tests.{both, and-left, and-right}
+use Rattle.nameset.proofs.Tests.{both, and-left, and-right}
 
 pub names-law : (n : ℕ) (w : List ℕ) → (allBelow n w ≡ true) ↔ Names n w
 unfolding allBelow

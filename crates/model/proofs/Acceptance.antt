@@ -17,7 +17,7 @@ use Rattle.model.specs.declared.Moved.the-variants.{To}
 use Rattle.model.specs.Record.{factorOf, modeOf}
 use Rattle.model.specs.Accept.{Many, Part, Joined, none, part, Accepts}
 use Rattle.model.specs.Run.{either, turnOf, state, after, goesTo, wentTo, move, run, mayEnd, accepts}
-use Rattle.model.proofs.Tests.{never}
+use Rattle.nameset.proofs.Tests.{never}
 use Rattle.model.proofs.Turns.{leave≢take, refuse≢take, take≢leave, refuse≢leave, turn-take, goes-turn, goes-past}
 use Rattle.model.proofs.Words.{run-nowhere}
 

@@ -17,7 +17,7 @@ use Rattle.nameset.specs.declared.NameSet.{NameSet}
 use Rattle.model.specs.declared.Chain.{Chain}
 use Rattle.model.specs.Record.{noFactor}
 use Rattle.model.specs.Build.{entriesWith, withFactor}
-use Rattle.model.proofs.Tests.{and-left}
+use Rattle.nameset.proofs.Tests.{and-left}
 
 -- ---- entriesWith, entry by entry
 

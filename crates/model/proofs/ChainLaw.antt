@@ -12,8 +12,9 @@ use lib.Dec.{eqb, ltb, leb}
 use lib.ListN.{length, getD, List·getD-eq-default}
 use Rattle.model.specs.declared.Chain.{Chain}
 use Rattle.model.specs.Record.{noFactor, factorOf, modeOf, IsChain}
-use Rattle.model.specs.Check.{anyBelow, mayHold, mayBe, allPlaced, allNamed, allKnown, isChain}
-use Rattle.model.proofs.Tests.{or-split, or-right, all-law, any-law}
+use Rattle.nameset.specs.Tests.{anyBelow}
+use Rattle.model.specs.Check.{mayHold, mayBe, allPlaced, allNamed, allKnown, isChain}
+use Rattle.nameset.proofs.Tests.{or-split, or-right, all-law, any-law}
 
 -- ---- one entry, one mode
 

@@ -10,7 +10,7 @@ use lib.ListN.{getD}
 use Rattle.model.specs.declared.Turn.{Turn}
 use Rattle.model.specs.declared.Turn.the-variants.{Take, Leave, Refuse}
 use Rattle.model.specs.Run.{either, turnOf, state, after, goesFrom, goesTo}
-use Rattle.model.proofs.Tests.{never}
+use Rattle.nameset.proofs.Tests.{never}
 
 -- ---- two turns are not equal
 

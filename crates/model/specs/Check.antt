@@ -6,19 +6,10 @@ use mathlib.Core.Bool.{Bool, true, false, _&&_, _||_}
 use mathlib.Core.List.{List}
 use lib.Dec.{eqb, ltb, leb}
 use lib.ListN.{length, getD}
+use Rattle.nameset.specs.Tests.{everyBelow, anyBelow}
 use Rattle.model.specs.declared.Chain.{Chain}
 use Rattle.model.specs.declared.Model.{Model}
 use Rattle.model.specs.Record.{noFactor, modeOf}
-
--- Every number below n passes the test.
-unfoldable pub everyBelow : ℕ → (ℕ → Bool) → Bool
-everyBelow zero test = true
-everyBelow (suc n) test = everyBelow n test && test n
-
--- Some number below n passes the test.
-unfoldable pub anyBelow : ℕ → (ℕ → Bool) → Bool
-anyBelow zero test = false
-anyBelow (suc n) test = anyBelow n test || test n
 
 -- Whether v may be the entry of a number: true for a number below N, false for the others.
 unfoldable pub mayHold : ℕ → Bool → ℕ → Bool

@@ -4,7 +4,7 @@ use mathlib.Core.Path.{_≡_, refl}
 use mathlib.Core.Bool.{true, false}
 use mathlib.Core.List.{[], _∷_}
 use Rattle.model.specs.declared.Chain.{Chain}
-use Rattle.model.specs.Check.{everyBelow}
+use Rattle.nameset.specs.Tests.{everyBelow}
 use Rattle.model.specs.Record.{factorOf}
 use Rattle.model.specs.Run.{either, turnOf, after, goesFrom, goesTo, wentTo, move, run, mayEnd, accepts}
 use Rattle.model_inclusion.specs.Search.{everyWord, acceptedToo, within}

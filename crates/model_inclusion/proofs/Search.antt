@@ -11,7 +11,7 @@ use Rattle.model.specs.declared.Chain.{Chain}
 use Rattle.model.specs.Record.{noFactor, IsChain}
 use Rattle.model.specs.Accept.{Accepts, Names}
 use Rattle.model.specs.Run.{accepts}
-use Rattle.model.proofs.Tests.{all-law}
+use Rattle.nameset.proofs.Tests.{all-law}
 use Rattle.model.proofs.Acceptance.{accepts-law}
 use Rattle.model_language.specs.Word.{Point}
 use Rattle.model_language.specs.Step.{Step, Includes}

@@ -5,7 +5,7 @@ use Prim.Native.Nat.{ℕ, zero, suc, _+_}
 use mathlib.Core.Bool.{Bool, not, _||_}
 use mathlib.Core.List.{List, [], _∷_}
 use Rattle.model.specs.declared.Chain.{Chain}
-use Rattle.model.specs.Check.{everyBelow}
+use Rattle.nameset.specs.Tests.{everyBelow}
 use Rattle.model.specs.Run.{accepts}
 
 -- Whether every word of l names, each below n, passes the test.

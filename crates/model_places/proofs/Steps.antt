@@ -12,7 +12,7 @@ use lib.Dec.{leb}
 use lib.ListN.{getD}
 use Rattle.model.specs.declared.Chain.{Chain}
 use Rattle.model.specs.Record.{noFactor, factorOf, modeOf, IsChain}
-use Rattle.model.proofs.Tests.{both, and-left, and-right}
+use Rattle.nameset.proofs.Tests.{both, and-left, and-right}
 use Rattle.model_language.specs.Word.{Point, start, name, end}
 use Rattle.model_language.specs.Step.{optional, repeats, place, Held, Over, Repeat, Step}
 use Rattle.model_language.proofs.Shown.{step-rises}

@@ -11,8 +11,9 @@ use borrow.Author.Tests.{eq-eqb, ne-eqb, lt-ltb, le-ltb, le-leb, lt-leb}
 use lib.Dec.{eqb, ltb, leb}
 use lib.ListN.{length, getD, List·getD-eq-default}
 use Rattle.model.specs.Record.{noFactor}
-use Rattle.model.specs.Check.{everyBelow, mayHold, allPlaced}
-use Rattle.model.proofs.Tests.{both, and-left, and-right, same-test, all-law}
+use Rattle.nameset.specs.Tests.{everyBelow}
+use Rattle.model.specs.Check.{mayHold, allPlaced}
+use Rattle.nameset.proofs.Tests.{both, and-left, and-right, same-test, all-law}
 
 -- ---- tests over all numbers below a bound
 

@@ -12,7 +12,7 @@ use lib.ListN.{length, getD, drop, List·getD-eq-default}
 use Rattle.byte_row.specs.Largest.{largest}
 use Rattle.byte_row.proofs.Laws.{most-law}
 use Rattle.model.specs.Check.{mayBe, allKnown}
-use Rattle.model.proofs.Tests.{both, and-left, and-right, same-test}
+use Rattle.nameset.proofs.Tests.{both, and-left, and-right, same-test}
 use Rattle.model.proofs.ChainLaw.{Mode, known-law}
 
 module _ (count : ℕ) (modes : List ℕ) where

@@ -13,8 +13,9 @@ use lib.Dec.{eqb, ltb}
 use lib.ListN.{length, getD, List·getD-eq-default}
 use Rattle.nameset.specs.Places.{places}
 use Rattle.model.specs.Record.{noFactor}
-use Rattle.model.specs.Check.{everyBelow, anyBelow, mayHold, allPlaced, allNamed}
-use Rattle.model.proofs.Tests.{both, or-split, or-right, same-test, all-law, any-law}
+use Rattle.nameset.specs.Tests.{everyBelow, anyBelow}
+use Rattle.model.specs.Check.{mayHold, allPlaced, allNamed}
+use Rattle.nameset.proofs.Tests.{both, or-split, or-right, same-test, all-law, any-law}
 use Rattle.model.proofs.ChainLaw.{placed-law, name-law}
 use Rattle.model_rows.proofs.Factors.{all-same}
 

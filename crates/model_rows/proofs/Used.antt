@@ -12,8 +12,8 @@ use Rattle.nameset.specs.Places.{places}
 use Rattle.nameset.specs.Set.{member, isEmpty}
 use Rattle.nameset.specs.Promise.{Smallest}
 use Rattle.nameset.proofs.Laws.{first-none}
-use Rattle.model.specs.Check.{everyBelow}
-use Rattle.model.proofs.Tests.{same-test, all-law}
+use Rattle.nameset.specs.Tests.{everyBelow}
+use Rattle.nameset.proofs.Tests.{same-test, all-law}
 
 -- `rest` has the numbers that are not in `used`, and r is its first.
 module _ (count : ℕ) (used full rest : NameSet) (r : ℕ) (l : count ≤ places) (a : (j : ℕ) → member full j ≡ ltb j places)

@@ -1,27 +1,28 @@
 -- The laws of the sets, for the proofs of callers: what members each operation gives, that sets with the same members
 -- are equal, that a set of code is `Sized` and stays so, the smallest member, and that a set without it is smaller.
 -- Assumes nothing.
-use Prim.Native.Nat.{ℕ, zero, suc, _-_, _^_, _≤_, _<_}
+use Prim.Native.Nat.{ℕ, zero, suc, _+_, _-_, _/_, _^_, _≤_, _<_}
 use mathlib.Core.Path.{_≡_, sym, _∙_, ap}
 use mathlib.Core.Bool.{Bool, true, false, _&&_, _||_, not}
 use mathlib.Core.List.{List, [], _∷_, map, map-id}
 use native.Mathlib.Omega.{arith}
-use native.Mathlib.Nat.{lt-of-le-of-lt}
+use native.Mathlib.Decide.{decLt}
+use native.Mathlib.Nat.{lt-of-le-of-lt, div-le-self}
 use lib.Dec.{eqb, ltb}
 use lib.ListN.{getD}
 use lib.Pow.{pow-pos}
-use lib.Bits.{and-le-l, xor-lt}
+use lib.Bits.{bitAnd, and-zero-l, and-le-l, xor-zero-l, xor-lt}
 use lib.Count.{trailingZeros, trailing-le}
 use mir.Val.{Val}
 use base.Fml.{Fml}
 use denote.Shadow.{shadow}
 use denote.Array.{each}
 use denote.Struct.Declared.{row}
-use borrow.Author.Tests.{eqb-true, eqb-false, eq-eqb}
+use borrow.Author.Tests.{lt-ltb, le-ltb, eqb-true, eqb-false, eq-eqb}
 use Rattle.nameset.specs.declared.NameSet.{NameSet}
-use Rattle.nameset.specs.Set.{capacity, member, Sized, empty, full, with, union, both, minus, isEmpty, first, rest, size}
+use Rattle.nameset.specs.Set.{capacity, member, Sized, empty, full, below, with, without, union, both, minus, isEmpty, first, rest, size}
 use Rattle.nameset.proofs.NameSet.{the-type, the-field}
-use Rattle.nameset.proofs.Digits.{bit, bit-or, bit-and, bit-diff, bit-zero, bit-pow, bit-all, same-bits, zeros-below, lowest-one, cleared, bit-cleared, ones-cleared}
+use Rattle.nameset.proofs.Digits.{bit, bit-or, bit-and, bit-diff, bit-zero, bit-pow, bit-all, bit-shifted, same-bits, zeros-below, lowest-one, cleared, bit-cleared, ones-cleared}
 
 -- ---- members
 
@@ -33,9 +34,21 @@ pub member-full : (j : ℕ) → member full j ≡ ltb j capacity
 unfolding member bit
 member-full = bit-all capacity
 
+pub member-below : (n j : ℕ) → n ≤ capacity → member (below n) j ≡ ltb j n
+unfolding member below bit
+member-below n j h = bit-shifted (2 ^ capacity - 1) (capacity - n) j ∙ bit-all capacity (capacity - n + j) ∙ same (decLt j n)
+  where
+    same : Dec (j < n) → ltb (capacity - n + j) capacity ≡ ltb j n
+    same (yes l) = lt-ltb (capacity - n + j) capacity (omega arith) ∙ sym (lt-ltb j n l)
+    same (no l) = le-ltb (capacity - n + j) capacity (omega arith) ∙ sym (le-ltb j n (omega arith))
+
 pub member-with : (s : NameSet) (i j : ℕ) → member (with s i) j ≡ (member s j || eqb i j)
 unfolding member with bit
 member-with s i j = bit-or (s .bits) (2 ^ i) j ∙ ap (λ (x : Bool). member s j || x) (bit-pow i j)
+
+pub member-without : (s : NameSet) (i j : ℕ) → member (without s i) j ≡ (member s j && not (eqb i j))
+unfolding member without bit
+member-without s i j = bit-diff (s .bits) (2 ^ i) j ∙ ap (λ (x : Bool). member s j && not x) (bit-pow i j)
 
 pub member-union : (a b : NameSet) (j : ℕ) → member (union a b) j ≡ (member a j || member b j)
 unfolding member union bit
@@ -65,6 +78,10 @@ member-rest s j =
 pub sized-empty : Sized empty
 sized-empty = pow-pos capacity
 
+pub sized-below : (n : ℕ) → Sized (below n)
+unfolding below
+sized-below n = let h : (2 ^ capacity - 1) / 2 ^ (capacity - n) ≤ 2 ^ capacity - 1 = div-le-self (2 ^ capacity - 1) (2 ^ (capacity - n)) in omega arith
+
 pub sized-both : (a b : NameSet) → Sized a → Sized (both a b)
 unfolding both
 sized-both a b h = lt-of-le-of-lt (and-le-l (a .bits) (b .bits)) h
@@ -72,6 +89,10 @@ sized-both a b h = lt-of-le-of-lt (and-le-l (a .bits) (b .bits)) h
 pub sized-minus : (a b : NameSet) → Sized a → Sized (minus a b)
 unfolding minus both
 sized-minus a b h = xor-lt capacity (a .bits) (both a b .bits) h (sized-both a b h)
+
+pub sized-without : (s : NameSet) (i : ℕ) → Sized s → Sized (without s i)
+unfolding without
+sized-without s i h = xor-lt capacity (s .bits) (bitAnd (s .bits) (2 ^ i)) h (lt-of-le-of-lt (and-le-l (s .bits) (2 ^ i)) h)
 
 pub sized-rest : (s : NameSet) → Sized s → Sized (rest s)
 unfolding rest
@@ -109,6 +130,11 @@ isEmpty-is s e = same s empty (eqb-true (s .bits) 0 e)
 
 pub isEmpty-none : (s : NameSet) → isEmpty s ≡ true → (j : ℕ) → member s j ≡ false
 isEmpty-none s e j = rw (isEmpty-is s e) (member-empty j)
+
+-- Nothing is taken out of the empty set.
+pub without-empty : (i : ℕ) → without empty i ≡ empty
+unfolding without
+without-empty i = ap (λ (n : ℕ). record { bits = n }) (xor-zero-l (bitAnd 0 (2 ^ i)) ∙ and-zero-l (2 ^ i))
 
 pub none-isEmpty : (s : NameSet) → Sized s → ((j : ℕ) → j < capacity → member s j ≡ false) → isEmpty s ≡ true
 unfolding isEmpty

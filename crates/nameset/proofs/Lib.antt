@@ -2,4 +2,5 @@ mod Digits
 pub mod Laws
 pub mod Count
 pub mod Rows
+pub mod Tests
 pub mod Turns

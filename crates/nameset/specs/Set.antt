@@ -29,9 +29,17 @@ empty = record { bits = 0 }
 abbrev pub full : NameSet
 full = record { bits = 2 ^ capacity - 1 }
 
+-- The set with every number below n, which is at most the capacity.
+unfoldable pub below : ℕ → NameSet
+below n = record { bits = (2 ^ capacity - 1) / 2 ^ (capacity - n) }
+
 -- The set s with the name i put in.
 unfoldable pub with : NameSet → ℕ → NameSet
 with s i = record { bits = bitOr (s .bits) (2 ^ i) }
+
+-- The set s with the name i taken out.
+unfoldable pub without : NameSet → ℕ → NameSet
+without s i = record { bits = bitXor (s .bits) (bitAnd (s .bits) (2 ^ i)) }
 
 -- The names in a or in b.
 unfoldable pub union : NameSet → NameSet → NameSet

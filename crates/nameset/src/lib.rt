@@ -1,10 +1,10 @@
 // Sets of name numbers by value, one bit for each number, and rows of machine words that keep such sets.
 ghost use mathlib.Core.Path.{_≡_};
 ghost use mathlib.Core.Bool.{false, _&&_, _||_, not};
-ghost use Prim.Native.Nat.{_<_};
+ghost use Prim.Native.Nat.{_≤_, _<_};
 ghost use lib.Dec.{eqb, ltb};
 ghost use Rattle.nameset.specs.Places.{goodCount};
-ghost use Rattle.nameset.specs.Set.{capacity, member, empty, full, with, union, both, minus};
+ghost use Rattle.nameset.specs.Set.{capacity, member, empty, full, below, with, without, union, both, minus};
 ghost use Rattle.nameset.specs.Promise.{Made, Emptiness, Smallest, Shrunk};
 
 mod row; // row.rt: sets kept as rows of machine words
@@ -49,6 +49,16 @@ impl NameSet {
         }
     }
 
+    // The set of all numbers below n.
+    pub fn below(n: usize) -> NameSet
+        requires { ⌜ (0 < n) × (n ≤ capacity) ⌝ }
+        ensures { λ r. ⌜ Made r (below n) (λ j. ltb j n) ⌝ }
+    {
+        NameSet {
+            bits: 0xffff_ffff_ffff_ffff >> (64 - n),
+        }
+    }
+
     pub fn has(self, i: usize) -> bool
         requires { ⌜ i < capacity ⌝ }
         ensures { λ r. ⌜ r ≡ member self i ⌝ }
@@ -62,6 +72,15 @@ impl NameSet {
     {
         NameSet {
             bits: self.bits | (1u64 << i),
+        }
+    }
+
+    pub fn without(self, i: usize) -> NameSet
+        requires { ⌜ i < capacity ⌝ }
+        ensures { λ r. ⌜ Made r (without self i) (λ j. member self j && not (eqb i j)) ⌝ }
+    {
+        NameSet {
+            bits: self.bits ^ (self.bits & (1u64 << i)),
         }
     }
 

@@ -8,7 +8,7 @@ use mathlib.Core.List.{List, [], _∷_, map}
 use native.Mathlib.Omega.{arith}
 use lib.ListN.{getD}
 use Rattle.refusal.specs.declared.Refusal.{Refusal}
-use Rattle.refusal.specs.declared.Refusal.the-variants.{BookTooLong, BytesMissing, BadNameCount, BadName, NameNotAbove, NumberNotBelow, BytesLeftOver, BadParent, NoBlock, NotAModel, BadWord, BufferTooShort, NotADeclaration, UnknownName, NameTwice, BadText}
+use Rattle.refusal.specs.declared.Refusal.the-variants.{BookTooLong, BytesMissing, BadNameCount, BadName, NameNotAbove, NumberNotBelow, BytesLeftOver, BadParent, NoBlock, NotAModel, BadWord, BufferTooShort, NotADeclaration, UnknownName, NameTwice, BadText, UnusedName}
 use Rattle.refusal.specs.declared.Outcome.{Outcome}
 use Rattle.refusal.specs.declared.Outcome.the-variants.{Done, Refused}
 use Rattle.refusal.specs.Table.{numberOf}
@@ -33,6 +33,7 @@ rows =
     ∷ UnknownName
     ∷ NameTwice
     ∷ BadText
+    ∷ UnusedName
     ∷ []
 
 -- the outcome that a number tells
@@ -58,6 +59,7 @@ row-of NotADeclaration = refl
 row-of UnknownName = refl
 row-of NameTwice = refl
 row-of BadText = refl
+row-of UnusedName = refl
 
 pub refused-alike : (r q : Refusal) → Refused r ≡ Refused q → r ≡ q
 refused-alike r q e = cc

@@ -6,7 +6,7 @@ use mathlib.Core.Bool.{Bool, false, _||_}
 use mathlib.Core.List.{List, [], _∷_}
 use lib.Dec.{eqb}
 use Rattle.refusal.specs.declared.Refusal.{Refusal}
-use Rattle.refusal.specs.declared.Refusal.the-variants.{BookTooLong, BytesMissing, BadNameCount, BadName, NameNotAbove, NumberNotBelow, BytesLeftOver, BadParent, NoBlock, NotAModel, BadWord, BufferTooShort, NotADeclaration, UnknownName, NameTwice, BadText}
+use Rattle.refusal.specs.declared.Refusal.the-variants.{BookTooLong, BytesMissing, BadNameCount, BadName, NameNotAbove, NumberNotBelow, BytesLeftOver, BadParent, NoBlock, NotAModel, BadWord, BufferTooShort, NotADeclaration, UnknownName, NameTwice, BadText, UnusedName}
 
 -- The number that the papers give it.
 abbrev pub numberOf : Refusal → ℕ
@@ -26,10 +26,11 @@ numberOf NotADeclaration = 13
 numberOf UnknownName = 14
 numberOf NameTwice = 15
 numberOf BadText = 16
+numberOf UnusedName = 17
 
--- The numbers of the refusals that concern the book: 1 to 7, 16.
+-- The numbers of the refusals that concern the book: 1 to 7, 16, 17.
 abbrev pub bookNumbers : List ℕ
-bookNumbers = 1 ∷ 2 ∷ 3 ∷ 4 ∷ 5 ∷ 6 ∷ 7 ∷ 16 ∷ []
+bookNumbers = 1 ∷ 2 ∷ 3 ∷ 4 ∷ 5 ∷ 6 ∷ 7 ∷ 16 ∷ 17 ∷ []
 
 -- Whether a number is in a list.
 abbrev pub listed : ℕ → List ℕ → Bool

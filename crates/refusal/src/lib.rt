@@ -38,6 +38,8 @@ pub enum Refusal {
     NameTwice,
     // 16: a text byte in the book is above 1.
     BadText,
+    // 17: a name in the book is neither a parent nor a child in any block.
+    UnusedName,
 }
 
 // How a call ended, where its answer's values stand beside it.
@@ -67,6 +69,7 @@ pub fn number(refusal: Refusal) -> u8
         Refusal::UnknownName => 14,
         Refusal::NameTwice => 15,
         Refusal::BadText => 16,
+        Refusal::UnusedName => 17,
     }
 }
 

@@ -4,14 +4,19 @@ use declaration_writing::Written;
 use model::Chain;
 use model::Model;
 
-// The names a, b and c, and no block.
-fn small_book() -> [u8; 10] {
-    [3, 0, 1, b'a', 1, b'b', 1, b'c', 0, 0]
+// The names a, b and c, and one block: a with the children b and c.
+fn small_book() -> [u8; 15] {
+    [3, 0, 1, b'a', 1, b'b', 1, b'c', 1, 0, 0, 0, 2, 1, 2]
 }
 
 // The same without its last byte.
-fn cut_book() -> [u8; 9] {
-    [3, 0, 1, b'a', 1, b'b', 1, b'c', 0]
+fn cut_book() -> [u8; 14] {
+    [3, 0, 1, b'a', 1, b'b', 1, b'c', 1, 0, 0, 0, 2, 1]
+}
+
+// The same names, and one block that does not use c: a with the child b.
+fn unused_book() -> [u8; 14] {
+    [3, 0, 1, b'a', 1, b'b', 1, b'c', 1, 0, 0, 0, 1, 1]
 }
 
 fn empty() -> Chain {
@@ -186,8 +191,10 @@ fn record_cases() {
 
 // The book is checked first.
 fn book_cases() {
-    let book = cut_book();
-    in_16(&book, 3, model(pairs(), 0));
+    let cut = cut_book();
+    in_16(&cut, 3, model(pairs(), 0));
+    let unused = unused_book();
+    in_16(&unused, 3, model(pairs(), 0));
 }
 
 // The longest declaration, in a buffer that is one byte short, one that it fills, and a longer one.

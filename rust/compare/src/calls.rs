@@ -287,7 +287,6 @@ impl Answer {
             Answer::Inclusion(0, false, 0, _) => String::from("empty"),
             Answer::Inclusion(0, false, MOST_COUNTEREXAMPLE, _) => String::from("longest"),
             Answer::Verdict(0, yes) | Answer::Inclusion(0, yes, ..) => String::from(if *yes { "yes" } else { "no" }),
-            Answer::Written(0, 0, _) => String::from("nothing"),
             Answer::Written(0, length, after) => String::from(content_of_text(&after[..*length])),
             Answer::Model(0, record) | Answer::Read(0, _, record) => String::from(content(record)),
             Answer::Model(n, _)
@@ -297,7 +296,7 @@ impl Answer {
             | Answer::Read(n, ..) => n.to_string(),
             Answer::Printed(out) => match out.strip_prefix(b"refused ") {
                 Some(number) => String::from_utf8_lossy(number).trim().to_string(),
-                None => String::from(if out.is_empty() { "nothing" } else { content_of_text(out) }),
+                None => String::from(content_of_text(out)),
             },
             Answer::Nobody => String::from("nobody"),
         }

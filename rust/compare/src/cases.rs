@@ -3,7 +3,7 @@
 use crate::calls::{Answer, Call};
 use crate::chance::Chance;
 use crate::make::*;
-use crate::{dtds, forms, pairs, symbols};
+use crate::{dtds, forms, pairs, symbols, unused};
 use second::book::{bytes_of, Block};
 use second::record::{Record, EMPTY};
 
@@ -33,11 +33,13 @@ impl Kind {
 /// The quick ones first; those of two records behind all others.
 pub const KINDS: &[Kind] = &[
     Kind { name: "paper", cases: 1, fixed: true, make: paper },
+    Kind { name: "places", cases: 1, fixed: true, make: unused::written_down },
     Kind { name: "limits", cases: 1, fixed: true, make: limits },
     Kind { name: "texts", cases: 4000, fixed: false, make: texts },
     Kind { name: "records", cases: 3000, fixed: false, make: records },
     Kind { name: "writing", cases: 1500, fixed: false, make: writing },
     Kind { name: "damaged", cases: 2000, fixed: false, make: damaged },
+    Kind { name: "unused", cases: 600, fixed: false, make: unused::by_chance },
     Kind { name: "small", cases: 1000, fixed: false, make: small },
     Kind { name: "dtds", cases: 400, fixed: false, make: dtds::calls },
     Kind { name: "large", cases: 12, fixed: false, make: large },
@@ -51,7 +53,7 @@ fn undue(calls: Vec<Call>) -> Vec<Due> {
 }
 
 /// Parents on both sides of the limit, also such as would be good if they lost part of their number.
-fn edge_parents(c: &mut Chance, n: usize) -> Vec<usize> {
+pub fn edge_parents(c: &mut Chance, n: usize) -> Vec<usize> {
     let p = c.below(n);
     vec![n - 1, n, n + 1, *c.pick(&[64, 255, 256, 256 + p, 65536 + p, (1 << 32) + p, usize::MAX])]
 }
@@ -68,7 +70,7 @@ fn buffers(c: &mut Chance, length: usize) -> Vec<Vec<u8>> {
     sizes.into_iter().map(|size| buffer(c, size)).collect()
 }
 
-/// What is asked of every parent of a good book.
+/// What is asked of a parent of a book.
 fn calls_of_parent(c: &mut Chance, parts: &Parts, book: &[u8], parent: usize, calls: &mut Vec<Call>) {
     let n = parts.names.len();
     calls.push(Call::ModelOfParent { book: book.to_vec(), parent });
@@ -119,7 +121,7 @@ fn large(c: &mut Chance, case: u64) -> Vec<Due> {
         1 => c.from_to(59_000, 59_999),
         _ => c.from_to(4_000, 59_999),
     };
-    let parts = large_book(c, size);
+    let mut parts = large_book(c, size);
     let book = parts.bytes();
     assert!(book.len() == size, "{} bytes for {size}", book.len());
     let mut calls = Vec::new();
@@ -132,7 +134,8 @@ fn large(c: &mut Chance, case: u64) -> Vec<Due> {
     let mut longer = book.clone();
     longer.extend(vec![0; 60_001 - size]);
     let bad = damaged_book(c, &book);
-    for book in [longer, bad] {
+    forget_name(c, parts.names.len(), &mut parts.blocks);
+    for book in [longer, bad, parts.bytes()] {
         calls.push(Call::ModelOfParent { book: book.clone(), parent: 0 });
         calls.push(Call::WriteDtd { book: book.clone(), buffer: buffer(c, dtds::LONGEST) });
         calls.push(Call::Dtd { book });
@@ -198,7 +201,7 @@ fn records(c: &mut Chance, _: u64) -> Vec<Due> {
 
 fn writing(c: &mut Chance, _: u64) -> Vec<Due> {
     let n = count(c);
-    let parts = Parts { names: names(c, n), blocks: vec![] };
+    let parts = book_of_names(c, n);
     let book = parts.bytes();
     let parent = c.below(n);
     let good = model(c, n);
@@ -220,17 +223,17 @@ fn writing(c: &mut Chance, _: u64) -> Vec<Due> {
 
 fn texts(c: &mut Chance, _: u64) -> Vec<Due> {
     let n = count(c);
-    let names = names(c, n);
-    let book = bytes_of(&names, &[]);
+    let parts = book_of_names(c, n);
+    let (book, names) = (parts.bytes(), &parts.names);
     let record = model(c, n);
     let parent = c.below(n);
-    let good = spelling(c, &names, parent, &record);
-    let due = Answer::Read(0, parent, record);
+    let good = spelling(c, names, parent, &record);
+    let due = if parts.unused().is_empty() { Answer::Read(0, parent, record) } else { Answer::Read(17, 0, EMPTY) };
     let mut calls = vec![(Call::ReadDeclaration { book: book.clone(), text: good.clone() }, Some(due))];
     for _ in 0..4 {
-        let mut text = damaged_text(c, &names, &good);
+        let mut text = damaged_text(c, names, &good);
         if c.once_in(5) {
-            text = damaged_text(c, &names, &text);
+            text = damaged_text(c, names, &text);
         }
         calls.push((Call::ReadDeclaration { book: book.clone(), text }, None));
     }
@@ -256,8 +259,12 @@ fn two_bytes(n: usize) -> Vec<u8> {
     vec![(n % 256) as u8, (n / 256) as u8]
 }
 
+/// The count of one block and the block: a parent alone, and with another name as its child.
+const ONE_USED: &[u8] = &[1, 0, 0, 0, 0];
+const TWO_USED: &[u8] = &[1, 0, 0, 0, 1, 1];
+
 /// Books with the refusal that the papers give them, 0 for none.
-type Books = Vec<(Vec<u8>, u8)>;
+pub type Books = Vec<(Vec<u8>, u8)>;
 
 /// Books of one part after the other, each as bytes.
 fn joined(books: &[(&[&[u8]], u8)]) -> Books {
@@ -268,7 +275,8 @@ fn joined(books: &[(&[&[u8]], u8)]) -> Books {
 fn name_books() -> Books {
     let many = |n: usize| -> Vec<u8> {
         let name = |i: usize| named(&[b'A' + (i / 26) as u8, b'a' + (i % 26) as u8]);
-        [two_bytes(n), (0..n).flat_map(name).collect(), two_bytes(0)].concat()
+        let block = [&[0, 0, n as u8][..], &every_name(n).word].concat();
+        [two_bytes(n), (0..n).flat_map(name).collect(), two_bytes(1), block].concat()
     };
     let mut books = joined(&[
         (&[], 2),
@@ -283,17 +291,17 @@ fn name_books() -> Books {
         (&[&[1, 0, 33]], 4),
         (&[&[1, 0, 255]], 4),
         (&[&[1, 0, 32]], 2),
-        (&[&[1, 0], &named(&[b'a'; 32]), &[0, 0]], 0),
-        (&[&[1, 0], &named(&[b'a'; 33]), &[0, 0]], 4),
+        (&[&[1, 0], &named(&[b'a'; 32]), ONE_USED], 0),
+        (&[&[1, 0], &named(&[b'a'; 33]), ONE_USED], 4),
         (&[&[1, 0, 2, b'9']], 2),
         (&[&[1, 0, 2, b'a']], 2),
-        (&[&[2, 0], &named(b"ab"), &named(b"ab"), &[0, 0]], 5),
-        (&[&[2, 0], &named(b"b"), &named(b"a"), &[0, 0]], 5),
-        (&[&[2, 0], &named(b"ab"), &named(b"a"), &[0, 0]], 5),
-        (&[&[2, 0], &named(b"a"), &named(b"ab"), &[0, 0]], 0),
-        (&[&[2, 0], &named(b"B"), &named(b"a"), &[0, 0]], 0),
-        (&[&[2, 0], &named(b"a-"), &named(b"a."), &[0, 0]], 0),
-        (&[&[2, 0], &named(b"b"), &named(b"a!"), &[0, 0]], 4),
+        (&[&[2, 0], &named(b"ab"), &named(b"ab"), TWO_USED], 5),
+        (&[&[2, 0], &named(b"b"), &named(b"a"), TWO_USED], 5),
+        (&[&[2, 0], &named(b"ab"), &named(b"a"), TWO_USED], 5),
+        (&[&[2, 0], &named(b"a"), &named(b"ab"), TWO_USED], 0),
+        (&[&[2, 0], &named(b"B"), &named(b"a"), TWO_USED], 0),
+        (&[&[2, 0], &named(b"a-"), &named(b"a."), TWO_USED], 0),
+        (&[&[2, 0], &named(b"b"), &named(b"a!"), TWO_USED], 4),
         (&[&[0; 60_001]], 1),
         (&[&[255; 100_000]], 1),
     ]);
@@ -308,7 +316,7 @@ fn block_books() -> Books {
     joined(&[
         (&[a], 2),
         (&[a, &[0]], 2),
-        (&[a, &[0, 0]], 0),
+        (&[a, &[0, 0]], 17),
         (&[a, &[0, 0, 0]], 7),
         (&[a, &[255, 255]], 2),
         (&[a, &[255, 255, 1, 0]], 6),
@@ -319,8 +327,8 @@ fn block_books() -> Books {
         (&[a, &[1, 0, 0, 0, 0, 0]], 7),
         (&[a, &[1, 0, 0, 0, 255], &[0; 255]], 0),
         (&[a, &[1, 0, 0, 0, 255], &[0; 254]], 2),
-        (&[ab, &[1, 0, 1, 0, 0]], 0),
-        (&[ab, &[1, 0, 2, 0, 0]], 6),
+        (&[ab, &[1, 0, 1, 0, 1, 0]], 0),
+        (&[ab, &[1, 0, 2, 0, 1, 0]], 6),
         (&[ab, &[1, 0, 2]], 6),
         (&[ab, &[1, 0, 0, 0, 1, 1]], 0),
         (&[ab, &[1, 0, 0, 0, 1, 2]], 6),
@@ -341,7 +349,7 @@ fn block_books() -> Books {
         (&[ab, &[2, 0, 0, 1, 1, 1, 1, 255, 0]], 16),
         (&[ab, &[2, 0, 0, 0, 1, 2, 1, 2, 0]], 6),
         (&[ab, &[2, 0, 0, 2, 0, 2, 0, 0]], 16),
-        (&[ab, &[2, 0, 0, 0, 0, 0, 1, 0]], 0),
+        (&[ab, &[2, 0, 0, 0, 1, 1, 0, 1, 0]], 0),
     ])
 }
 
@@ -351,8 +359,8 @@ fn byte_books() -> Books {
     for b in 0..=255u8 {
         let number = |good: bool, bad: u8| if good { 0 } else { bad };
         books.extend(joined(&[
-            (&[&[1, 0], &named(&[b]), &[0, 0]], number(START.contains(&b), 4)),
-            (&[&[1, 0], &named(&[b'a', b]), &[0, 0]], number(LATER.contains(&b), 4)),
+            (&[&[1, 0], &named(&[b]), ONE_USED], number(START.contains(&b), 4)),
+            (&[&[1, 0], &named(&[b'a', b]), ONE_USED], number(LATER.contains(&b), 4)),
             (&[&[1, 0], &named(b"a"), &[1, 0, 0, b, 0]], number(b <= 1, 16)),
         ]));
     }
@@ -379,35 +387,35 @@ fn limit_books() -> Books {
     [name_books(), block_books(), longest_books()].concat()
 }
 
-/// A refused book refuses every call, with the same number.
-fn refusal_due(call: &Call, number: u8) -> Answer {
-    match call {
+/// A call that is refused with this number, and what is then due of it.
+pub fn refused(call: Call, number: u8) -> Due {
+    let due = match &call {
         Call::ModelOfParent { .. } => Answer::Model(number, EMPTY),
         Call::WriteFromSample { buffer, .. } | Call::WriteDeclaration { buffer, .. } | Call::WriteDtd { buffer, .. } => {
             Answer::Written(number, 0, buffer.clone())
         }
         Call::Dtd { .. } => Answer::Printed(format!("refused {number}\n").into_bytes()),
         _ => Answer::Read(number, 0, EMPTY),
+    };
+    (call, Some(due))
+}
+
+/// Every call that takes a book on this one, and the program where it is told so. It has this refusal, 0 for none.
+pub fn calls_of_limit(c: &mut Chance, (book, number): (Vec<u8>, u8), to_program: bool) -> Vec<Due> {
+    assert_eq!(second::book::read(&book).err().unwrap_or(0), number, "{}", book.escape_ascii());
+    let mut calls = calls_of_book(c, &book, 0);
+    if to_program {
+        calls.push(Call::Dtd { book });
     }
+    calls.into_iter().map(|call| if number == 0 { (call, None) } else { refused(call, number) }).collect()
 }
 
 fn limits(c: &mut Chance, _: u64) -> Vec<Due> {
-    let mut calls = Vec::new();
-    let mut add = |call: Call, number: u8| {
-        let due = (number != 0).then(|| refusal_due(&call, number));
-        calls.push((call, due));
-    };
     let at_limits = limit_books().into_iter().map(|one| (one, true));
     // Of the books for each byte one in eight is tried through the program too.
     let of_bytes = byte_books().into_iter().enumerate().map(|(i, one)| (one, i % 8 == 0));
-    for ((book, number), to_program) in at_limits.chain(of_bytes) {
-        for call in calls_of_book(c, &book, 0) {
-            add(call, number);
-        }
-        if to_program {
-            add(Call::Dtd { book }, number);
-        }
-    }
+    let books = at_limits.chain(of_bytes);
+    let mut calls: Vec<Due> = books.flat_map(|(book, to_program)| calls_of_limit(c, book, to_program)).collect();
     calls.extend(forms::white_space());
     calls.extend(forms::joined());
     calls
@@ -427,8 +435,13 @@ pub fn record(factors: &[(&str, u8)]) -> Record {
 }
 
 /// The names a to z.
-pub fn letters() -> Vec<Vec<u8>> {
+fn letters() -> Vec<Vec<u8>> {
     (b'a'..=b'z').map(|b| vec![b]).collect()
+}
+
+/// A book with the names a to z.
+pub fn letters_book() -> Vec<u8> {
+    bytes_of(&letters(), &[every_name(26)])
 }
 
 /// The longest declaration and the longest DTD, which has that declaration for each of 64 parents, each with a buffer one byte
@@ -464,7 +477,7 @@ fn longest() -> Vec<Due> {
 fn longest_with_text(names: &[Vec<u8>]) -> Vec<Due> {
     let text = [b"<!ELEMENT ", &names[0][..], b" (#PCDATA|", &names.join(&b'|'), b")*>"].concat();
     assert_eq!(text.len(), 2166);
-    let (book, parent, record) = (bytes_of(names, &[]), 0, Record::with_text((0..64).collect()));
+    let (book, parent, record) = (bytes_of(names, &[every_name(64)]), 0, Record::with_text((0..64).collect()));
     let write = |(buffer, due)| (Call::WriteDeclaration { book: book.clone(), parent, record, buffer }, Some(due));
     let mut calls: Vec<Due> = exact_short_longer(&text).into_iter().map(write).collect();
     calls.push((Call::ReadDeclaration { book, text }, Some(Answer::Read(0, parent, record))));
@@ -473,7 +486,7 @@ fn longest_with_text(names: &[Vec<u8>]) -> Vec<Due> {
 
 /// Buffers for a text with what is due of them: exact, one byte short, and with bytes behind the text.
 fn exact_short_longer(text: &[u8]) -> [(Vec<u8>, Answer); 3] {
-    [text.len(), text.len().saturating_sub(1), text.len() + 9].map(|size| {
+    [text.len(), text.len() - 1, text.len() + 9].map(|size| {
         let buffer = vec![0xa5; size];
         let due = match buffer.get(text.len()..) {
             Some(behind) => Answer::Written(0, text.len(), [text, behind].concat()),
@@ -517,15 +530,17 @@ fn calls_of_sample(sample: &str, model: &str, record: Record) -> Vec<Due> {
     let (parent, names) = (25, 26);
     let words: Vec<(u8, Vec<u8>)> =
         sample.split(' ').map(|w| (u8::from(w.starts_with('#')), word(w.trim_start_matches('#')))).collect();
-    let blocks: Vec<Block> = words.iter().map(|(text, word)| Block { parent: 25, text: *text, word: word.clone() }).collect();
-    let book = bytes_of(&letters(), &blocks);
+    let block = |(text, word): &(u8, Vec<u8>)| Block { parent: 25, text: *text, word: word.clone() };
+    // The first block uses all names but that of the parent.
+    let others = Block { parent: 24, text: 0, word: (0..24).collect() };
+    let book = bytes_of(&letters(), &[others].into_iter().chain(words.iter().map(block)).collect::<Vec<_>>());
     let text = format!("<!ELEMENT z {model}>").into_bytes();
     calls.push((Call::ModelOfParent { book: book.clone(), parent }, Some(Answer::Model(0, record))));
-    let line = [&text[..], b"\n"].concat();
-    for (buffer, due) in exact_short_longer(&line) {
+    let lines = [b"<!ELEMENT y (a,b,c,d,e,f,g,h,i,j,k,l,m,n,o,p,q,r,s,t,u,v,w,x)>\n", &text[..], b"\n"].concat();
+    for (buffer, due) in exact_short_longer(&lines) {
         calls.push((Call::WriteDtd { book: book.clone(), buffer }, Some(due)));
     }
-    calls.push((Call::Dtd { book: book.clone() }, Some(Answer::Printed(line))));
+    calls.push((Call::Dtd { book: book.clone() }, Some(Answer::Printed(lines))));
     for (_, word) in words {
         calls.push((Call::AcceptsWord { names, record, word }, Some(Answer::Verdict(0, true))));
     }
@@ -582,14 +597,12 @@ fn feed() -> Vec<Due> {
     let book = bytes_of(&feed, &[[3, 0, 5], [3, 2, 4], [3, 0, 4]].each_ref().map(block));
     let model = Record::of(&[(vec![3], 0), (vec![0, 2], 0), (vec![4, 5], 0)]);
     let text = b"<!ELEMENT entry (member,(contribution|leaver),(reason|total))>";
-    let no_block = bytes_of(&feed, &[]);
-    let mut calls = Vec::new();
-    for (book, printed) in [(book.clone(), [&text[..], b"\n"].concat()), (no_block, vec![])] {
-        for (buffer, due) in exact_short_longer(&printed) {
-            calls.push((Call::WriteDtd { book: book.clone(), buffer }, Some(due)));
-        }
-        calls.push((Call::Dtd { book }, Some(Answer::Printed(printed))));
-    }
+    let line = [&text[..], b"\n"].concat();
+    let write = |(buffer, due)| (Call::WriteDtd { book: book.clone(), buffer }, Some(due));
+    let mut calls: Vec<Due> = exact_short_longer(&line).into_iter().map(write).collect();
+    calls.push((Call::Dtd { book: book.clone() }, Some(Answer::Printed(line))));
+    // Without blocks no name is used.
+    calls.push((Call::Dtd { book: bytes_of(&feed, &[]) }, Some(Answer::Printed(b"refused 17\n".to_vec()))));
     for (parent, due) in [(1, Answer::Model(0, model)), (0, Answer::Model(9, EMPTY)), (6, Answer::Model(8, EMPTY))] {
         calls.push((Call::ModelOfParent { book: book.clone(), parent }, Some(due)));
     }

@@ -1,8 +1,8 @@
 //! The whole DTD of a book: buffers of every interesting length, every beginning of a book's blocks, and books that are refused
 //! behind some of their blocks.
 
-use crate::calls::{Answer, Call};
-use crate::cases::Due;
+use crate::calls::Call;
+use crate::cases::{refused, Due};
 use crate::chance::Chance;
 use crate::make::*;
 use second::book::{bytes_of, Block};
@@ -13,10 +13,10 @@ pub const LONGEST: usize = 144_256;
 /// Buffers for a DTD: none, one byte short, exact, longer, around the end of one of its lines, and any length.
 pub fn buffers(c: &mut Chance, text: &[u8]) -> Vec<Vec<u8>> {
     let ends: Vec<usize> = (1..=text.len()).filter(|&end| text[end - 1] == b'\n').collect();
-    let end = if ends.is_empty() { 1 } else { *c.pick(&ends) };
+    let end = *c.pick(&ends);
     let any = if c.once_in(20) { LONGEST } else { c.below(text.len() + 1) };
     let longer = text.len() + c.from_to(1, 40);
-    let sizes = [0, text.len().saturating_sub(1), text.len(), longer, end - 1, end, any];
+    let sizes = [0, text.len() - 1, text.len(), longer, end - 1, end, any];
     sizes.into_iter().map(|size| buffer(c, size)).collect()
 }
 
@@ -26,7 +26,7 @@ pub fn calls_of_buffers(c: &mut Chance, book: &[u8]) -> Vec<Call> {
     buffers(c, &text).into_iter().map(|buffer| Call::WriteDtd { book: book.to_vec(), buffer }).collect()
 }
 
-/// Samples of some parents or of all of them, their blocks in one of several orders.
+/// A good book: samples of some parents or of all of them, their blocks in one of several orders.
 fn many_parents(c: &mut Chance) -> Parts {
     let n = count(c);
     let names = names(c, n);
@@ -35,25 +35,22 @@ fn many_parents(c: &mut Chance) -> Parts {
     for parent in some_names(c, n, most) {
         blocks.extend(self::blocks(c, n, parent));
     }
+    // With some bytes to spare below the limit of a book.
+    c.shuffle(&mut blocks);
+    while bytes_of(&names, &blocks).len() > 58_000 {
+        blocks.truncate(blocks.len() / 2);
+    }
+    use_names(c, n, &mut blocks);
     match c.below(4) {
         0 => blocks.sort_by_key(|block| block.parent),
         1 => blocks.sort_by_key(|block| 255 - block.parent),
         _ => c.shuffle(&mut blocks),
     }
-    // With some bytes to spare below the limit of a book.
-    while bytes_of(&names, &blocks).len() > 59_000 {
-        blocks.truncate(blocks.len() / 2);
-    }
     Parts { names, blocks }
 }
 
-/// What is due of a refused book, whatever the buffer is.
-fn refused(c: &mut Chance, book: Vec<u8>, number: u8, size: usize) -> Due {
-    let buffer = buffer(c, size);
-    (Call::WriteDtd { book, buffer: buffer.clone() }, Some(Answer::Written(number, 0, buffer)))
-}
-
-/// Books that are good up to one block and bad there or behind it. The buffers have room for the lines of the blocks before.
+/// Books that are good up to one block and bad there or behind it, and one with an unused name. The buffers have room
+/// for the lines of the blocks before, or none.
 fn refused_books(c: &mut Chance, parts: &Parts) -> Vec<Due> {
     let good = parts.bytes();
     let room = second::calls::dtd(&good).len() + 10;
@@ -67,23 +64,34 @@ fn refused_books(c: &mut Chance, parts: &Parts) -> Vec<Due> {
     let bad_text = [&cut[..], &[parent, 2]].concat();
     let far_child = [&cut[..], &[parent, 1, 2, 0, n as u8]].concat();
     let left_over = [&good[..], &[0]].concat();
-    let bad = [(&cut, 2), (&far_parent, 6), (&bad_text, 16), (&far_child, 6), (&left_over, 7)];
-    let mut calls: Vec<Due> = bad.map(|(book, number)| refused(c, book.clone(), number, room)).into();
-    // The book's refusal comes before that of the buffer.
-    calls.extend(bad.map(|(book, number)| refused(c, book.clone(), number, 0)));
+    let mut forgotten = parts.clone();
+    forget_name(c, n, &mut forgotten.blocks);
+    let unused = forgotten.bytes();
+    let bad = [(&cut, 2), (&far_parent, 6), (&bad_text, 16), (&far_child, 6), (&left_over, 7), (&unused, 17)];
+    let mut calls = Vec::new();
+    for size in [room, 0] {
+        for (book, number) in bad {
+            calls.push(refused(Call::WriteDtd { book: book.clone(), buffer: buffer(c, size) }, number));
+        }
+    }
     calls
 }
 
-/// After each block, or after some of very many, the DTD is that of the blocks so far.
+/// After each block, or after some of very many, the DTD is that of the blocks so far. Up to some block names are
+/// unused; with blocks in front that use all names there is a DTD after each.
 fn beginnings(c: &mut Chance, parts: &Parts) -> Vec<Due> {
     let all = parts.blocks.len();
-    let mut counts: Vec<usize> = if all <= 24 { (0..=all).collect() } else { (0..24).map(|_| c.below(all + 1)).collect() };
-    counts.push(all);
+    let some: Vec<usize> = (0..9).map(|_| c.below(all)).chain([all]).collect();
+    let counts = if all <= 24 { (0..=all).collect() } else { some };
+    let mut front = Vec::new();
+    use_names(c, parts.names.len(), &mut front);
     let mut calls = Vec::new();
     for m in counts {
-        let book = bytes_of(&parts.names, &parts.blocks[..m]);
-        let size = second::calls::dtd(&book).len() + c.below(4);
-        calls.push((Call::WriteDtd { book, buffer: buffer(c, size) }, None));
+        for front in [&[], &front[..]] {
+            let book = bytes_of(&parts.names, &[front, &parts.blocks[..m]].concat());
+            let size = second::calls::dtd(&book).len() + c.below(4);
+            calls.push((Call::WriteDtd { book, buffer: buffer(c, size) }, None));
+        }
     }
     calls
 }

@@ -3,9 +3,8 @@
 //! every ending.
 
 use crate::calls::{Answer, Call};
-use crate::cases::{letters, record, word, Due, Factors};
+use crate::cases::{letters_book, record, word, Due, Factors};
 use crate::make::{LATER, WHITE};
-use second::book::bytes_of;
 use second::record::{Record, EMPTY};
 
 /// Models that are read.
@@ -110,7 +109,7 @@ fn refused(number: u8) -> Answer {
 
 /// The texts above; the parent is z, number 25.
 pub fn texts() -> Vec<Due> {
-    let book = bytes_of(&letters(), &[]);
+    let book = letters_book();
     let call = |text: &[u8], due: Answer| (Call::ReadDeclaration { book: book.clone(), text: text.to_vec() }, Some(due));
     let of_model = |model: &str, due: Answer| call(format!("<!ELEMENT z {model}>").as_bytes(), due);
     let mut calls: Vec<Due> = READ.iter().map(|(model, factors)| of_model(model, Answer::Read(0, 25, record(factors)))).collect();
@@ -163,7 +162,7 @@ fn with_bytes(text: &str, place: usize, bytes: &[u8]) -> Vec<u8> {
 /// Every byte at each of these places. Except where white space has to be, what is due of a name's byte or a mark is left to the
 /// second implementation.
 pub fn white_space() -> Vec<Due> {
-    let book = bytes_of(&letters(), &[]);
+    let book = letters_book();
     let mut calls: Vec<Due> = Vec::new();
     let of_factors = PLACED.iter().map(|(text, factors)| (text, record(factors)));
     let of_text = PLACED_WITH_TEXT.iter().map(|(text, names)| (text, with_text(names)));
@@ -245,7 +244,7 @@ const ENDINGS: &[&str] = &[
 
 /// Every token between every beginning and every ending, with and without white space before it and behind it.
 pub fn joined() -> Vec<Due> {
-    let book = bytes_of(&letters(), &[]);
+    let book = letters_book();
     let mut calls = Vec::new();
     for beginning in BEGINNINGS {
         for token in TOKENS {

@@ -10,6 +10,7 @@ pub mod make;
 pub mod pairs;
 pub mod program;
 pub mod symbols;
+pub mod unused;
 
 use calls::{Answer, Call, Calls, Second};
 use cases::{Kind, KINDS};
@@ -25,17 +26,17 @@ pub struct Reached(pub BTreeMap<(&'static str, String), u64>);
 
 /// The answers that each call has to give at least once in a whole run.
 const DUE: &[(&str, &str)] = &[
-    ("model_of_parent", "0 text mixed 1 2 3 4 5 6 7 16 8 9"),
+    ("model_of_parent", "0 text mixed 1 2 3 4 5 6 7 16 17 8 9"),
     ("accepts_word", "yes yes-text no no-text 3 10 10-text 11"),
     (
         "within",
         "yes yes-text no no-text empty empty-text longest 3 10-first 10-first-text 10-second 10-second-text 10-both 12-yes 12-no",
     ),
-    ("write_declaration", "0 text mixed 1 2 3 4 5 6 7 16 8 10 10-text 12"),
-    ("write_from_sample", "0 text mixed 1 2 3 4 5 6 7 16 8 9 12"),
-    ("write_dtd", "0 text mixed nothing 1 2 3 4 5 6 7 16 12"),
-    ("read_declaration", "0 text mixed 1 2 3 4 5 6 7 16 13 14 15"),
-    ("dtd", "0 text mixed nothing 1 2 3 4 5 6 7 16"),
+    ("write_declaration", "0 text mixed 1 2 3 4 5 6 7 16 17 8 10 10-text 12"),
+    ("write_from_sample", "0 text mixed 1 2 3 4 5 6 7 16 17 8 9 12"),
+    ("write_dtd", "0 text mixed 1 2 3 4 5 6 7 16 17 12"),
+    ("read_declaration", "0 text mixed 1 2 3 4 5 6 7 16 17 13 14 15"),
+    ("dtd", "0 text mixed 1 2 3 4 5 6 7 16 17"),
 ];
 
 impl Reached {

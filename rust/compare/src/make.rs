@@ -290,7 +290,8 @@ fn layered(c: &mut Chance, n: usize) -> Vec<Vec<u8>> {
     words
 }
 
-/// A good book in parts.
+/// A book in parts. It is a good one where it has no unused name.
+#[derive(Clone)]
 pub struct Parts {
     pub names: Vec<Vec<u8>>,
     pub blocks: Vec<Block>,
@@ -300,6 +301,76 @@ impl Parts {
     pub fn bytes(&self) -> Vec<u8> {
         bytes_of(&self.names, &self.blocks)
     }
+
+    /// The names that are neither a parent nor a child in any block.
+    pub fn unused(&self) -> Vec<u8> {
+        unused(self.names.len(), &self.blocks)
+    }
+}
+
+fn unused(n: usize, blocks: &[Block]) -> Vec<u8> {
+    let names = |block: &Block| [&block.word[..], &[block.parent]].concat();
+    let used: BTreeSet<u8> = blocks.iter().flat_map(names).collect();
+    (0..n as u8).filter(|name| !used.contains(name)).collect()
+}
+
+/// A block that has each of n names as a child.
+pub fn every_name(n: usize) -> Block {
+    Block { parent: 0, text: 0, word: (0..n as u8).collect() }
+}
+
+/// Adds blocks that use those of n names which no block uses so far: as parents alone, as parents of others of them, or
+/// as children of any parent.
+pub fn use_names(c: &mut Chance, n: usize, blocks: &mut Vec<Block>) {
+    let mut left = unused(n, blocks);
+    c.shuffle(&mut left);
+    while let Some(name) = left.pop() {
+        let from = if c.once_in(2) { 0 } else { c.from_to(0, left.len()) };
+        let (parent, text) = (name, u8::from(c.once_in(4)));
+        blocks.push(match c.below(3) {
+            0 => Block { parent, text, word: vec![] },
+            1 => Block { parent, text, word: left.split_off(from) },
+            _ => Block { parent: c.below(n) as u8, text: 0, word: [vec![name], left.split_off(from)].concat() },
+        });
+    }
+}
+
+/// Puts another name everywhere in the place of one of n names, which is then unused. Without another, the blocks go.
+pub fn forget_name(c: &mut Chance, n: usize, blocks: &mut Vec<Block>) {
+    if n == 1 {
+        blocks.clear();
+        return;
+    }
+    let name = c.below(n);
+    let other = (name + c.from_to(1, n - 1)) % n;
+    for block in blocks {
+        for x in block.word.iter_mut().chain([&mut block.parent]).filter(|x| **x as usize == name) {
+            *x = other as u8;
+        }
+    }
+}
+
+/// Completes the blocks of a book over n names. In 19 of 20 books every name is used; the others have no block, or one
+/// unused name, or those that were unused before.
+fn complete(c: &mut Chance, n: usize, blocks: &mut Vec<Block>) {
+    match c.below(60) {
+        0 => blocks.clear(),
+        1 => {}
+        kind => {
+            use_names(c, n, blocks);
+            if kind == 2 {
+                forget_name(c, n, blocks);
+            }
+        }
+    }
+}
+
+/// A book over n names, for calls that look at no block of it but to check it.
+pub fn book_of_names(c: &mut Chance, n: usize) -> Parts {
+    let names = names(c, n);
+    let mut blocks = Vec::new();
+    complete(c, n, &mut blocks);
+    Parts { names, blocks }
 }
 
 /// The blocks of a parent with a sample over n names. Of three parents one has text in some of them or in all, and of three with
@@ -324,21 +395,20 @@ pub fn small_book(c: &mut Chance) -> Parts {
     for parent in some_names(c, n, 4) {
         blocks.extend(self::blocks(c, n, parent));
     }
-    if c.once_in(15) {
-        blocks.clear();
-    }
+    complete(c, n, &mut blocks);
     c.shuffle(&mut blocks);
     Parts { names, blocks }
 }
 
-/// A book of exactly `size` bytes: many blocks, some of them long. Every fourth parent has text in some of its blocks.
+/// A good book of exactly `size` bytes: many blocks, some of them long. Every fourth parent has text in some blocks.
 pub fn large_book(c: &mut Chance, size: usize) -> Parts {
     let n = c.from_to(1, 64);
     let names = names(c, n);
-    let mut left = size - bytes_of(&names, &[]).len();
     let parents = some_names(c, n, 64);
     let shape = c.below(3);
     let mut blocks: Vec<Block> = Vec::new();
+    use_names(c, n, &mut blocks);
+    let mut left = size - bytes_of(&names, &blocks).len();
     while left >= 3 {
         let parent = *c.pick(&parents);
         let words = match shape {
@@ -358,10 +428,11 @@ pub fn large_book(c: &mut Chance, size: usize) -> Parts {
     // One byte or two that no block can fill lengthen the shortest word.
     let shortest = blocks.iter_mut().min_by_key(|b| b.word.len()).unwrap();
     shortest.word.extend(vec![0; left]);
+    c.shuffle(&mut blocks);
     Parts { names, blocks }
 }
 
-/// A good book with one change by chance, which most often makes it bad.
+/// A book with one change by chance, which most often makes it bad.
 pub fn damaged_book(c: &mut Chance, good: &[u8]) -> Vec<u8> {
     let mut b = good.to_vec();
     let at = c.below(b.len());

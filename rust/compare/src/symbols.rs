@@ -4,7 +4,7 @@
 use crate::calls::{Answer, Call};
 use crate::cases::Due;
 use crate::chance::Chance;
-use crate::make::PCDATA;
+use crate::make::{every_name, PCDATA};
 use second::book::bytes_of;
 use second::record::{Record, EMPTY};
 use std::collections::BTreeSet;
@@ -89,7 +89,7 @@ impl Alphabet {
 
     fn calls(&self, case: u64) -> Vec<Due> {
         let names = self.names();
-        let book = bytes_of(&names, &[]);
+        let book = bytes_of(&names, &[every_name(names.len())]);
         let formed = self.formed();
         let mut calls = Vec::new();
         for i in case * SIZE..self.count().min((case + 1) * SIZE) {

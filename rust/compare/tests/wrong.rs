@@ -1,7 +1,7 @@
 //! The comparison finds wrong programs: the traps and worthless versions of paper 01, answers that are wrong at one limit,
 //! readers that take less or more than request U1 of paper 02 allows, DTDs that are not those of request U2, answers on two
-//! records that are not those of request U4, and text that is not that of request U5. Each is the second implementation with one
-//! fault.
+//! records that are not those of request U4, text that is not that of request U5, and unused names that are not those
+//! of request U6. Each is the second implementation with one fault.
 
 use compare::calls::{Calls, Second};
 use compare::cases::{Kind, KINDS};
@@ -68,6 +68,32 @@ faults! {
     TextByteOneRefused,
     TextByteTwoTaken,
     TextByteIsNumber,
+    // Of unused names: what is a use,
+    ParentIsNoUse,
+    ParentWithoutChildrenIsNoUse,
+    ChildIsNoUse,
+    FirstChildIsNoUse,
+    LastChildIsNoUse,
+    TextBlockIsNoUse,
+    FirstBlockIsNoUse,
+    LastBlockIsNoUse,
+    OtherParentsAreNoUse,
+    // which names are looked at,
+    FirstNameAloneLookedAt,
+    LastNameAloneLookedAt,
+    LastNameNotLookedAt,
+    UnusedTaken,
+    UnusedOf64Taken,
+    NoBlocksTaken,
+    // and its place among the refusals.
+    UnusedBeforeLeftOver,
+    ParentBeforeUnused,
+    NoBlockBeforeUnused,
+    RecordBeforeUnused,
+    BufferBeforeUnused,
+    FormBeforeUnused,
+    NamesBeforeUnused,
+    UnusedBookWritten,
     // Of records with text.
     TextOfTwoFactorsTaken,
     TextOfOtherModeTaken,
@@ -156,7 +182,6 @@ faults! {
     // and the buffer.
     LinesWrittenWhereShort,
     LineFeedNotCountedWhereShort,
-    EmptyBufferRefused,
     DtdExactRefused,
     DtdLengthOneMore,
     DtdLengthOneLess,
@@ -338,12 +363,13 @@ impl Wrong {
             (OrderOfNamesUnchecked, 5) => 0,
             (TextByteBehindChildCount, 16) if first_bad_block(bytes).len() == 2 => 2,
             (TextByteBeforeParent, 6) if first_bad_block(bytes).get(1).is_some_and(|text| *text > 1) => 16,
-            (TextByteOneRefused, n) if n != 16 && book::read(bytes).is_ok_and(|b| b.blocks.iter().any(|b| b.text == 1)) => 16,
+            (TextByteOneRefused, _) if has_text(bytes) => 16,
             (TextByteTwoTaken, 16) if first_bad_block(bytes)[1] == 2 => 0,
             (TextByteIsNumber, 16) => 6,
             (LeftOverTaken, 7) => 0,
             (SixtyThousandRefused, n) if bytes.len() == 60_000 && n == 0 => 1,
-            (_, n) => n,
+            (UnusedBeforeLeftOver, 7) if book_so_far(bytes).is_some_and(|book| self.leaves_unused(&book)) => 17,
+            (_, n) => self.number_of_names(bytes, n),
         }
     }
 
@@ -406,7 +432,7 @@ impl Calls for Wrong {
     fn model_of_parent(&mut self, book: &[u8], parent: usize) -> (u8, Record) {
         let parent = if self.is(ParentCut) { parent % 256 } else { parent };
         let (number, record) = Second.model_of_parent(book, parent);
-        let number = self.number(book, number);
+        let number = self.number_with_parent(book, parent, number);
         match number {
             0 if book::read(book).is_ok() => (0, self.model(book, parent as u8)),
             8 if self.is(ParentEqualToN) && book::read(book).unwrap().names.len() == parent => (9, record),
@@ -454,16 +480,19 @@ impl Calls for Wrong {
     fn write_declaration(&mut self, bytes: &[u8], parent: usize, record: &Record, buffer: &mut [u8]) -> (u8, usize) {
         let mut whole = [0u8; 4096];
         let (number, length) = Second.write_declaration(bytes, parent, &self.checked(record), &mut whole);
-        if number != 0 {
-            return (self.number(bytes, number), 0);
+        match (self.0, self.number_with_parent(bytes, parent, number)) {
+            (RecordBeforeUnused, 17) if !record.is_model(names_of(bytes).len()) => (10, 0),
+            (BufferBeforeUnused, 17) if buffer.is_empty() => (12, 0),
+            (_, 0) => self.put(&self.spelled(&whole[..length]), buffer),
+            (_, number) => (number, 0),
         }
-        self.put(&self.spelled(&whole[..length]), buffer)
     }
 
     fn write_from_sample(&mut self, bytes: &[u8], parent: usize, buffer: &mut [u8]) -> (u8, usize) {
         let (number, record) = self.model_of_parent(bytes, parent);
         match book::read(bytes) {
             Ok(book) if number == 0 => self.put(&self.spelled(&written(&book.names, parent, &record)), buffer),
+            _ if self.is(BufferBeforeUnused) && number == 17 && buffer.is_empty() => (12, 0),
             _ => (number, 0),
         }
     }
@@ -486,6 +515,11 @@ impl Calls for Wrong {
                 let (number, parent, record) = self.answers(text, number, parent, record);
                 (self.number(book, number), parent, record)
             }
+            17 => match (self.0, second::declaration::read(&names_of(book), text)) {
+                (FormBeforeUnused, Err(13)) => (13, 0, EMPTY),
+                (NamesBeforeUnused, Err(number @ (14 | 15))) => (number, 0, EMPTY),
+                _ => (self.number(book, 17), 0, EMPTY),
+            },
             _ => (self.number(book, number), parent, record),
         }
     }
@@ -493,6 +527,90 @@ impl Calls for Wrong {
     fn dtd(&mut self, book: &[u8]) -> Option<Vec<u8>> {
         Second.dtd(book)
     }
+}
+
+/// The faults of unused names.
+impl Wrong {
+    fn uses(&self, block: &Block, name: u8) -> bool {
+        let (word, all) = (&block.word[..], block.word.len());
+        let as_parent = match self.0 {
+            ParentIsNoUse => false,
+            ParentWithoutChildrenIsNoUse => all > 0,
+            _ => true,
+        };
+        let children = match self.0 {
+            ChildIsNoUse => &[],
+            FirstChildIsNoUse => &word[all.min(1)..],
+            LastChildIsNoUse => &word[..all.saturating_sub(1)],
+            _ => word,
+        };
+        let looked_at = !(self.is(TextBlockIsNoUse) && block.text == 1);
+        looked_at && ((as_parent && block.parent == name) || children.contains(&name))
+    }
+
+    /// Whether none of these blocks uses one of the names that are looked at.
+    fn leaves_unused_in(&self, n: u8, blocks: &[&Block]) -> bool {
+        let mut looked_at = match self.0 {
+            FirstNameAloneLookedAt => 0..1,
+            LastNameAloneLookedAt => n - 1..n,
+            LastNameNotLookedAt => 0..n - 1,
+            UnusedTaken => 0..0,
+            UnusedOf64Taken if n == 64 => 0..0,
+            NoBlocksTaken if blocks.is_empty() => 0..0,
+            _ => 0..n,
+        };
+        looked_at.any(|name| !blocks.iter().any(|block| self.uses(block, name)))
+    }
+
+    fn leaves_unused(&self, book: &Book) -> bool {
+        let (n, all) = (book.names.len() as u8, book.blocks.len());
+        let blocks: Vec<&Block> = book.blocks.iter().collect();
+        match self.0 {
+            FirstBlockIsNoUse => self.leaves_unused_in(n, &blocks[all.min(1)..]),
+            LastBlockIsNoUse => self.leaves_unused_in(n, &blocks[..all.saturating_sub(1)]),
+            _ => self.leaves_unused_in(n, &blocks),
+        }
+    }
+
+    /// The number of a book, with the faults of a use and of the names that are looked at.
+    fn number_of_names(&self, bytes: &[u8], number: u8) -> u8 {
+        if !faults(ParentIsNoUse, UnusedBeforeLeftOver).any(|fault| self.is(fault)) {
+            return number;
+        }
+        match book::read_fields(bytes) {
+            Ok(book) if self.leaves_unused(&book) => 17,
+            Ok(_) if number == 17 => 0,
+            _ => number,
+        }
+    }
+
+    /// A refusal of a call on a book and a parent.
+    fn number_with_parent(&self, bytes: &[u8], parent: usize, number: u8) -> u8 {
+        let number = self.number(bytes, number);
+        let of_parent = matches!(self.0, ParentBeforeUnused | NoBlockBeforeUnused | OtherParentsAreNoUse);
+        if !of_parent || !matches!(number, 0 | 17) {
+            return number;
+        }
+        let book = book::read_fields(bytes).unwrap();
+        let n = book.names.len();
+        let blocks = book.blocks_of(parent as u8);
+        match (self.0, number) {
+            (ParentBeforeUnused, 17) if parent >= n => 8,
+            (NoBlockBeforeUnused, 17) if parent < n && blocks.is_empty() => 9,
+            (OtherParentsAreNoUse, 0) if self.leaves_unused_in(n as u8, &blocks) => 17,
+            _ => number,
+        }
+    }
+}
+
+/// Whether a block of a book that is good field by field has text.
+fn has_text(bytes: &[u8]) -> bool {
+    book::read_fields(bytes).is_ok_and(|book| book.blocks.iter().any(|block| block.text == 1))
+}
+
+/// The names of a book that is good field by field.
+fn names_of(bytes: &[u8]) -> Vec<Vec<u8>> {
+    book::read_fields(bytes).unwrap().names
 }
 
 /// Whether a chain has a word with these two side by side; none before is its start, and none behind its end.
@@ -677,10 +795,10 @@ impl Wrong {
     /// What is answered for a book that is refused, and what is then in the buffer.
     fn refused_dtd(&self, bytes: &[u8], number: u8, buffer: &mut [u8]) -> (u8, usize) {
         let so_far = book_so_far(bytes).map_or(vec![], |book| self.lines(&book));
-        match self.0 {
-            BufferBeforeBook if buffer.len() < so_far.len() => (12, 0),
-            RefusedBookTaken if !so_far.is_empty() => self.put_dtd(&so_far, buffer),
-            RefusedBookWritten if buffer.len() >= so_far.len() => {
+        match (self.0, number == 17) {
+            (BufferBeforeBook, false) | (BufferBeforeUnused, true) if buffer.len() < so_far.len() => (12, 0),
+            (RefusedBookTaken, false) if !so_far.is_empty() => self.put_dtd(&so_far, buffer),
+            (RefusedBookWritten, false) | (UnusedBookWritten, true) if buffer.len() >= so_far.len() => {
                 buffer[..so_far.len()].copy_from_slice(&so_far);
                 (number, 0)
             }
@@ -695,8 +813,7 @@ impl Wrong {
             return (0, room);
         }
         let wanted = match self.0 {
-            EmptyBufferRefused => size.max(1),
-            DtdExactRefused if size > 0 => size + 1,
+            DtdExactRefused => size + 1,
             _ => size,
         };
         if room < wanted {
@@ -714,7 +831,7 @@ impl Wrong {
         }
         match self.0 {
             DtdLengthOneMore => (0, size + 1),
-            DtdLengthOneLess => (0, size.saturating_sub(1)),
+            DtdLengthOneLess => (0, size - 1),
             _ => (0, size),
         }
     }
@@ -726,7 +843,7 @@ fn book_so_far(bytes: &[u8]) -> Option<Book> {
     for _ in 0..*bytes.first()? {
         at += 1 + *bytes.get(at)? as usize;
     }
-    let mut book = book::read(&[bytes.get(..at)?, &[0, 0]].concat()).ok()?;
+    let mut book = book::read_fields(&[bytes.get(..at)?, &[0, 0]].concat()).ok()?;
     let good = |x: &u8| (*x as usize) < book.names.len();
     let mut left = bytes.get(at + 2..)?;
     while let Some((&[parent, text, size], rest)) = left.split_first_chunk() {
@@ -932,8 +1049,8 @@ fn faults(from: Fault, to: Fault) -> impl Iterator<Item = Fault> {
 fn every_fault_is_found() {
     // Those of two records have a test of their own.
     for fault in faults(FAULTS[0], EmptyWordNotLookedAt).chain(faults(OneByteShortTaken, None)) {
-        // Without the first kind, which has the samples and texts of the papers written out: chance has to find it too.
-        found(fault, &KINDS[1..]);
+        // Without the first two kinds, which have samples, texts and unused names written out: chance has to find it.
+        found(fault, &KINDS[2..]);
     }
 }
 
@@ -941,6 +1058,14 @@ fn every_fault_is_found() {
 fn kind(name: &str) -> &'static [Kind] {
     let at = KINDS.iter().position(|kind| kind.name == name).unwrap();
     &KINDS[at..=at]
+}
+
+#[test]
+fn every_fault_of_unused_names_is_found_at_each_place_and_by_chance() {
+    for fault in faults(ParentIsNoUse, TextOfTwoFactorsTaken) {
+        found(fault, kind("places"));
+        found(fault, kind("unused"));
+    }
 }
 
 #[test]

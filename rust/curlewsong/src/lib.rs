@@ -46,6 +46,7 @@ impl std::fmt::Display for Refusal {
             14 => "a name in the text, the parent's included, is not in the book",
             15 => "the model in the text has a name twice",
             16 => "a text byte in the book is above 1",
+            17 => "a name in the book is neither a parent nor a child in any block",
             _ => "no refusal of this table",
         };
         write!(f, "refused {}: {reason}", self.0)

@@ -1,4 +1,5 @@
-//! What the engineer's card says of text, and where it cannot be read or written. Needs the static library.
+//! What the engineer's card says of text and of unused names, and where it cannot be read or written. Needs the static
+//! library.
 
 use std::fs::OpenOptions;
 use std::io::Write;
@@ -32,13 +33,14 @@ fn a_card_that_cannot_be_written_is_no_success() {
     assert_eq!(card(BOOK, writer.into()), (Some(1), String::new()));
 }
 
-/// The status and the card of a book on standard input.
+/// The status of a book on standard input, with its card and the messages.
 fn card_of(book: &[u8]) -> (Option<i32>, String) {
-    let mut child =
-        Command::new(env!("CARGO_BIN_EXE_card")).stdin(Stdio::piped()).stdout(Stdio::piped()).spawn().expect("the card starts");
+    let mut command = Command::new(env!("CARGO_BIN_EXE_card"));
+    command.stdin(Stdio::piped()).stdout(Stdio::piped()).stderr(Stdio::piped());
+    let mut child = command.spawn().expect("the card starts");
     child.stdin.take().unwrap().write_all(book).unwrap();
     let done = child.wait_with_output().unwrap();
-    (done.status.code(), String::from_utf8(done.stdout).unwrap())
+    (done.status.code(), String::from_utf8([done.stdout, done.stderr].concat()).unwrap())
 }
 
 #[test]
@@ -81,4 +83,41 @@ fn a_stray_text_hides_no_pair() {
         );
         assert_eq!(card_of(&entries(texts)), (Some(0), said));
     }
+}
+
+/// A book with the names a, b, c and d and these blocks.
+fn four_names(blocks: &[&[u8]]) -> Vec<u8> {
+    let names = [4, 0, 1, b'a', 1, b'b', 1, b'c', 1, b'd'];
+    [&names[..], &[blocks.len() as u8, 0], &blocks.concat()].concat()
+}
+
+#[test]
+fn the_first_unused_name_is_named() {
+    let cases: [(&[&[u8]], &str); 4] = [
+        (&[&[0, 0, 2, 1, 3]], "name 2, 'c'"),
+        (&[&[1, 0, 1, 2]], "name 0, 'a', and 1 more"),
+        (&[&[0, 1, 0], &[2, 0, 0]], "name 1, 'b', and 1 more"),
+        (&[], "name 0, 'a', and 3 more"),
+    ];
+    for (blocks, unused) in cases {
+        let said = format!(
+            "card: standard input: refused 17: a name in the book is neither a parent nor a child in any block \
+             ({unused}); remove each such name, or add a block that uses it\n"
+        );
+        assert_eq!(card_of(&four_names(blocks)), (Some(1), said));
+    }
+}
+
+#[test]
+fn a_refusal_before_17_names_no_unused_name() {
+    let left_over = [four_names(&[&[0, 0, 0]]), vec![0]].concat();
+    let said = "card: standard input: refused 7: the book has bytes left over after its last block\n";
+    assert_eq!(card_of(&left_over), (Some(1), said.to_string()));
+}
+
+#[test]
+fn names_without_a_block_of_their_own_are_used() {
+    // Parent 0 has no block, so the library refuses its model with 9.
+    let said = "<!ELEMENT b (a,c,d)>\nparents with a block: 1; declared, read back and with no lost loop or text: 1\n";
+    assert_eq!(card_of(&four_names(&[&[1, 0, 3, 0, 2, 3]])), (Some(0), said.to_string()));
 }

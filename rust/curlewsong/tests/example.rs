@@ -154,8 +154,61 @@ fn no_dtd() {
         assert_eq!(buffer, [7; 99]);
         assert_eq!(write_dtd(&bad, &mut []), Err(Refusal(number)));
     }
-    // A book without blocks.
-    assert_eq!(write_dtd(&[1, 0, 1, b'a', 0, 0], &mut []), Ok(0));
+}
+
+/// Every call that takes a book refuses this one, whatever else it is given, and keeps its buffer.
+fn refused_by_every_call(book: &[u8], number: u8) {
+    let bad = Model { count: 1, ..EMPTY };
+    for parent in [0, 1, 2, 3, usize::MAX] {
+        assert_eq!(model_of_parent(book, parent), Err(Refusal(number)));
+        assert_eq!(raw::model_of_parent(book, parent), (number, EMPTY));
+        for size in [0, 99] {
+            let mut buffer = vec![7; size];
+            assert_eq!(raw::write_from_sample(book, parent, &mut buffer), (number, 0));
+            assert_eq!(raw::write_declaration(book, parent, EMPTY, &mut buffer), (number, 0));
+            assert_eq!(raw::write_declaration(book, parent, bad, &mut buffer), (number, 0));
+            assert_eq!(raw::write_dtd(book, &mut buffer), (number, 0));
+            assert_eq!(buffer, vec![7; size]);
+        }
+    }
+    for text in ["<!ELEMENT a (b)>", "", "<!ELEMENT x (b)>", "<!ELEMENT a (b,b)>"] {
+        assert_eq!(raw::read_declaration(book, text.as_bytes()), (number, 0, EMPTY), "{text}");
+    }
+}
+
+#[test]
+fn unused_names() {
+    let names = [3, 0, 1, b'a', 1, b'b', 1, b'c'];
+    let book = |blocks: &[u8]| [&names[..], blocks].concat();
+    // No block; then c, b and a are unused.
+    let unused: [&[u8]; 4] = [&[0, 0], &[1, 0, 0, 0, 1, 1], &[2, 0, 0, 1, 0, 2, 0, 0], &[1, 0, 1, 0, 2, 2, 1]];
+    for blocks in unused {
+        refused_by_every_call(&book(blocks), 17);
+        refused_by_every_call(&book(&[blocks, &[0]].concat()), 7);
+    }
+    // Every name is a parent alone; then two of them are children alone.
+    assert_eq!(model_of_parent(&book(&[3, 0, 0, 0, 0, 1, 0, 0, 2, 0, 0]), 2), Ok(EMPTY));
+    assert_eq!(model_of_parent(&book(&[1, 0, 2, 0, 2, 0, 1]), 2), Ok(chain(&[(&[0], 0), (&[1], 0)])));
+    // A book that uses every name is refused for what comes behind.
+    let good = book(&[1, 0, 2, 0, 2, 0, 1]);
+    assert_eq!(model_of_parent(&good, 3), Err(Refusal(8)));
+    assert_eq!(model_of_parent(&good, 0), Err(Refusal(9)));
+    assert_eq!(write_dtd(&good, &mut []), Err(Refusal(12)));
+    assert_eq!(read_declaration(&good, b""), Err(Refusal(13)));
+}
+
+#[test]
+fn sixty_four_names_used_and_unused() {
+    let name = |i: u8| [3, b'n', b'0' + i / 10, b'0' + i % 10];
+    let names: Vec<u8> = [64, 0].into_iter().chain((0..64).flat_map(name)).collect();
+    for unused in 0..64 {
+        // The others are children of one parent; then one block more has the last one as its parent.
+        let word: Vec<u8> = (0..64).filter(|x| *x != unused).collect();
+        let block = [&[word[0], 0, 63][..], &word].concat();
+        refused_by_every_call(&[&names[..], &[1, 0], &block].concat(), 17);
+        let good = [&names[..], &[2, 0], &block, &[unused, 0, 0]].concat();
+        assert_eq!(model_of_parent(&good, unused as usize), Ok(EMPTY), "{unused}");
+    }
 }
 
 /// The names a, b and c: a with text and the children c and b in different blocks, b with text alone, c with neither.
@@ -214,6 +267,7 @@ fn records_with_text() {
 
 #[test]
 fn reasons() {
+    assert_eq!(Refusal(17).to_string(), "refused 17: a name in the book is neither a parent nor a child in any block");
     assert_eq!(Refusal(16).to_string(), "refused 16: a text byte in the book is above 1");
     assert_eq!(Refusal(9).to_string(), "refused 9: no block in the book has the parent whose model is wanted from the sample");
 }

@@ -51,10 +51,23 @@ pub fn short_words() -> Vec<u8> {
     book(&names(64), |i| ((i % 64) as u8, false, (0..next.below(4)).map(|_| next.below(64) as u8).collect()))
 }
 
+/// A word of 255 names, which rise slowly up to this one and repeat.
+fn long_word(next: &mut Next, most: u8) -> Vec<u8> {
+    (0..255).map(|k| ((k / 4 + next.below(2)) as u8).min(most)).collect()
+}
+
 /// Words of 255 names, which rise slowly and repeat, for all 64 parents.
 pub fn long_words() -> Vec<u8> {
     let mut next = Next(2);
-    book(&names(64), |i| ((i % 64) as u8, false, (0..255).map(|k| ((k / 4 + next.below(2)) as u8).min(63)).collect()))
+    book(&names(64), |i| ((i % 64) as u8, false, long_word(&mut next, 63)))
+}
+
+/// The same, but name 63 is the very last child alone: a name is unused to the end, the worst case for that check.
+pub fn last_name_late() -> Vec<u8> {
+    let mut next = Next(2);
+    let mut all = book(&names(64), |i| ((i % 63) as u8, false, long_word(&mut next, 62)));
+    *all.last_mut().unwrap() = 63;
+    all
 }
 
 /// Empty words alone, for all 64 parents; every second one has text.
@@ -83,7 +96,7 @@ pub fn falling_levels() -> Vec<u8> {
 /// One parent with words of several kinds.
 pub fn one_parent() -> Vec<u8> {
     let mut next = Next(5);
-    book(&names(64), |i| {
+    book(&names(60), |i| {
         let word = match i % 3 {
             0 => (0..next.below(6)).map(|k| (10 * k + next.below(10)) as u8).collect(),
             1 => (0..60u8).filter(|_| next.below(3) == 0).collect(),
@@ -160,4 +173,5 @@ pub const KINDS: &[Kind] = &[
     ("the feed repeated", feed),
     ("words of a hidden chain", hidden_chain),
     ("mixed content", mixed_content),
+    ("a name used in the last block alone", last_name_late),
 ];

@@ -145,8 +145,57 @@ fn read_names<'a>(bytes: &'a [u8], names: &mut [&'a [u8]]) -> Result<usize, u8> 
     Ok(at)
 }
 
-/// Reads a book, hands each block's parent, text and word to `block`, and gives the names back, or a refusal 1 to 7, 16.
-pub fn read_book<'a>(bytes: &'a [u8], mut block: impl FnMut(u8, bool, &'a [u8])) -> Result<Names<'a>, u8> {
+/// A block: its parent, whether it has text, and its word.
+type Block<'a> = (u8, bool, &'a [u8]);
+
+/// The block over n names at a place.
+// In line, so that no loop over blocks makes a call for each of them.
+#[inline(always)]
+fn block_at(bytes: &[u8], n: usize, at: usize) -> Result<Block<'_>, u8> {
+    let parent = *bytes.get(at).ok_or(2)?;
+    if parent as usize >= n {
+        return Err(6);
+    }
+    let text = *bytes.get(at + 1).ok_or(2)?;
+    if text > 1 {
+        return Err(16);
+    }
+    let size = *bytes.get(at + 2).ok_or(2)? as usize;
+    let word = bytes.get(at + 3..at + 3 + size).ok_or(2)?;
+    if word.iter().fold(0, |most, &x| most.max(x)) as usize >= n {
+        return Err(6);
+    }
+    Ok((parent, text == 1, word))
+}
+
+/// The names that a block uses.
+fn used_in(parent: u8, word: &[u8]) -> u64 {
+    word.iter().fold(1 << parent, |used, &x| used | 1 << x)
+}
+
+/// Reads the blocks over n names, from the byte at which their count is, and hands each one's parent, text and word to
+/// `block`. Says where they end, and which names none of them uses. Once all are used, a loop without the set goes on.
+fn read_blocks<'a>(bytes: &'a [u8], n: usize, at: usize, mut block: impl FnMut(u8, bool, &'a [u8])) -> Result<(usize, u64), u8> {
+    let m = bytes.get(at..at + 2).ok_or(2)?;
+    let (mut at, mut left) = (at + 2, m[0] as usize + 256 * m[1] as usize);
+    let mut unused = u64::MAX >> (PLACES - n);
+    while left > 0 && unused != 0 {
+        let (parent, text, word) = block_at(bytes, n, at)?;
+        unused &= !used_in(parent, word);
+        block(parent, text, word);
+        at += 3 + word.len();
+        left -= 1;
+    }
+    for _ in 0..left {
+        let (parent, text, word) = block_at(bytes, n, at)?;
+        block(parent, text, word);
+        at += 3 + word.len();
+    }
+    Ok((at, unused))
+}
+
+/// Reads a book, hands each block's parent, text and word to `block`, and gives the names back: 1 to 7, 16, 17.
+pub fn read_book<'a>(bytes: &'a [u8], block: impl FnMut(u8, bool, &'a [u8])) -> Result<Names<'a>, u8> {
     if bytes.len() > 60_000 {
         return Err(1);
     }
@@ -158,28 +207,13 @@ pub fn read_book<'a>(bytes: &'a [u8], mut block: impl FnMut(u8, bool, &'a [u8]))
         return Err(3);
     }
     let mut names: [&[u8]; PLACES] = [&[]; PLACES];
-    let mut at = read_names(bytes, &mut names[..n])?;
-    let m = bytes.get(at..at + 2).ok_or(2)?;
-    at += 2;
-    for _ in 0..m[0] as usize + 256 * m[1] as usize {
-        let parent = *bytes.get(at).ok_or(2)?;
-        if parent as usize >= n {
-            return Err(6);
-        }
-        let text = *bytes.get(at + 1).ok_or(2)?;
-        if text > 1 {
-            return Err(16);
-        }
-        let size = *bytes.get(at + 2).ok_or(2)? as usize;
-        let word = bytes.get(at + 3..at + 3 + size).ok_or(2)?;
-        if word.iter().fold(0, |most, &x| most.max(x)) as usize >= n {
-            return Err(6);
-        }
-        block(parent, text == 1, word);
-        at += 3 + size;
-    }
-    if at < bytes.len() {
+    let at = read_names(bytes, &mut names[..n])?;
+    let (end, unused) = read_blocks(bytes, n, at, block)?;
+    if end < bytes.len() {
         return Err(7);
+    }
+    if unused != 0 {
+        return Err(17);
     }
     Ok(Names { count: n, names })
 }

@@ -57,8 +57,11 @@ impl Calls for Plain {
         (number, parent, back(model))
     }
 
+    /// In one pass, and with a scan for each parent: both print the same.
     fn dtd(&mut self, book: &[u8]) -> Option<Vec<u8>> {
-        Some(plain::dtd(book))
+        let out = plain::dtd(book);
+        assert!(plain::rescan::rescan(book) == out, "{}", book.escape_ascii());
+        Some(out)
     }
 }
 
@@ -79,6 +82,14 @@ fn books_of_the_benchmark() {
         assert!(out == plain::rescan::rescan(&book), "{kind}");
         assert!(out.starts_with(b"<!ELEMENT"), "{kind}");
     }
+}
+
+#[test]
+fn a_name_is_unused_to_the_end() {
+    let mut book = plain::books::last_name_late();
+    assert_eq!(book.pop(), Some(63));
+    book.push(62);
+    assert_eq!(plain::dtd(&book), b"refused 17\n");
 }
 
 #[test]

@@ -26,6 +26,11 @@ impl Book {
     pub fn blocks_of(&self, parent: u8) -> Vec<&Block> {
         self.blocks.iter().filter(|block| block.parent == parent).collect()
     }
+
+    /// Whether the name is a parent or a child in some block.
+    pub fn uses(&self, name: u8) -> bool {
+        self.blocks.iter().any(|block| block.parent == name || block.word.contains(&name))
+    }
 }
 
 /// Whether these bytes are a name: A-Z, a-z or `_`, then also 0-9, `-` or `.`; 1 to 32 of them.
@@ -111,8 +116,8 @@ fn read_block(left: &mut Left, n: usize) -> Result<Block, Refusal> {
     Ok(Block { parent: parent as u8, text: text as u8, word: word.to_vec() })
 }
 
-/// The book that these bytes are, or 1 to 7, 16.
-pub fn read(bytes: &[u8]) -> Result<Book, Refusal> {
+/// The book that these bytes are, field by field: 1 to 7, 16. Some of its names may be unused.
+pub fn read_fields(bytes: &[u8]) -> Result<Book, Refusal> {
     if bytes.len() > MOST_BYTES {
         return Err(1);
     }
@@ -126,6 +131,16 @@ pub fn read(bytes: &[u8]) -> Result<Book, Refusal> {
         Ok(Book { names, blocks })
     } else {
         Err(7)
+    }
+}
+
+/// The book that these bytes are: 1 to 7, 16, then 17 for a name that is neither a parent nor a child in any block.
+pub fn read(bytes: &[u8]) -> Result<Book, Refusal> {
+    let book = read_fields(bytes)?;
+    if (0..book.names.len() as u8).all(|name| book.uses(name)) {
+        Ok(book)
+    } else {
+        Err(17)
     }
 }
 

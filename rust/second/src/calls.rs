@@ -34,7 +34,7 @@ fn put(text: &[u8], buffer: &mut [u8]) -> Result<usize, Refusal> {
     Ok(text.len())
 }
 
-/// The model of a parent from a book: 1 to 7, 16, 8, 9.
+/// The model of a parent from a book: 1 to 7, 16, 17, 8, 9.
 pub fn model_of_parent(bytes: &[u8], parent: usize) -> Result<Record, Refusal> {
     let book = book::read(bytes)?;
     let parent = parent_of(&book, parent)?;
@@ -68,7 +68,7 @@ pub fn within(n: usize, first: &Record, second: &Record, buffer: &mut [u8]) -> R
     word.map(|word| put(&word, buffer)).transpose()
 }
 
-/// The length of a record's declaration, written into the buffer: 1 to 7, 16, 8, 10, 12.
+/// The length of a record's declaration, written into the buffer: 1 to 7, 16, 17, 8, 10, 12.
 pub fn write_declaration(bytes: &[u8], parent: usize, record: &Record, buffer: &mut [u8]) -> Result<usize, Refusal> {
     let book = book::read(bytes)?;
     let parent = parent_of(&book, parent)?;
@@ -78,7 +78,7 @@ pub fn write_declaration(bytes: &[u8], parent: usize, record: &Record, buffer: &
     put(&declaration::written(&book.names, parent as usize, record), buffer)
 }
 
-/// The length of the declaration of a parent's model, written into the buffer: 1 to 7, 16, 8, 9, 12.
+/// The length of the declaration of a parent's model, written into the buffer: 1 to 7, 16, 17, 8, 9, 12.
 pub fn write_from_sample(bytes: &[u8], parent: usize, buffer: &mut [u8]) -> Result<usize, Refusal> {
     let book = book::read(bytes)?;
     let parent = parent_of(&book, parent)?;
@@ -86,7 +86,7 @@ pub fn write_from_sample(bytes: &[u8], parent: usize, buffer: &mut [u8]) -> Resu
     put(&declaration::written(&book.names, parent as usize, &record), buffer)
 }
 
-/// The parent and the record of a declaration's text: 1 to 7, 16, 13, 14, 15.
+/// The parent and the record of a declaration's text: 1 to 7, 16, 17, 13, 14, 15.
 pub fn read_declaration(bytes: &[u8], text: &[u8]) -> Result<(usize, Record), Refusal> {
     let book = book::read(bytes)?;
     declaration::read(&book.names, text)
@@ -104,7 +104,7 @@ fn lines(book: &Book) -> Vec<u8> {
     out
 }
 
-/// The length of the whole DTD of a book, written into the buffer: 1 to 7, 16, 12.
+/// The length of the whole DTD of a book, written into the buffer: 1 to 7, 16, 17, 12.
 pub fn write_dtd(bytes: &[u8], buffer: &mut [u8]) -> Result<usize, Refusal> {
     let book = book::read(bytes)?;
     put(&lines(&book), buffer)

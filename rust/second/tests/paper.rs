@@ -1,5 +1,6 @@
-//! Every line under the samples of paper 01, its traps, its example and its limits; the texts of request U1, the whole DTD of
-//! request U2, the two records of request U4 and the fields with text of request U5 of paper 02.
+//! Every line under the samples of paper 01, its traps, its example and its limits; the texts of request U1, the whole
+//! DTD of request U2, the two records of request U4, the fields with text of request U5 and the unused names of request
+//! U6 of paper 02.
 
 use second::book::{self, bytes_of, Block};
 use second::calls::*;
@@ -16,10 +17,21 @@ fn block(parent: u8, letters: &str) -> Block {
     Block { parent, text: u8::from(letters.starts_with('#')), word: word(letters.trim_start_matches('#')) }
 }
 
-/// A book of the names a to l and a parent `p`, number 12, with these words.
+/// A block that has each of n names as a child.
+fn every_name(n: usize) -> Block {
+    Block { parent: 0, text: 0, word: (0..n as u8).collect() }
+}
+
+/// So many names, rising.
+fn numbered(n: usize) -> Vec<Vec<u8>> {
+    (0..n).map(|i| format!("n{i:02}").into_bytes()).collect()
+}
+
+/// A book of the names a to l and a parent `p`, number 12, with these words. Its first block uses all other names.
 fn letters(sample: &str) -> Vec<u8> {
     let names: Vec<Vec<u8>> = (b'a'..=b'l').chain([b'p']).map(|b| vec![b]).collect();
-    let blocks: Vec<Block> = sample.split(", ").map(|w| block(12, w)).collect();
+    let mut blocks = vec![block(11, "abcdefghijk")];
+    blocks.extend(sample.split(", ").map(|w| block(12, w)));
     bytes_of(&names, &blocks)
 }
 
@@ -29,8 +41,9 @@ fn model(sample: &str) -> Record {
 
 /// The content model that the program prints for a sample.
 fn printed(sample: &str) -> String {
-    let line = String::from_utf8(dtd(&letters(sample))).unwrap();
-    line.strip_prefix("<!ELEMENT p ").unwrap().strip_suffix(">\n").unwrap().to_string()
+    let lines = String::from_utf8(dtd(&letters(sample))).unwrap();
+    let before = "<!ELEMENT l (a,b,c,d,e,f,g,h,i,j,k)>\n<!ELEMENT p ";
+    lines.strip_prefix(before).unwrap().strip_suffix(">\n").unwrap().to_string()
 }
 
 #[test]
@@ -71,15 +84,15 @@ fn lines_under_the_samples() {
     assert_eq!(accepts_word(13, &m, &word("akkb")), Ok(true));
     assert_eq!(accepts_word(13, &m, &word("ka")), Ok(false));
     // N = 64 passes, 65 is 3.
-    let named = |n: usize| bytes_of(&(0..n).map(|i| format!("n{i:02}").into_bytes()).collect::<Vec<_>>(), &[]);
+    let named = |n: usize| bytes_of(&numbered(n), &[every_name(n)]);
     assert!(book::read(&named(64)).is_ok());
     assert_eq!(book::read(&named(65)).err(), Some(3));
     assert_eq!(accepts_word(64, &EMPTY, &[]), Ok(true));
     assert_eq!(accepts_word(65, &EMPTY, &[]), Err(3));
     assert_eq!(accepts_word(0, &EMPTY, &[]), Err(3));
     // A 32-byte name passes, 33 is 4.
-    assert!(book::read(&bytes_of(&[vec![b'a'; 32]], &[])).is_ok());
-    assert_eq!(book::read(&bytes_of(&[vec![b'a'; 33]], &[])).err(), Some(4));
+    assert!(book::read(&bytes_of(&[vec![b'a'; 32]], &[every_name(1)])).is_ok());
+    assert_eq!(book::read(&bytes_of(&[vec![b'a'; 33]], &[every_name(1)])).err(), Some(4));
     // A 255-name word passes, 256 is 11.
     let star = Record::of(&[(vec![0], 3)]);
     assert_eq!(accepts_word(1, &star, &[0; 255]), Ok(true));
@@ -122,7 +135,7 @@ fn the_example() {
         [[3u8, 0, 5], [3, 2, 4], [3, 0, 4]].iter().map(|w| Block { parent: 1, text: 0, word: w.to_vec() }).collect();
     let bytes = bytes_of(&names, &blocks);
     assert_eq!(dtd(&bytes), b"<!ELEMENT entry (member,(contribution|leaver),(reason|total))>\n");
-    assert_eq!(dtd(&bytes_of(&names, &[])), b"");
+    assert_eq!(dtd(&bytes_of(&names, &[])), b"refused 17\n");
     assert_eq!(dtd(&bytes[..bytes.len() - 1]), b"refused 2\n");
     assert_eq!(model_of_parent(&bytes, 6), Err(8));
     assert_eq!(model_of_parent(&bytes, 256 + 1), Err(8));
@@ -135,7 +148,7 @@ fn the_example() {
 #[test]
 fn the_longest_declaration() {
     let names: Vec<Vec<u8>> = (0..64).map(|i| format!("n{i:031}").into_bytes()).collect();
-    let bytes = bytes_of(&names, &[]);
+    let bytes = bytes_of(&names, &[every_name(64)]);
     // Half of the names in pairs with a mark each, or each name a factor with a mark: the longest of all chains.
     let mut longest = 0;
     for pairs in 0..=32 {
@@ -166,9 +179,11 @@ fn writes_dtd(book: &[u8], text: &[u8]) {
 
 #[test]
 fn the_whole_dtd() {
-    let names: Vec<Vec<u8>> = (b'a'..=b'e').map(|b| vec![b]).collect();
+    let names: Vec<Vec<u8>> = (b'a'..=b'f').map(|b| vec![b]).collect();
     let block = |parent: &str, children: &str| block(word(parent)[0], children);
     let blocks = [
+        // Every name is used from here on; f is no parent.
+        block("d", "abcef"),
         block("e", "a"),
         block("b", "-"),
         block("e", "ab"),
@@ -178,20 +193,23 @@ fn the_whole_dtd() {
         block("a", "#e"),
         block("c", "b"),
     ];
-    // After each block, what the blocks so far show. Lines are in the order of the parents, whatever that of the blocks is.
+    // After each block, what the blocks so far show, `d` for its line. Lines are in the order of the parents, whatever
+    // that of the blocks is.
     let printed = [
-        "",
-        "<!ELEMENT e (a)>\n",
-        "<!ELEMENT b EMPTY>\n<!ELEMENT e (a)>\n",
-        "<!ELEMENT b EMPTY>\n<!ELEMENT e (a,b?)>\n",
-        "<!ELEMENT a (c+)>\n<!ELEMENT b EMPTY>\n<!ELEMENT e (a,b?)>\n",
-        "<!ELEMENT a (c*)>\n<!ELEMENT b EMPTY>\n<!ELEMENT e (a,b?)>\n",
-        "<!ELEMENT a (c*)>\n<!ELEMENT b (#PCDATA)>\n<!ELEMENT e (a,b?)>\n",
-        "<!ELEMENT a (#PCDATA|c|e)*>\n<!ELEMENT b (#PCDATA)>\n<!ELEMENT e (a,b?)>\n",
-        "<!ELEMENT a (#PCDATA|c|e)*>\n<!ELEMENT b (#PCDATA)>\n<!ELEMENT c (b)>\n<!ELEMENT e (a,b?)>\n",
+        "d",
+        "d<!ELEMENT e (a)>\n",
+        "<!ELEMENT b EMPTY>\nd<!ELEMENT e (a)>\n",
+        "<!ELEMENT b EMPTY>\nd<!ELEMENT e (a,b?)>\n",
+        "<!ELEMENT a (c+)>\n<!ELEMENT b EMPTY>\nd<!ELEMENT e (a,b?)>\n",
+        "<!ELEMENT a (c*)>\n<!ELEMENT b EMPTY>\nd<!ELEMENT e (a,b?)>\n",
+        "<!ELEMENT a (c*)>\n<!ELEMENT b (#PCDATA)>\nd<!ELEMENT e (a,b?)>\n",
+        "<!ELEMENT a (#PCDATA|c|e)*>\n<!ELEMENT b (#PCDATA)>\nd<!ELEMENT e (a,b?)>\n",
+        "<!ELEMENT a (#PCDATA|c|e)*>\n<!ELEMENT b (#PCDATA)>\n<!ELEMENT c (b)>\nd<!ELEMENT e (a,b?)>\n",
     ];
-    for (m, text) in printed.iter().enumerate() {
-        let book = bytes_of(&names, &blocks[..m]);
+    assert_eq!(printed.len(), blocks.len());
+    for (last, text) in printed.iter().enumerate() {
+        let text = text.replace('d', "<!ELEMENT d (a,b,c,e,f)>\n");
+        let book = bytes_of(&names, &blocks[..=last]);
         assert_eq!(dtd(&book), text.as_bytes());
         writes_dtd(&book, text.as_bytes());
     }
@@ -448,7 +466,7 @@ fn refusals_of_two_records() {
 #[test]
 fn texts() {
     let names: Vec<Vec<u8>> = ["ANY", "EMPTY", "a", "b", "c"].iter().map(|n| n.as_bytes().to_vec()).collect();
-    let bytes = bytes_of(&names, &[]);
+    let bytes = bytes_of(&names, &[every_name(5)]);
     for text in [
         "<!ELEMENT a (a)>",
         "<!ELEMENT   a   ( a )  >",
@@ -687,16 +705,123 @@ fn text_bytes_of_a_book() {
             Err(number) => assert_eq!((text < 2, number), (false, 16)),
         }
     }
-    // Every call with a book gives 16, whatever else it is given.
-    let bad = book(2);
-    for parent in [0, 1] {
-        assert_eq!(model_of_parent(&bad, parent), Err(16));
-        assert_eq!(write_from_sample(&bad, parent, &mut []), Err(16));
-        assert_eq!(write_declaration(&bad, parent, &Record { text: 2, ..EMPTY }, &mut []), Err(16));
+    refused_by_every_call(&book(2), 16);
+}
+
+/// Every call that takes a book refuses this one, whatever else it is given, and keeps its buffer. So does the program.
+fn refused_by_every_call(book: &[u8], number: u8) {
+    let bad = Record { text: 2, ..EMPTY };
+    for size in [0, 99] {
+        let mut buffer = vec![7u8; size];
+        for parent in (0..66).chain([256, usize::MAX]) {
+            assert_eq!(model_of_parent(book, parent), Err(number), "parent {parent}");
+            assert_eq!(write_from_sample(book, parent, &mut buffer), Err(number), "parent {parent}");
+            for record in [EMPTY, bad] {
+                assert_eq!(write_declaration(book, parent, &record, &mut buffer), Err(number), "parent {parent}");
+            }
+        }
+        assert_eq!(write_dtd(book, &mut buffer), Err(number));
+        assert_eq!(buffer, vec![7; size]);
     }
-    assert_eq!(write_dtd(&bad, &mut []), Err(16));
-    assert_eq!(read_declaration(&bad, b""), Err(16));
-    assert_eq!(dtd(&bad), b"refused 16\n");
+    for text in [&b"<!ELEMENT n00 EMPTY>"[..], b"", b"<!ELEMENT n00 (x)>", b"<!ELEMENT n00 (n00,n00)>"] {
+        assert_eq!(read_declaration(book, text), Err(number), "{}", text.escape_ascii());
+    }
+    assert_eq!(dtd(book), format!("refused {number}\n").into_bytes());
+}
+
+/// Blocks that use all of n names but this one, in three ways: as children of one parent, as parents alone, and each as
+/// the child of the name before it.
+fn blocks_without(n: usize, unused: usize) -> [Vec<Block>; 3] {
+    let used: Vec<u8> = (0..n as u8).filter(|&name| name as usize != unused).collect();
+    let last = used[used.len() - 1];
+    let children = vec![Block { parent: last, text: 0, word: used.clone() }];
+    let parents = used.iter().map(|&parent| Block { parent, text: 0, word: vec![] }).collect();
+    let pairs = used.windows(2).map(|pair| Block { parent: pair[0], text: 1, word: vec![pair[1]] });
+    [children, parents, pairs.chain([Block { parent: last, text: 0, word: vec![] }]).collect()]
+}
+
+#[test]
+fn one_name_that_no_block_uses() {
+    for n in [2, 3, 64] {
+        for unused in 0..n {
+            for blocks in blocks_without(n, unused) {
+                refused_by_every_call(&bytes_of(&numbered(n), &blocks), 17);
+                // As a parent alone or as a child alone it is used, wherever that block is.
+                let as_parent = Block { parent: unused as u8, text: 0, word: vec![] };
+                let as_child = Block { parent: blocks[0].parent, text: 0, word: vec![unused as u8] };
+                for more in [as_parent, as_child] {
+                    for (before, behind) in [(vec![], vec![more.clone()]), (vec![more], vec![])] {
+                        let bytes = bytes_of(&numbered(n), &[before, blocks.clone(), behind].concat());
+                        assert!(dtd(&bytes).starts_with(b"<!ELEMENT "), "{n} {unused}");
+                    }
+                }
+            }
+        }
+    }
+}
+
+#[test]
+fn a_book_without_blocks() {
+    for n in 1..=64 {
+        refused_by_every_call(&bytes_of(&numbered(n), &[]), 17);
+    }
+}
+
+#[test]
+fn names_used_in_one_way_alone() {
+    for n in [1, 2, 64] {
+        // Every name is a parent, and none is a child.
+        let parents: Vec<Block> = (0..n as u8).map(|parent| Block { parent, text: 0, word: vec![] }).collect();
+        assert!(book::read(&bytes_of(&numbered(n), &parents)).is_ok(), "{n}");
+        // Every name is a child, and one is a parent: it may be any, and it may be its own child.
+        for parent in 0..n as u8 {
+            let mut block = Block { parent, ..every_name(n) };
+            assert!(book::read(&bytes_of(&numbered(n), &[block.clone()])).is_ok(), "{n} {parent}");
+            block.word.retain(|child| *child != parent);
+            assert!(book::read(&bytes_of(&numbered(n), &[block])).is_ok(), "{n} {parent}");
+        }
+    }
+}
+
+#[test]
+fn what_comes_before_17() {
+    // The second of two names is not used, and the bytes behind the first block have a fault of their own.
+    let front = |m: u8| vec![2, 0, 3, b'n', b'0', b'0', 3, b'n', b'0', b'1', m, 0, 0, 0, 1, 0];
+    refused_by_every_call(&front(1), 17);
+    refused_by_every_call(&[&front(1)[..], &[0]].concat(), 7);
+    let cases: [(&[u8], u8); 7] =
+        [(&[], 2), (&[0], 2), (&[0, 0], 2), (&[0, 0, 1], 2), (&[2], 6), (&[0, 0, 1, 2], 6), (&[0, 2], 16)];
+    for (behind, number) in cases {
+        refused_by_every_call(&[&front(2)[..], behind].concat(), number);
+    }
+    // No block, and a byte behind.
+    refused_by_every_call(&[1, 0, 3, b'n', b'0', b'0', 0, 0, 0], 7);
+    refused_by_every_call(&[&front(1)[..], &[0; 60_000]].concat(), 1);
+}
+
+#[test]
+fn what_comes_behind_17() {
+    // The same calls on two books with three names; the block of one uses two of them, that of the other all.
+    let book = |word: &[u8]| bytes_of(&numbered(3), &[Block { parent: 0, text: 0, word: word.to_vec() }]);
+    let bad = Record { count: 1, ..EMPTY };
+    for (book, refused) in [(book(&[1, 2]), None), (book(&[1]), Some(17))] {
+        let number = |due: u8| Some(refused.unwrap_or(due));
+        assert_eq!(model_of_parent(&book, 3).err(), number(8));
+        assert_eq!(model_of_parent(&book, 1).err(), number(9));
+        assert_eq!(write_from_sample(&book, 3, &mut [0; 99]).err(), number(8));
+        assert_eq!(write_from_sample(&book, 2, &mut [0; 99]).err(), number(9));
+        assert_eq!(write_from_sample(&book, 0, &mut []).err(), number(12));
+        assert_eq!(write_declaration(&book, 3, &EMPTY, &mut [0; 99]).err(), number(8));
+        assert_eq!(write_declaration(&book, 2, &bad, &mut [0; 99]).err(), number(10));
+        assert_eq!(write_declaration(&book, 2, &EMPTY, &mut []).err(), number(12));
+        assert_eq!(write_dtd(&book, &mut []).err(), number(12));
+        for (text, due) in [("", 13), ("<!ELEMENT x EMPTY>", 14), ("<!ELEMENT n02 (n01,n01)>", 15)] {
+            assert_eq!(read_declaration(&book, text.as_bytes()).err(), number(due));
+        }
+        assert_eq!(model_of_parent(&book, 0).err(), refused);
+        assert_eq!(write_dtd(&book, &mut [0; 99]).err(), refused);
+        assert_eq!(read_declaration(&book, b"<!ELEMENT n02 EMPTY>").err(), refused);
+    }
 }
 
 #[test]
@@ -748,7 +873,7 @@ fn with_text_byte(text: u8) -> Vec<Record> {
 #[test]
 fn text_records_on_both_sides() {
     let good = Record::with_text(vec![1]);
-    let book = bytes_of(&[b"a".to_vec(), b"b".to_vec()], &[]);
+    let book = bytes_of(&[b"a".to_vec(), b"b".to_vec()], &[every_name(2)]);
     for text in [0, 1, 2, 3, 128, 255] {
         for (shape, record) in with_text_byte(text).into_iter().enumerate() {
             let fits = text == 0 || (text == 1 && (shape == 0 || shape == 4));
@@ -809,7 +934,7 @@ fn models_with_text() {
     let with_parent = Record::with_text(vec![0, 12]);
     assert_eq!(read_declaration(&letters("-"), &declared("(#PCDATA|p|a)*")), Ok((12, with_parent)));
     // The name PCDATA is none of a model with text.
-    let named = bytes_of(&[b"PCDATA".to_vec(), b"a".to_vec()], &[]);
+    let named = bytes_of(&[b"PCDATA".to_vec(), b"a".to_vec()], &[every_name(2)]);
     for (model, record) in [
         ("(PCDATA)", Record::of(&[(vec![0], 0)])),
         ("(PCDATA|a)*", Record::of(&[(vec![0, 1], 3)])),

@@ -2,7 +2,7 @@
 -- Assumes nothing.
 use mathlib.Core.Path.{_∙_}
 use borrow.Author.Needs.{needs}
-use Rattle.book_reading.proofs.Closing.{no-head, within, short, closed-book}
+use Rattle.book_reading.proofs.Closing.{no-head, within, short, some, few, closed-book}
 use Rattle.book_reading.proofs.take_book.Statement.{statement}
 use Rattle.book_reading.proofs.take_book.Tie as tie
 
@@ -15,7 +15,8 @@ read-blocks-requires : tie.Need-read-blocks-requires
 read-blocks-requires c κs =
     let o = c .before .before .before in
     let done = c .before .enum-told .given .1 in
-    (within _ _ (o .open-book .ensures) done, short _ _ (o .open-book .ensures) done)
+    let e = o .open-book .ensures in
+    (within _ _ e done, short _ _ e done, some _ _ e done, few _ _ e done)
 
 returns-2 : tie.Need-returns-2
 returns-2 c =

@@ -9,7 +9,8 @@ use borrow.Author.Needs.{needs}
 use lib.Dec.{leb}
 use lib.ListN.{length, getD}
 use Rattle.model.specs.Record.{noFactor}
-use Rattle.model.specs.Check.{everyBelow, mayHold}
+use Rattle.nameset.specs.Tests.{everyBelow}
+use Rattle.model.specs.Check.{mayHold}
 use Rattle.model_rows.proofs.Factors.{among, among-start, among-more, among-done}
 use Rattle.model_rows.proofs.all_among.Statement.{statement}
 use Rattle.model_rows.proofs.all_among.Tie as tie

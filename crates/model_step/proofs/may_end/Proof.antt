@@ -7,7 +7,7 @@ use borrow.Author.Needs.{needs}
 use Rattle.model.specs.declared.State.{State}
 use Rattle.model.specs.declared.Moved.the-variants.{To, Nowhere}
 use Rattle.model.specs.Run.{wentTo, mayEnd}
-use Rattle.model.proofs.Tests.{never}
+use Rattle.nameset.proofs.Tests.{never}
 use Rattle.model_step.proofs.may_end.Statement.{statement}
 use Rattle.model_step.proofs.may_end.Tie as tie
 

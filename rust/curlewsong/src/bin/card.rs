@@ -5,9 +5,10 @@
 //! declaration reads back and is written once more as it was, and the names that the model allows together though no block
 //! holds them together. Where text and names are allowed, XML knows no other model than any number of the names in any order:
 //! one line says so, and in how many of the blocks text stands. The status is 1 where one of the first four fails, and where
-//! the book cannot be read or the card not written whole; the rest is for a person to read.
+//! the book cannot be read or the card not written whole; the rest is for a person to read. Of a book that is refused
+//! for an unused name, the message names the first one.
 
-use curlewsong::{model_of_parent, read_declaration, write_declaration, Model, LONGEST_DECLARATION, NONE};
+use curlewsong::{model_of_parent, read_declaration, write_declaration, Model, Refusal, LONGEST_DECLARATION, NONE};
 use std::fmt::Display;
 use std::io::{stderr, stdin, stdout, BufWriter, ErrorKind, Read, Result, Write};
 use std::path::Path;
@@ -19,10 +20,18 @@ struct Block {
     word: Vec<usize>,
 }
 
-/// The names and the blocks of a book that the library has not refused.
+/// The names and the blocks of a book that the library has not refused, or has refused with 17.
 struct Book {
     names: Vec<String>,
     blocks: Vec<Block>,
+}
+
+impl Book {
+    /// The numbers of the names that are neither a parent nor a child in any block.
+    fn unused(&self) -> Vec<usize> {
+        let used = |name: &usize| self.blocks.iter().any(|block| block.parent == *name || block.word.contains(name));
+        (0..self.names.len()).filter(|name| !used(name)).collect()
+    }
 }
 
 fn count(bytes: &mut std::slice::Iter<u8>) -> usize {
@@ -139,6 +148,16 @@ fn cards(bytes: &[u8], out: &mut impl Write) -> Result<bool> {
     Ok(good == parents)
 }
 
+/// The first unused name of a book that is refused with 17, how many more there are, and what to do.
+fn unused_names(bytes: &[u8]) -> String {
+    let book = parts(bytes);
+    let unused = book.unused();
+    let named = unused.first().map(|&name| format!("name {name}, '{}'", book.names[name].escape_debug()));
+    let more = (unused.len() > 1).then(|| format!("and {} more", unused.len() - 1));
+    let said: Vec<String> = named.into_iter().chain(more).collect();
+    format!("({}); remove each such name, or add a block that uses it", said.join(", "))
+}
+
 fn failed(why: impl Display) -> ExitCode {
     // Where standard error cannot be written either, the status alone has to do.
     let _ = writeln!(stderr(), "card: {why}");
@@ -154,11 +173,11 @@ fn main() -> ExitCode {
     if let Err(error) = read {
         return failed(format_args!("{called}: {error}"));
     }
-    // Parent 0 is always below N, so only a refusal 1 to 7, 9 or 16 can come.
-    if let Err(refusal) = model_of_parent(&bytes, 0) {
-        if refusal.0 != 9 {
-            return failed(format_args!("{called}: {refusal}"));
-        }
+    // Parent 0 is always below N, so only a refusal 1 to 7, 16, 17 or 9 can come.
+    match model_of_parent(&bytes, 0) {
+        Ok(_) | Err(Refusal(9)) => {}
+        Err(refusal @ Refusal(17)) => return failed(format_args!("{called}: {refusal} {}", unused_names(&bytes))),
+        Err(refusal) => return failed(format_args!("{called}: {refusal}")),
     }
     match cards(&bytes, &mut BufWriter::new(stdout().lock())) {
         Ok(true) => ExitCode::SUCCESS,

@@ -5,7 +5,7 @@ use mathlib.Core.Path.{_≡_}
 use mathlib.Core.Bool.{true}
 use native.Mathlib.Omega.{arith}
 use borrow.Author.Needs.{needs}
-use Rattle.model.specs.Check.{everyBelow}
+use Rattle.nameset.specs.Tests.{everyBelow}
 use Rattle.model_rows.proofs.Naming.{named-from, each-start, each-more, each-lacks, each-done}
 use Rattle.model_rows.proofs.named.each_named.Statement.{statement}
 use Rattle.model_rows.proofs.named.each_named.Tie as tie

@@ -7,8 +7,8 @@ use native.Mathlib.Omega.{arith}
 use borrow.Author.Needs.{needs}
 use lib.Dec.{eqb}
 use lib.ListN.{length}
-use Rattle.model.specs.Check.{anyBelow}
-use Rattle.model.proofs.Tests.{any-start, any-more}
+use Rattle.nameset.specs.Tests.{anyBelow}
+use Rattle.nameset.proofs.Tests.{any-start, any-more}
 use Rattle.model_rows.proofs.Naming.{holds, named-within}
 use Rattle.model_rows.proofs.named.holds_name.Statement.{statement}
 use Rattle.model_rows.proofs.named.holds_name.Tie as tie

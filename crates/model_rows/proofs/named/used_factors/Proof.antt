@@ -11,8 +11,9 @@ use lib.ListN.{length, getD}
 use Rattle.nameset.specs.Places.{places}
 use Rattle.nameset.specs.Set.{member}
 use Rattle.model.specs.Record.{noFactor}
-use Rattle.model.specs.Check.{anyBelow, mayHold, allPlaced}
-use Rattle.model.proofs.Tests.{any-start, any-more}
+use Rattle.nameset.specs.Tests.{anyBelow}
+use Rattle.model.specs.Check.{mayHold, allPlaced}
+use Rattle.nameset.proofs.Tests.{any-start, any-more}
 use Rattle.model_rows.proofs.Naming.{holds, named-beyond, any-joined, held-entry}
 use Rattle.model_rows.proofs.named.used_factors.Statement.{statement}
 use Rattle.model_rows.proofs.named.used_factors.Tie as tie

@@ -1,15 +1,12 @@
--- `NameSet::with` meets its contract: the 1 that it shifts to place i stays below 2 ^ 64, so that no digit is lost.
+-- `NameSet::with` meets its contract.
 -- Assumes nothing.
 use Prim.Native.Nat.{ℕ, _*_, _%_, _^_, _<_}
-use mathlib.Core.Path.{_≡_, _∙_, ap}
-use native.Mathlib.Omega.{arith}
-use native.Mathlib.Nat.{one-mul}
-use lib.Dec.{lit<}
-use lib.Pow.{shl-exact}
+use mathlib.Core.Path.{_≡_, ap}
 use lib.Bits.{bitOr}
 use borrow.Author.Needs.{needs}
 use Rattle.nameset.specs.declared.NameSet.{NameSet}
 use Rattle.nameset.specs.Set.{capacity, with}
+use Rattle.nameset.proofs.Digits.{one-shifted}
 use Rattle.nameset.proofs.Laws.{member-with}
 use Rattle.nameset.proofs.NameSet.with.Statement.{statement}
 use Rattle.nameset.proofs.NameSet.with.Tie as tie
@@ -17,7 +14,7 @@ use Rattle.nameset.proofs.NameSet.with.Tie as tie
 -- a 1 shifted to its place
 shifted : (s : NameSet) (i : ℕ) → i < capacity → record { bits = bitOr (s .bits) ((1 * 2 ^ i) % 2 ^ 64) } ≡ with s i
 unfolding with
-shifted s i h = ap (λ (n : ℕ). record { bits = bitOr (s .bits) n }) (shl-exact 1 i 64 (lit< tt) (omega arith) ∙ one-mul (2 ^ i))
+shifted s i h = ap (λ (n : ℕ). record { bits = bitOr (s .bits) n }) (one-shifted i h)
 
 returns : tie.Need-returns
 returns c = let e = shifted (c .before .args .self) (c .before .args .i) (search needs) in record { same = e; members = λ j. rw e (member-with _ _ j) }

@@ -7,7 +7,7 @@ use mathlib.Core.Logic.{_⊎_, inl, inr, _↔_}
 use native.Mathlib.Omega.{arith}
 use native.Mathlib.Numerals.{add-one}
 use native.Mathlib.Decide.{ℕ-discrete}
-use Rattle.model.specs.Check.{everyBelow, anyBelow}
+use Rattle.nameset.specs.Tests.{everyBelow, anyBelow}
 
 -- From 0 ≡ 1, which `cc` finds where two constructors are said to be equal, anything follows.
 pub never : _≡_ {A = ℕ} 0 1 → ⊥
