@@ -2,6 +2,7 @@
 -- Assumes nothing.
 use Prim.Native.Nat.{ℕ, zero, suc, _+_, _-_, _≤_, _<_}
 use mathlib.Core.Path.{_≡_, refl, sym, _∙_, ap, subst}
+use mathlib.Core.Bool.{Bool, true, false, cond}
 use mathlib.Core.List.{List, [], _∷_, _++_, append-assoc, append-nil}
 use native.Mathlib.Omega.{arith}
 use lib.ListN.{length, drop}
@@ -9,7 +10,7 @@ use Rattle.refusal.specs.declared.Refusal.{Refusal}
 use Rattle.refusal.specs.Answer.{Answer, given, refused, onward}
 use Rattle.refusal.proofs.Answers.{onward-given, given-same}
 use Rattle.nameset.specs.declared.NameSet.{NameSet}
-use Rattle.nameset.specs.Set.{empty}
+use Rattle.nameset.specs.Set.{empty, isEmpty}
 use Rattle.book.specs.Field.{Field, field}
 use Rattle.book.specs.Book.{Block, blockOf, blocksOf}
 use Rattle.book.specs.Bytes.{headSize}
@@ -22,8 +23,8 @@ use Rattle.book_blocks.specs.declared.BlocksEnd.{BlocksEnd}
 use Rattle.book_blocks.specs.declared.BlocksEnd.the-variants.{End, Stopped}
 use Rattle.book_blocks.specs.Tables.{blockStep, blocksEnd}
 use Rattle.book_blocks.specs.Gathers.{Gathers, withOthers, blocksFrom, GathersAll}
-use Rattle.book_blocks.proofs.Steps.{BlockRead, block-stopped}
-use Rattle.book_blocks.proofs.Walk.{Walk, walk-none, walk-done, walk-rest, walk-stopped, walk-more}
+use Rattle.book_blocks.proofs.Steps.{BlockRead, block-stopped, RunRead, run-stopped}
+use Rattle.book_blocks.proofs.Walk.{Walk, walk-none, walk-done, walk-run, walk-stopped, walk-more}
 
 -- ---- the blocks from the front of some bytes
 
@@ -99,13 +100,24 @@ module _ (K : List Block → List ℕ → Type 0) (s : List ℕ) (n m from : ℕ
       all-seen (sym (g .split ∙ ap (λ (bs : List Block). g .seen ++ bs) (from-none n left (drop at s) h) ∙ append-nil (g .seen))) t refl,
     )
 
-    -- where nothing is left of the set, another loop goes on with the other blocks
-    pub gather-rest : unused ≡ empty → (r : BlocksEnd) (u : List ℕ) → (r ≡ blocksEnd at empty (blocksOf n left (drop at s))) × Gathered K s n left at t u →
+    -- a run of so many blocks: its answer for the empty set, and what it has gathered
+    abbrev Run : ℕ → BlocksEnd → List ℕ → Type 0
+    Run k r u = (r ≡ blocksEnd at empty (blocksOf n k (drop at s))) × Gathered K s n k at t u
+
+    -- where the set is empty, the run of all blocks that are left ends the loop
+    pub gather-run : (e : Bool) → e ≡ isEmpty unused → e ≡ true → (k : ℕ) → k ≡ cond e left 1 → (r : BlocksEnd) (u : List ℕ) → Run k r u →
         (r ≡ blocksEnd from set (blocksOf n m (drop from s))) × Gathered K s n m from t₀ u
-    gather-rest e r u (answer, more) = (
-      walk-rest s n m from set left at unused (g .walk) e r answer,
-      λ bs k. subst (λ (cs : List Block). K cs u) (append-assoc bs (g .seen) (blocksFrom n left (drop at s)) ∙ ap (λ (cs : List Block). bs ++ cs) (sym (g .split))) (more (bs ++ g .seen) (g .kept bs k)),
-    )
+    gather-run e is q k z r u (answer, more) =
+        let all : k ≡ left = z ∙ rw q in
+        let others : Gathered K s n left at t u = subst (λ (j : ℕ). Gathered K s n j at t u) all more in (
+          walk-run s n m from set left at unused (g .walk) e is q k z r answer,
+          λ bs h. subst (λ (cs : List Block). K cs u) (append-assoc bs (g .seen) (blocksFrom n left (drop at s)) ∙ ap (λ (cs : List Block). bs ++ cs) (sym (g .split)))
+              (others (bs ++ g .seen) (g .kept bs h)),
+        )
+
+    -- else it is one block
+    one-run : (e : Bool) → e ≡ false → (k : ℕ) → k ≡ cond e left 1 → (r : BlocksEnd) (u : List ℕ) → Run k r u → Run 1 r u
+    one-run e q k z r u (answer, more) = let one : k ≡ 1 = z ∙ rw q in (rw (← one) answer, subst (λ (j : ℕ). Gathered K s n j at t u) one more)
 
     module _ (more : 0 < left) where
       first : blocksFrom n left (drop at s) ≡ withOthers (blockOf n (drop at s)) (blocksFrom n (left - 1))
@@ -137,3 +149,25 @@ module _ (K : List Block → List ℕ → Type 0) (s : List ℕ) (n m from : ℕ
                 ∙ ap (λ (bs : List Block). g .seen ++ bs) (first ∙ rw (b .read, b .rest))
                 ∙ sym (append-assoc (g .seen) one (blocksFrom n (left - 1) (drop (at + headSize + size) s)));
           }
+
+      module _ (e : Bool) (q : e ≡ false) (k : ℕ) (z : k ≡ cond e left 1) (r : BlocksEnd) (u : List ℕ) (run : Run k r u) where
+        -- a run of one block, read
+        pub gather-next : (behind : ℕ) → RunRead n s at behind → (next : NameSet) → next ≡ withoutBlock unused (blockAt s at (behind - at - headSize)) →
+            Gathering K s n m from set t₀ (left - 1) behind next u
+        unfolding blocksFrom withOthers
+        gather-next behind b next e₁ =
+            let size : behind - at - headSize ≡ b .size = let h = b .behind in omega arith in
+            let own : Gathers K (blockOf n (drop at s)) t u = gathers-block K n s at t u (b .size) (b .one) (λ bs h. rw (b .one .read) at (one-run e q k z r u run .1 bs h)) in
+            rw (b .behind) (gather-more (b .size) (b .one) next (e₁ ∙ ap (λ (j : ℕ). withoutBlock unused (blockAt s at j)) size) u own)
+
+        -- a run of one block, refused
+        pub gather-halted : (f : Refusal) → r ≡ Stopped f → (Stopped f ≡ blocksEnd from set (blocksOf n m (drop from s))) × Gathered K s n m from t₀ u
+        unfolding blocksFrom withOthers
+        gather-halted f e₁ =
+            let (answer, kept) = one-run e q k z r u run in
+            let h : blockOf n (drop at s) ≡ refused f = run-stopped n s at empty r answer f e₁ in
+            let nothing : blocksFrom n left (drop at s) ≡ [] = first ∙ rw h in
+            let all : g .seen ++ [] ≡ blocksFrom n m (drop from s) = ap (λ (cs : List Block). g .seen ++ cs) (sym nothing) ∙ sym (g .split) in (
+              walk-stopped s n m from set left at unused (g .walk) more f h,
+              λ bs w. subst (λ (cs : List Block). K cs u) (append-assoc bs (g .seen) [] ∙ ap (λ (cs : List Block). bs ++ cs) all) (rw h at (kept (bs ++ g .seen) (g .kept bs w))),
+            )

@@ -1,24 +1,27 @@
 -- What the answer of one step tells of the book's bytes from a place on.
 -- Assumes nothing.
 use Prim.Native.Nat.{ℕ, _+_, _-_, _≤_, _<_}
-use mathlib.Core.Path.{_≡_, refl, _∙_, ap}
-use mathlib.Core.Bool.{true, false≢true}
+use mathlib.Core.Path.{_≡_, refl, sym, _∙_, ap}
+use mathlib.Core.Bool.{Bool, true, false, cond, false≢true}
 use mathlib.Core.List.{List, [], _∷_}
 use native.Mathlib.Omega.{arith}
 use native.Mathlib.Nat.{lt-of-lt-of-le}
 use lib.ListN.{length, getD, take, drop}
 use Rattle.refusal.specs.declared.Refusal.{Refusal}
-use Rattle.refusal.specs.Answer.{Answer, given, refused}
+use Rattle.refusal.specs.Answer.{Answer, given, refused, onward}
+use Rattle.nameset.specs.declared.NameSet.{NameSet}
 use Rattle.nameset.specs.Places.{places}
-use Rattle.book.specs.Field.{Field}
-use Rattle.book.specs.Book.{Block, longestBook, allBelow, blockOf}
+use Rattle.book.specs.Field.{Field, field}
+use Rattle.book.specs.Book.{Block, longestBook, allBelow, blockOf, blocksOf}
 use Rattle.book.specs.Bytes.{headSize, textAt, blocksBytes}
 use Rattle.book.proofs.Told.{block-told}
 use Rattle.book.proofs.Placed.{block-placed}
 use Rattle.book.proofs.Laws.{all-below-more}
 use Rattle.book_unused.specs.Unused.{blockAt}
 use Rattle.book_blocks.specs.declared.BlockStep.the-variants.{Block as BlockIs, Stopped as BlockStopped}
-use Rattle.book_blocks.specs.Tables.{blockStep, behindBlocks}
+use Rattle.book_blocks.specs.declared.BlocksEnd.{BlocksEnd}
+use Rattle.book_blocks.specs.declared.BlocksEnd.the-variants.{End, Stopped as RunStopped}
+use Rattle.book_blocks.specs.Tables.{blockStep, behindBlocks, blocksEnd}
 
 -- a block of k children was read at `at`
 pub record BlockRead (n : ℕ) (s : List ℕ) (at k : ℕ) : Type 0 where
@@ -79,7 +82,54 @@ unfolding blockStep
 block-stopped (given block) r e = absurd (false≢true cc)
 block-stopped (refused q) r e = cc
 
--- the bytes behind blocks
+-- ---- a run of one block
+
+-- where the set is not empty, a run is of one block
+pub run-of-one : (n : ℕ) (s : List ℕ) (at left k : ℕ) (t : Bool) (set : NameSet) (x : BlocksEnd) → x ≡ blocksEnd at set (blocksOf n k (drop at s)) → k ≡ cond t left 1 → t ≡ false →
+    x ≡ blocksEnd at set (blocksOf n 1 (drop at s))
+run-of-one n s at left k t set x e z q = e ∙ ap (λ (j : ℕ). blocksEnd at set (blocksOf n j (drop at s))) (z ∙ rw q)
+
+-- the block of a run that ended at `next`
+pub record RunRead (n : ℕ) (s : List ℕ) (at next : ℕ) : Type 0 where
+  pub size : ℕ
+  pub one : BlockRead n s at size
+  pub behind : next ≡ at + headSize + size
+
+run-one : (n : ℕ) (s : List ℕ) (at : ℕ) (set : NameSet) (a : Answer (Field Block)) → blockOf n (drop at s) ≡ a →
+    blocksEnd at set (blocksOf n 1 (drop at s)) ≡ blocksEnd at set (onward a (λ first. given (field (first .value ∷ []) (first .rest))))
+unfolding blocksOf
+run-one n s at set a e = rw e
+
+pub run-read : (n : ℕ) (s : List ℕ) (at : ℕ) (set : NameSet) (x : BlocksEnd) → x ≡ blocksEnd at set (blocksOf n 1 (drop at s)) →
+    (next : ℕ) (left : NameSet) → x ≡ End next left → RunRead n s at next
+unfolding blocksEnd behindBlocks blockStep
+run-read n s at set x e next left q = go (blockOf n (drop at s)) refl (sym q ∙ e)
+  where
+    go : (a : Answer (Field Block)) → blockOf n (drop at s) ≡ a → End next left ≡ blocksEnd at set (blocksOf n 1 (drop at s)) → RunRead n s at next
+    go (given b) h k =
+        let z = k ∙ run-one n s at set (given b) h in
+        record { size = length (b .value .word); one = block-read n s at (length (b .value .word)) (ap blockStep h); behind = cc }
+    go (refused r) h k = let z = k ∙ run-one n s at set (refused r) h in absurd (false≢true cc)
+
+-- what `without_block` asks of it
+pub run-small : (n : ℕ) (s : List ℕ) (at next : ℕ) (r : RunRead n s at next) → length s ≤ longestBook → n ≤ places →
+    let k = next - at - headSize in
+    (length s ≤ longestBook) × (at + headSize + k ≤ length s) × (blockAt s at k .parent < places) × (allBelow places (blockAt s at k .word) ≡ true)
+run-small n s at next r short few =
+    let z : next - at - headSize ≡ r .size = let b = r .behind in omega arith in
+    rw z (block-small n s at (r .size) (r .one) short few)
+
+pub run-stopped : (n : ℕ) (s : List ℕ) (at : ℕ) (set : NameSet) (x : BlocksEnd) → x ≡ blocksEnd at set (blocksOf n 1 (drop at s)) →
+    (r : Refusal) → x ≡ RunStopped r → blockOf n (drop at s) ≡ refused r
+unfolding blocksEnd
+run-stopped n s at set x e r q = go (blockOf n (drop at s)) refl (sym q ∙ e)
+  where
+    go : (a : Answer (Field Block)) → blockOf n (drop at s) ≡ a → RunStopped r ≡ blocksEnd at set (blocksOf n 1 (drop at s)) → blockOf n (drop at s) ≡ refused r
+    go (given b) h k = let z = k ∙ run-one n s at set (given b) h in absurd (false≢true cc)
+    go (refused f) h k = let z = k ∙ run-one n s at set (refused f) h in h ∙ cc
+
+-- ---- the bytes behind blocks
+
 pub behind-blocks : (s : List ℕ) (at : ℕ) (bs : List Block) (after : List ℕ) → drop at s ≡ blocksBytes bs after → drop (behindBlocks at bs) s ≡ after
 unfolding blocksBytes behindBlocks
 behind-blocks s at [] after e = e

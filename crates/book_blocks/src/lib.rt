@@ -9,6 +9,7 @@ use book_unused::without_block;
 use nameset::NameSet;
 use refusal::Refusal;
 ghost use mathlib.Core.Path.{_≡_};
+ghost use mathlib.Core.Bool.{cond};
 ghost use Prim.Native.Nat.{_+_, _≤_, _<_};
 ghost use lib.ListN.{length, drop};
 ghost use Rattle.nameset.specs.Places.{places};
@@ -62,8 +63,18 @@ pub fn block_at(bytes: &[u8], n: usize, at: usize) -> BlockStep
     }
 }
 
-// The m blocks from a place on, where the blocks before them use all names.
-fn read_rest(bytes: &[u8], n: usize, m: usize, from: usize) -> BlocksEnd
+// How many blocks are read before the set of unused names is looked at again: one, or all that are left where it is empty.
+pub fn in_turn(empty: bool, left: usize) -> usize
+    ensures { λ r. ⌜ r ≡ cond empty left 1 ⌝ }
+{
+    if empty {
+        return left;
+    }
+    1
+}
+
+// The m blocks from a place on. Which names they use is not asked.
+fn read_run(bytes: &[u8], n: usize, m: usize, from: usize) -> BlocksEnd
     requires { ⌜ (from ≤ length (now bytes)) × (length (now bytes) ≤ longestBook) ⌝ }
     ensures { λ r. ⌜ r ≡ blocksEnd from empty (blocksOf n m (drop from (now (bytes .entry)))) ⌝ }
 {
@@ -83,8 +94,8 @@ fn read_rest(bytes: &[u8], n: usize, m: usize, from: usize) -> BlocksEnd
     BlocksEnd::End(at, NameSet::empty())
 }
 
-// The m blocks from a place on, over n names, and which of the names they do not use. Once all are used, a loop without
-// the set goes on: in most books after a few blocks.
+// The m blocks from a place on, over n names, and which of the names they do not use. Once all are used, the others are
+// read in one run: in most books after a few blocks.
 pub fn read_blocks(bytes: &[u8], n: usize, m: usize, from: usize) -> BlocksEnd
     requires { ⌜ (from ≤ length (now bytes)) × (length (now bytes) ≤ longestBook) × (0 < n) × (n ≤ places) ⌝ }
     ensures { λ r. ⌜ r ≡ blocksEnd from (below n) (blocksOf n m (drop from (now (bytes .entry)))) ⌝ }
@@ -93,19 +104,21 @@ pub fn read_blocks(bytes: &[u8], n: usize, m: usize, from: usize) -> BlocksEnd
     let mut at = from;
     let mut unused = NameSet::below(n);
     while 0 < left {
-        match block_at(bytes, n, at) {
-            BlockStep::Block(size) => {
-                unused = without_block(unused, bytes, at, size);
-                at = at + HEAD_SIZE + size;
+        let empty = unused.is_empty();
+        let end = read_run(bytes, n, in_turn(empty, left), at);
+        if empty {
+            return end;
+        }
+        match end {
+            BlocksEnd::End(next, _) => {
+                unused = without_block(unused, bytes, at, next - at - HEAD_SIZE);
+                at = next;
             }
-            BlockStep::Stopped(refusal) => {
+            BlocksEnd::Stopped(refusal) => {
                 return BlocksEnd::Stopped(refusal);
             }
         }
         left -= 1;
-        if unused.is_empty() {
-            return read_rest(bytes, n, left, at);
-        }
     }
     BlocksEnd::End(at, unused)
 }

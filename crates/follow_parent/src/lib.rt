@@ -6,6 +6,7 @@ use book::TEXT_AT;
 use book_blocks::BlockStep;
 use book_blocks::BlocksEnd;
 use book_blocks::block_at;
+use book_blocks::in_turn;
 use book_bytes::part;
 use book_bytes::wide;
 use book_reading::close_book;
@@ -50,8 +51,8 @@ fn gather_block(bytes: &[u8], n: usize, at: usize, parent: usize, row: &mut [u64
     }
 }
 
-// The m blocks from a place on, one after the other, where the blocks before them use all names.
-fn gather_rest(
+// The m blocks from a place on, one after the other. Which names they use is not asked.
+fn gather_run(
     bytes: &[u8],
     n: usize,
     m: usize,
@@ -61,7 +62,8 @@ fn gather_rest(
 ) -> BlocksEnd
     requires { ⌜ (from ≤ length (now bytes)) × (length (now bytes) ≤ longestBook) × (n ≤ places) × (length (now row) ≡ rowSize) ⌝ }
     ensures { λ r. ⌜ (r ≡ blocksEnd from empty (blocksOf n m (drop from (now (bytes .entry)))))
-        × GathersAll (RowKeeps parent) (blocksFrom n m (drop from (now (bytes .entry)))) (now (row .entry)) (now (row .exit)) ⌝ }
+        × GathersAll (RowKeeps parent) (blocksFrom n m (drop from (now (bytes .entry)))) (now (row .entry)) (now (row .exit))
+        × (length (now (row .exit)) ≡ rowSize) ⌝ }
 {
     let mut more = m;
     let mut at = from;
@@ -79,8 +81,8 @@ fn gather_rest(
     BlocksEnd::End(at, NameSet::empty())
 }
 
-// The m blocks from a place on, over n names, and which of the names they do not use. Once all are used, a loop
-// without the set goes on: in most books after a few blocks.
+// The m blocks from a place on, over n names, and which of the names they do not use. Once all are used, the others are
+// read in one run: in most books after a few blocks.
 fn gather_blocks(
     bytes: &[u8],
     n: usize,
@@ -97,19 +99,21 @@ fn gather_blocks(
     let mut at = from;
     let mut unused = NameSet::below(n);
     while 0 < left {
-        match gather_block(bytes, n, at, parent, row) {
-            BlockStep::Block(size) => {
-                unused = without_block(unused, bytes, at, size);
-                at = at + HEAD_SIZE + size;
+        let empty = unused.is_empty();
+        let end = gather_run(bytes, n, in_turn(empty, left), at, parent, row);
+        if empty {
+            return end;
+        }
+        match end {
+            BlocksEnd::End(next, _) => {
+                unused = without_block(unused, bytes, at, next - at - HEAD_SIZE);
+                at = next;
             }
-            BlockStep::Stopped(refusal) => {
+            BlocksEnd::Stopped(refusal) => {
                 return BlocksEnd::Stopped(refusal);
             }
         }
         left -= 1;
-        if unused.is_empty() {
-            return gather_rest(bytes, n, left, at, parent, row);
-        }
     }
     BlocksEnd::End(at, unused)
 }

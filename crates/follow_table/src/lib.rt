@@ -6,6 +6,7 @@ use book::TEXT_AT;
 use book_blocks::BlockStep;
 use book_blocks::BlocksEnd;
 use book_blocks::block_at;
+use book_blocks::in_turn;
 use book_bytes::part;
 use book_bytes::wide;
 use book_reading::close_book;
@@ -77,11 +78,12 @@ pub fn gather_block(bytes: &[u8], n: usize, at: usize, table: &mut [u64]) -> Blo
     }
 }
 
-// The m blocks from a place on, one after the other, where the blocks before them use all names.
-fn gather_rest(bytes: &[u8], n: usize, m: usize, from: usize, table: &mut [u64]) -> BlocksEnd
+// The m blocks from a place on, one after the other. Which names they use is not asked.
+fn gather_run(bytes: &[u8], n: usize, m: usize, from: usize, table: &mut [u64]) -> BlocksEnd
     requires { ⌜ (from ≤ length (now bytes)) × (length (now bytes) ≤ longestBook) × (n ≤ tabled) × (length (now table) ≡ tableSize) ⌝ }
     ensures { λ r. ⌜ (r ≡ blocksEnd from empty (blocksOf n m (drop from (now (bytes .entry)))))
-        × GathersAll Keeps (blocksFrom n m (drop from (now (bytes .entry)))) (now (table .entry)) (now (table .exit)) ⌝ }
+        × GathersAll Keeps (blocksFrom n m (drop from (now (bytes .entry)))) (now (table .entry)) (now (table .exit))
+        × (length (now (table .exit)) ≡ tableSize) ⌝ }
 {
     let mut more = m;
     let mut at = from;
@@ -99,8 +101,8 @@ fn gather_rest(bytes: &[u8], n: usize, m: usize, from: usize, table: &mut [u64])
     BlocksEnd::End(at, NameSet::empty())
 }
 
-// The m blocks from a place on, over n names, and which of the names they do not use. Once all are used, a loop
-// without the set goes on: in most books after a few blocks.
+// The m blocks from a place on, over n names, and which of the names they do not use. Once all are used, the others are
+// read in one run: in most books after a few blocks.
 fn gather_blocks(bytes: &[u8], n: usize, m: usize, from: usize, table: &mut [u64]) -> BlocksEnd
     requires { ⌜ (from ≤ length (now bytes)) × (length (now bytes) ≤ longestBook) × (0 < n) × (n ≤ tabled) × (length (now table) ≡ tableSize) ⌝ }
     ensures { λ r. ⌜ (r ≡ blocksEnd from (below n) (blocksOf n m (drop from (now (bytes .entry)))))
@@ -110,19 +112,21 @@ fn gather_blocks(bytes: &[u8], n: usize, m: usize, from: usize, table: &mut [u64
     let mut at = from;
     let mut unused = NameSet::below(n);
     while 0 < left {
-        match gather_block(bytes, n, at, table) {
-            BlockStep::Block(size) => {
-                unused = without_block(unused, bytes, at, size);
-                at = at + HEAD_SIZE + size;
+        let empty = unused.is_empty();
+        let end = gather_run(bytes, n, in_turn(empty, left), at, table);
+        if empty {
+            return end;
+        }
+        match end {
+            BlocksEnd::End(next, _) => {
+                unused = without_block(unused, bytes, at, next - at - HEAD_SIZE);
+                at = next;
             }
-            BlockStep::Stopped(refusal) => {
+            BlocksEnd::Stopped(refusal) => {
                 return BlocksEnd::Stopped(refusal);
             }
         }
         left -= 1;
-        if unused.is_empty() {
-            return gather_rest(bytes, n, left, at, table);
-        }
     }
     BlocksEnd::End(at, unused)
 }

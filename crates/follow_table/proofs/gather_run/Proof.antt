@@ -1,4 +1,4 @@
--- `gather_rest` meets its contract: block after block, the table keeps what the blocks so far show of every parent, and
+-- `gather_run` meets its contract: block after block, the table keeps what the blocks so far show of every parent, and
 -- nothing is left of the empty set.
 -- Assumes nothing.
 use Prim.Native.Nat.{_+_}
@@ -15,8 +15,8 @@ use Rattle.book_blocks.specs.declared.BlocksEnd.the-variants.{End}
 use Rattle.book_blocks.proofs.Steps.{BlockRead, block-read}
 use Rattle.book_blocks.proofs.Gathering.{Gathering, gather-none, gather-done, gather-stopped, gather-more}
 use Rattle.follow_table.specs.Table.{tableSize, Keeps}
-use Rattle.follow_table.proofs.gather_rest.Statement.{statement}
-use Rattle.follow_table.proofs.gather_rest.Tie as tie
+use Rattle.follow_table.proofs.gather_run.Statement.{statement}
+use Rattle.follow_table.proofs.gather_run.Tie as tie
 
 abbrev Inv-loop : tie.InvT-loop
 Inv-loop bytes n m from table₀ more₀ at₀ table more at =
@@ -52,7 +52,8 @@ returns : tie.Need-returns Inv-loop μ-loop
 returns c =
     let g = c .before .before .before .before .before in
     let i = g .before .before in
-    gather-stopped Keeps _ _ _ _ _ _ _ _ _ _ (i .before .loop .inv .1) (i .loop-test .taken) _ (g .gather-block .ensures .0) _ (c .before .refusal .given .1) _ (g .gather-block .ensures .1)
+    let (answer, kept) = gather-stopped Keeps _ _ _ _ _ _ _ _ _ _ (i .before .loop .inv .1) (i .loop-test .taken) _ (g .gather-block .ensures .0) _ (c .before .refusal .given .1) _ (g .gather-block .ensures .1) in
+    (answer, kept, g .gather-block .ensures .2)
 
 loop-again : tie.Need-loop-again Inv-loop μ-loop
 loop-again c =
@@ -66,10 +67,10 @@ returns-2 : tie.Need-returns-2 Inv-loop μ-loop
 returns-2 c =
     let l = c .before .before in
     let (answer, kept) = gather-done Keeps _ _ _ _ _ _ _ _ _ _ (l .loop .inv .1) (c .before .loop-test .left) in
-    (ap (End (l .loop .at)) (c .empty .ensures .same) ∙ answer, kept)
+    (ap (End (l .loop .at)) (c .empty .ensures .same) ∙ answer, kept, l .loop .inv .0)
 
-pub gather-rest-spec : {M : Type 1} → statement M
-gather-rest-spec =
+pub gather-run-spec : {M : Type 1} → statement M
+gather-run-spec =
     tie.close
     (tie.spec Inv-loop μ-loop loop-holds gather-block-requires (λ c. search needs) add-at behind
     (λ c. search needs) (λ c. search needs) returns (λ c. omega arith) (λ c. omega arith) loop-again (λ c κs. search needs) (λ c. search needs) returns-2)

@@ -1,4 +1,4 @@
--- `read_rest` meets its contract: what is left to read decides the answer, and nothing is left of the empty set.
+-- `read_run` meets its contract: what is left to read decides the answer, and nothing is left of the empty set.
 -- Assumes nothing.
 use mathlib.Core.Path.{refl, sym, _∙_, ap}
 use native.Mathlib.Omega.{arith}
@@ -8,8 +8,8 @@ use Rattle.book_unused.proofs.Laws.{block-empty}
 use Rattle.book_blocks.specs.declared.BlocksEnd.the-variants.{End}
 use Rattle.book_blocks.proofs.Steps.{BlockRead, block-read, block-stopped}
 use Rattle.book_blocks.proofs.Walk.{Walk, walk-none, walk-done, walk-stopped, walk-more}
-use Rattle.book_blocks.proofs.read_rest.Statement.{statement}
-use Rattle.book_blocks.proofs.read_rest.Tie as tie
+use Rattle.book_blocks.proofs.read_run.Statement.{statement}
+use Rattle.book_blocks.proofs.read_run.Tie as tie
 
 abbrev Inv-loop : tie.InvT-loop
 Inv-loop bytes n m from more₀ at₀ more at = Walk bytes n m from empty more at empty
@@ -45,8 +45,8 @@ returns-2 c =
     let l = c .before .before in
     ap (End (l .loop .at)) (c .empty .ensures .same) ∙ walk-done _ _ _ _ _ _ _ _ (l .loop .inv) (c .before .loop-test .left)
 
-pub read-rest-spec : {M : Type 1} → statement M
-read-rest-spec =
+pub read-run-spec : {M : Type 1} → statement M
+read-run-spec =
     tie.close
     (tie.spec Inv-loop μ-loop loop-holds (λ c κs. omega arith) (λ c. search needs) (λ c. omega arith) add-at-2 (λ c. search needs) returns
     (λ c. omega arith) (λ c. omega arith) loop-again (λ c κs. search needs) returns-2)
