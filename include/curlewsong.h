@@ -40,7 +40,8 @@
  *    all names, after the end             17
  *
  * At one field the conditions are in this order: first 2, then those on its value. So the two bytes 00 00 are refused
- * with 3, although bytes are missing further on. A book has a name, so one without blocks is always refused.
+ * with 3, although bytes are missing further on. A book has a name, so one without blocks is always refused: with 17 if
+ * nothing else is wrong with it.
  *
  * A refused call changes nothing that it borrows. The rest of its answer is then: the model with count 0, every factor
  * 255, every mode 0 and text 0; no; length 0; parent 0. All of these are also answers of calls that were not refused,

@@ -92,8 +92,9 @@ class Lines(unittest.TestCase):
         for line in (b"+ memo", b"+memo", b"+", b"+ b", b" + memo b", b"+ #PCDATA", b"+ memo: b"):
             with self.subTest(line=line), self.assertRaises(tool.Bad) as raised:
                 made(b"a: b\n" + line + b"\n")
-            self.assertIn("line 2: the names behind '+' are in no block, and every call refuses a book with such a "
-                          "name (17); remove the line, or write a block that uses the name", str(raised.exception))
+            self.assertIn("line 2: a line cannot begin with '+'; such a line once gave names that no block uses, and "
+                          "every call now refuses a book with such a name (17); remove it, or write a block that uses "
+                          "the name", str(raised.exception))
         self.assertEqual(made(b"# + memo\na:\n")[0], b"\1\0\1a\1\0\0\0\0")
 
     def test_bad_lines(self):

@@ -15,7 +15,7 @@ A file that begins with '<' is an XML document; any other file holds lines:
   # words                             a comment; empty lines count for nothing
 
 A line that begins with the word #PCDATA is no comment, and is refused. A line ends in LF, CR LF or CR. The names of the
-book are those in its blocks. A book with a further name is refused by every call (17); `show` says which name it is.
+book are those in its blocks. A book with a further name is refused by every call (17); `show` names the first one.
 
 Of an XML document each element is a block: its name, whether it has text, and the names of its child elements in order.
 It has text where character data other than white space is directly in it. White space is text only where no block of
@@ -200,8 +200,8 @@ def checked_names(words, where):
 
 def block_of_line(line, where):
     if line.startswith(b"+"):
-        raise Bad(f"{where}: the names behind '+' are in no block, and every call refuses a book with such a name "
-                  "(17); remove the line, or write a block that uses the name")
+        raise Bad(f"{where}: a line cannot begin with '+'; such a line once gave names that no block uses, and every "
+                  "call now refuses a book with such a name (17); remove it, or write a block that uses the name")
     parent, colon, behind = line.partition(b":")
     if not colon:
         raise Bad(f"{where}: no ':' behind the parent; a block is written as 'entry: member contribution total'; "
