@@ -17,8 +17,7 @@ use Rattle.refusal.proofs.Answers.{given-refused, check-law, number-refused}
 use Rattle.refusal.proofs.Checks.{other, own-check, next-check, pass-check, last-check, avoids, own, own-or-next, row, row-0, number-only}
 use Rattle.nameset.specs.Places.{places, goodCount}
 use Rattle.nameset.proofs.Count.{count-bounds, bounds-count, count-bad}
-use Rattle.book.specs.Book.{Book, IsBook}
-use Rattle.book.specs.Used.{Unused}
+use Rattle.book.specs.Book.{Book}
 use Rattle.book.specs.Stops.{Stops}
 use Rattle.book.specs.Taken.{takenBook, TakenAs, badParent}
 use Rattle.book.proofs.Taken.{is-book, taken-refused, taken-unused, taken-stops, bad-parent, good-parent}
