@@ -17,7 +17,7 @@ ROOT = pathlib.Path(__file__).resolve().parent.parent
 PICTURE = ROOT / "docs" / "layers.svg"
 MARK = "(no function)."
 WITHOUT_ARROWS = "test programs"
-LEFT, WIDTH, TOP, ROW, BOX, GAP = 112, 800, 18, 44, 24, 16
+LEFT, WIDTH, TOP, ROW, BOX, GAP = 112, 840, 18, 44, 24, 16
 COLOURS = ["#444444", "#00558b", "#8a4b00", "#00693e", "#8b1a4a", "#5b2a86", "#006d77", "#9b2226"]
 LEGEND = [
     "Lowest layer at the bottom. An arrow goes from a crate to one that it depends on, in the colour of its own group.",

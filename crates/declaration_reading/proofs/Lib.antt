@@ -1,4 +1,3 @@
-pub mod Places
 pub mod Steps
 pub mod Calls
 pub mod Theorem

@@ -4,42 +4,20 @@
 -- Assumes nothing.
 use Prim.Native.Nat.{ℕ}
 use mathlib.Core.Path.{_≡_}
-use mathlib.Core.Bool.{Bool, cond}
 use mathlib.Core.List.{List}
-use Rattle.refusal.specs.declared.Refusal.{Refusal}
-use Rattle.refusal.specs.declared.Refusal.the-variants.{UnknownName, NameTwice}
 use Rattle.refusal.specs.declared.Outcome.the-variants.{Done}
-use Rattle.refusal.specs.Table.{stoppedBy}
-use Rattle.refusal.specs.Answer.{Answer, given, refused, onward, outcomeOf}
+use Rattle.refusal.specs.Answer.{Answer, onward, outcomeOf}
 use Rattle.nameset.specs.Places.{places}
 use Rattle.book.specs.Taken.{takenBook}
 use Rattle.model.specs.declared.Model.{Model}
-use Rattle.model.specs.Record.{dueModel}
 use Rattle.declaration_spelling.specs.Read.{Declared}
 use Rattle.declaration_walk.specs.Gather.{textAnswer}
-use Rattle.declaration_reading.specs.declared.Declaration.{Declaration}
+use Rattle.declaration_gather.specs.declared.Declaration.{Declaration}
+use Rattle.declaration_gather.specs.Answered.{parentDue, modelDue, declarationOf}
 
 -- The answer for any bytes as the book and any text.
 unfoldable pub readAnswer : List ℕ → List ℕ → Answer Declared
 readAnswer bytes text = onward (takenBook bytes) (λ b. textAnswer places (b .names) text)
-
--- The parent's number, "a length or parent number due is 0".
-unfoldable pub parentDue : Answer Declared → ℕ
-parentDue (given d) = d .parent
-parentDue (refused r) = stoppedBy r .parent
-
--- The record, "a model due is the empty model".
-unfoldable pub modelDue : Answer Declared → Model
-modelDue (given d) = d .model
-modelDue (refused r) = dueModel
-
--- The answer as the code has it.
-unfoldable pub declarationOf : Answer Declared → Declaration
-declarationOf a = record { outcome = outcomeOf a; parent = parentDue a; model = modelDue a }
-
--- Once a name came twice: 15 where every name behind it is known, else 14, which comes first.
-unfoldable pub twiceOrUnknown : Bool → Refusal
-twiceOrUnknown known = cond known NameTwice UnknownName
 
 -- The call was not refused, and this is the parent and the record that it answered.
 abbrev pub Reads : Declaration → ℕ → Model → Type 0

@@ -5,8 +5,8 @@ ghost use Rattle.nameset.specs.Places.{places};
 ghost use Rattle.model.specs.Record.{modelWith};
 ghost use Rattle.model.specs.Build.{ofRows};
 ghost use Rattle.model.specs.Check.{isChain, mayHaveText, textFits, isModel};
+use model_named::all_named;
 use model_rows::all_known;
-use model_rows::all_named;
 use model_rows::all_placed;
 use nameset::PLACES;
 

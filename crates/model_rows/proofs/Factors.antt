@@ -13,14 +13,9 @@ use lib.ListN.{length, getD, List·getD-eq-default}
 use Rattle.model.specs.Record.{noFactor}
 use Rattle.nameset.specs.Tests.{everyBelow}
 use Rattle.model.specs.Check.{mayHold, allPlaced}
-use Rattle.nameset.proofs.Tests.{both, and-left, and-right, same-test, all-law}
+use Rattle.nameset.proofs.Tests.{both, and-left, and-right, same-test, all-law, all-same}
 
 -- ---- tests over all numbers below a bound
-
-pub all-same : (n : ℕ) (f g : ℕ → Bool) → ((k : ℕ) → k < n → f k ≡ g k) → everyBelow n f ≡ everyBelow n g
-all-same n f g h =
-    same-test (everyBelow n f) (everyBelow n g) (λ e. all-law n g .1 (λ k l. sym (h k l) ∙ all-law n f .0 e k l))
-    (λ e. all-law n f .1 (λ k l. h k l ∙ all-law n g .0 e k l))
 
 -- Numbers that pass anyway need no test.
 all-past : (n k : ℕ) (f : ℕ → Bool) → n ≤ k → ((x : ℕ) → n ≤ x → f x ≡ true) → everyBelow k f ≡ everyBelow n f

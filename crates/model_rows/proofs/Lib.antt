@@ -1,4 +1,2 @@
 pub mod Modes
 pub mod Factors
-pub mod Naming
-pub mod Used

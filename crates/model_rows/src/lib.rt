@@ -1,6 +1,5 @@
-// The conditions on the rows of a model record, each by itself.
-mod named; // named.rt: each factor has a name
-
+// The conditions on the entries of a model record, each by itself: every name has a factor that it may have, every
+// factor a mode that it may have.
 ghost use Prim.Native.Nat.{ℕ};
 ghost use mathlib.Core.Path.{_≡_};
 ghost use mathlib.Core.Bool.{true, _||_};
@@ -13,7 +12,6 @@ use byte_row::larger;
 use byte_row::largest_from;
 use model::NO_FACTOR;
 use model::entry;
-pub use named::all_named;
 
 // An entry counted from 1, and 0 for none: it is at most F exactly where a name may have that entry.
 fn counted(v: u8) -> u8

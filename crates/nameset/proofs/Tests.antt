@@ -1,7 +1,7 @@
 -- Laws of the tests over all numbers below a bound.
 -- Assumes nothing.
 use Prim.Native.Nat.{ℕ, zero, suc, _+_, _<_}
-use mathlib.Core.Path.{_≡_, refl, sym}
+use mathlib.Core.Path.{_≡_, refl, sym, _∙_}
 use mathlib.Core.Bool.{Bool, true, false, _&&_, _||_, false≢true}
 use mathlib.Core.Logic.{_⊎_, inl, inr, _↔_}
 use native.Mathlib.Omega.{arith}
@@ -71,7 +71,13 @@ any-law (suc n) test = (λ e. to (any-law n test .0) (or-split (anyBelow n test)
     from f k l e (yes d) = or-right (anyBelow n test) (test n) (rw d at e)
     from f k l e (no d) = rw (f (k, omega arith, e))
 
--- The same, as a loop meets it.
+-- Tests that agree on every number below n.
+pub all-same : (n : ℕ) (f g : ℕ → Bool) → ((k : ℕ) → k < n → f k ≡ g k) → everyBelow n f ≡ everyBelow n g
+all-same n f g h =
+    same-test (everyBelow n f) (everyBelow n g) (λ e. all-law n g .1 (λ k l. sym (h k l) ∙ all-law n f .0 e k l))
+    (λ e. all-law n f .1 (λ k l. h k l ∙ all-law n g .0 e k l))
+
+-- Some number below n, as a loop meets it.
 pub any-start : (test : ℕ → Bool) → anyBelow 0 test ≡ false
 unfolding anyBelow
 any-start test = refl

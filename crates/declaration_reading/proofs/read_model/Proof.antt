@@ -1,6 +1,7 @@
 -- `read_model` meets its contract: `EMPTY`, text, factors without text.
 -- Assumes nothing.
-use Rattle.declaration_reading.proofs.Steps.{in-order, model-empty, model-text, model-factors}
+use Rattle.declaration_rows.proofs.Steps.{in-order}
+use Rattle.declaration_reading.proofs.Steps.{model-empty, model-text, model-factors}
 use borrow.Author.Needs.{needs}
 use Rattle.declaration_reading.proofs.read_model.Statement.{statement}
 use Rattle.declaration_reading.proofs.read_model.Tie as tie

@@ -1,6 +1,7 @@
 -- `read_tokens` meets its contract: the parent, then the model.
 -- Assumes nothing.
-use Rattle.declaration_reading.proofs.Steps.{in-order, tokens-none, tokens-unknown, tokens-model}
+use Rattle.declaration_rows.proofs.Steps.{in-order}
+use Rattle.declaration_reading.proofs.Steps.{tokens-none, tokens-unknown, tokens-model}
 use borrow.Author.Needs.{needs}
 use Rattle.declaration_reading.proofs.read_tokens.Statement.{statement}
 use Rattle.declaration_reading.proofs.read_tokens.Tie as tie
