@@ -80,12 +80,13 @@ use Rattle.intake_dtd.proofs.Agree.{dtd-by-facts}
 use Rattle.dtd_output.specs.Output.{outputOf}
 use Rattle.demands_samples.specs.Samples.{lines, textLines, lineDeclaration, printedDeclaration}
 use Rattle.demands_samples.proofs.Samples.{marked, with-text}
-use Rattle.curlewsong.specs.declared.ModelReply.{ModelReply}
-use Rattle.curlewsong.specs.declared.Verdict.{Verdict}
-use Rattle.curlewsong.specs.declared.InclusionReply.{InclusionReply}
-use Rattle.curlewsong.specs.declared.LengthReply.{LengthReply}
-use Rattle.curlewsong.specs.declared.TextReply.{TextReply}
-use Rattle.curlewsong.specs.Reply.{modelReply, verdict, inclusionReply, lengthReply, textReply, RepliesModel, RepliesWord, RepliesWithin, RepliesWritten, RepliesSample, RepliesDtd, RepliesText}
+use Rattle.curlewsong_reply.specs.declared.ModelReply.{ModelReply}
+use Rattle.curlewsong_reply.specs.declared.Verdict.{Verdict}
+use Rattle.curlewsong_reply.specs.declared.InclusionReply.{InclusionReply}
+use Rattle.curlewsong_reply.specs.declared.LengthReply.{LengthReply}
+use Rattle.curlewsong_reply.specs.declared.TextReply.{TextReply}
+use Rattle.curlewsong_reply.specs.Reply.{modelReply, verdict, inclusionReply, lengthReply, textReply}
+use Rattle.curlewsong.specs.Replies.{RepliesModel, RepliesWord, RepliesWithin, RepliesWritten, RepliesSample, RepliesDtd, RepliesText}
 use Rattle.demands.specs.Conditions.{BookConditions, WordConditions, WithinConditions, ModelConditions, WriteConditions, SampleConditions, DtdConditions, ReadConditions, ProgramConditions}
 use Rattle.demands.specs.Results.{Wrote, Asked, Minimal}
 use Rattle.demands.proofs.Refusals as Law

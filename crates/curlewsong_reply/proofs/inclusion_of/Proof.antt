@@ -2,9 +2,9 @@
 -- Assumes nothing.
 use mathlib.Core.Path.{_∙_}
 use borrow.Author.Needs.{needs}
-use Rattle.curlewsong.proofs.Replies.{included-yes, included-no, included-refused}
-use Rattle.curlewsong.proofs.inclusion_of.Statement.{statement}
-use Rattle.curlewsong.proofs.inclusion_of.Tie as tie
+use Rattle.curlewsong_reply.proofs.Replies.{included-yes, included-no, included-refused}
+use Rattle.curlewsong_reply.proofs.inclusion_of.Statement.{statement}
+use Rattle.curlewsong_reply.proofs.inclusion_of.Tie as tie
 
 returns : tie.Need-returns
 returns c = c .replied .ensures ∙ included-yes _ (c .before .enum-told .given .1)

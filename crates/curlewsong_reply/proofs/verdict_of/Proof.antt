@@ -1,9 +1,9 @@
 -- `verdict_of` meets its contract: one verdict for each case.
 -- Assumes nothing.
 use borrow.Author.Needs.{needs}
-use Rattle.curlewsong.proofs.Replies.{verdict-yes, verdict-no, verdict-refused}
-use Rattle.curlewsong.proofs.verdict_of.Statement.{statement}
-use Rattle.curlewsong.proofs.verdict_of.Tie as tie
+use Rattle.curlewsong_reply.proofs.Replies.{verdict-yes, verdict-no, verdict-refused}
+use Rattle.curlewsong_reply.proofs.verdict_of.Statement.{statement}
+use Rattle.curlewsong_reply.proofs.verdict_of.Tie as tie
 
 enum-told : tie.Need-enum-told
 enum-told c = search needs

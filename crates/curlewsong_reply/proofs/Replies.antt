@@ -15,7 +15,7 @@ use Rattle.intake_within.specs.declared.Inclusion.the-variants as Case
 use Rattle.intake_sample.specs.declared.Inferred.{Inferred}
 use Rattle.intake_word.specs.Acceptance.{acceptanceNumber, acceptanceYes}
 use Rattle.intake_within.specs.Comparison.{inclusionNumber, inclusionYes, inclusionLength}
-use Rattle.curlewsong.specs.Reply.{modelReply, verdict, inclusionReply, lengthReply, textReply}
+use Rattle.curlewsong_reply.specs.Reply.{modelReply, verdict, inclusionReply, lengthReply, textReply}
 
 -- ---- a verdict for each case
 
