@@ -8,7 +8,7 @@ use mathlib.Core.List.{List}
 use Rattle.model.specs.declared.Model.{Model}
 use Rattle.declaration_writing.specs.declared.Written.{Written}
 use Rattle.declaration_writing.specs.Write.{WritesDeclaration}
-use Rattle.declaration_gather.specs.declared.Declaration.{Declaration}
+use Rattle.declaration_record.specs.declared.Declaration.{Declaration}
 use Rattle.declaration_reading.specs.Read.{ReadsDeclaration}
 use Rattle.intake_word.specs.declared.Acceptance.{Acceptance}
 use Rattle.intake_within.specs.declared.Inclusion.{Inclusion}

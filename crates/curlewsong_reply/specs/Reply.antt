@@ -4,7 +4,7 @@ use Prim.Native.Nat.{ℕ}
 use mathlib.Core.Bool.{Bool}
 use Rattle.refusal.specs.Answer.{outcomeNumber}
 use Rattle.declaration_writing.specs.declared.Written.{Written}
-use Rattle.declaration_gather.specs.declared.Declaration.{Declaration}
+use Rattle.declaration_record.specs.declared.Declaration.{Declaration}
 use Rattle.intake_word.specs.declared.Acceptance.{Acceptance}
 use Rattle.intake_within.specs.declared.Inclusion.{Inclusion}
 use Rattle.intake_sample.specs.declared.Inferred.{Inferred}

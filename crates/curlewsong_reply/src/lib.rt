@@ -1,5 +1,5 @@
 // Answers as C and Rust get them, as include/curlewsong.h declares them: the refusal as a number, 0 for none.
-use declaration_gather::Declaration;
+use declaration_record::Declaration;
 use declaration_writing::Written;
 use intake_sample::Inferred;
 use intake_within::Inclusion;
@@ -45,6 +45,7 @@ pub struct TextReply {
     pub model: Model,
 }
 
+// The reply to a caller who asked whether a word is accepted.
 pub fn verdict_of(answer: Acceptance) -> Verdict
     ensures { λ r. ⌜ r ≡ verdict answer ⌝ }
 {
@@ -64,6 +65,7 @@ pub fn verdict_of(answer: Acceptance) -> Verdict
     }
 }
 
+// The reply with these parts.
 fn replied(refusal: u8, yes: bool, length: usize) -> InclusionReply
     ensures { λ r. ⌜ r ≡ inclusionOf refusal yes length ⌝ }
 {
@@ -74,6 +76,7 @@ fn replied(refusal: u8, yes: bool, length: usize) -> InclusionReply
     }
 }
 
+// The reply to a caller who compared two models.
 pub fn inclusion_of(answer: Inclusion) -> InclusionReply
     ensures { λ r. ⌜ r ≡ inclusionReply answer ⌝ }
 {
@@ -84,6 +87,7 @@ pub fn inclusion_of(answer: Inclusion) -> InclusionReply
     }
 }
 
+// The reply to a caller who had a text written.
 pub fn length_of(answer: Written) -> LengthReply
     ensures { λ r. ⌜ r ≡ lengthReply answer ⌝ }
 {
@@ -94,6 +98,7 @@ pub fn length_of(answer: Written) -> LengthReply
     }
 }
 
+// The reply to a caller who asked for the model of a parent.
 pub fn model_of(answer: Inferred) -> ModelReply
     ensures { λ r. ⌜ r ≡ modelReply answer ⌝ }
 {
@@ -105,6 +110,7 @@ pub fn model_of(answer: Inferred) -> ModelReply
     }
 }
 
+// The reply to a caller who had a text read.
 pub fn text_of(answer: Declaration) -> TextReply
     ensures { λ r. ⌜ r ≡ textReply answer ⌝ }
 {

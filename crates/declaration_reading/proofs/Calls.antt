@@ -22,9 +22,9 @@ use Rattle.declaration_spelling.specs.Cut.{strip}
 use Rattle.declaration_spelling.proofs.Tests.{strip-is}
 use Rattle.declaration_walk.specs.Walk.{acceptsRest, hasForm}
 use Rattle.declaration_walk.specs.Gather.{tokensAnswer, textAnswer}
-use Rattle.declaration_gather.specs.declared.Declaration.{Declaration}
+use Rattle.declaration_record.specs.declared.Declaration.{Declaration}
 use Rattle.declaration_rows.specs.Place.{tokensAt}
-use Rattle.declaration_gather.specs.Answered.{declarationOf}
+use Rattle.declaration_record.specs.Answered.{declarationOf}
 use Rattle.declaration_reading.specs.Read.{readAnswer, ReadsDeclaration}
 
 -- a text that has the form has the nine bytes of `<!ELEMENT`

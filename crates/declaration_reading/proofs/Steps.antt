@@ -1,4 +1,4 @@
--- The functions' steps and returns, over plain values.
+-- The returns of the functions from `is_text` to `read_tokens`, over plain values.
 -- Assumes nothing.
 use Prim.Native.Nat.{ℕ, _-_}
 use mathlib.Core.Path.{_≡_, _∙_, ap}
@@ -21,9 +21,9 @@ use Rattle.declaration_spelling.specs.Kind.{wordKind, pcdataKind, barKind, toke
 use Rattle.declaration_spelling.specs.Token.{word}
 use Rattle.declaration_spelling.specs.Read.{known, numberFor, declared}
 use Rattle.declaration_walk.specs.Gather.{factorsAnswer, beginsWithWord, beginsWith, mixedAnswer, contentAnswer, tokensAnswer}
-use Rattle.declaration_gather.specs.declared.Declaration.{Declaration}
+use Rattle.declaration_record.specs.declared.Declaration.{Declaration}
 use Rattle.declaration_rows.specs.Place.{tokensAt, partOf, textKind}
-use Rattle.declaration_gather.specs.Answered.{declarationOf}
+use Rattle.declaration_record.specs.Answered.{declarationOf}
 use Rattle.declaration_rows.proofs.Places.{word-next, text-next, bar-next, one-on, two-on, answer-next}
 use Rattle.declaration_rows.proofs.Steps.{known-found, known-missing, number-found}
 

@@ -34,8 +34,8 @@ use Rattle.declaration_walk.proofs.Refusals as Text
 use Rattle.declaration_walk.proofs.Theorem as Spelling
 use Rattle.declaration_writing.specs.Write.{fitted, writeIn, writeAnswer}
 use Rattle.declaration_writing.proofs.Back.{text-given}
-use Rattle.declaration_gather.specs.declared.Declaration.{Declaration}
-use Rattle.declaration_gather.specs.Answered.{parentDue, modelDue}
+use Rattle.declaration_record.specs.declared.Declaration.{Declaration}
+use Rattle.declaration_record.specs.Answered.{parentDue, modelDue}
 use Rattle.declaration_reading.specs.Read.{readAnswer, Reads, ReadsDeclaration}
 
 -- ---- when exactly a text is refused

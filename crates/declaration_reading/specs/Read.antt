@@ -12,8 +12,8 @@ use Rattle.book.specs.Taken.{takenBook}
 use Rattle.model.specs.declared.Model.{Model}
 use Rattle.declaration_spelling.specs.Read.{Declared}
 use Rattle.declaration_walk.specs.Gather.{textAnswer}
-use Rattle.declaration_gather.specs.declared.Declaration.{Declaration}
-use Rattle.declaration_gather.specs.Answered.{parentDue, modelDue, declarationOf}
+use Rattle.declaration_record.specs.declared.Declaration.{Declaration}
+use Rattle.declaration_record.specs.Answered.{parentDue, modelDue, declarationOf}
 
 -- The answer for any bytes as the book and any text.
 unfoldable pub readAnswer : List ℕ → List ℕ → Answer Declared

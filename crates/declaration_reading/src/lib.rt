@@ -1,10 +1,10 @@
 // Reading one declaration.
 use book::Found;
 use book::Layout;
-use declaration_gather::Declaration;
-use declaration_gather::given;
-use declaration_gather::read_factors;
-use declaration_gather::refused;
+use declaration_record::Declaration;
+use declaration_record::given;
+use declaration_record::read_factors;
+use declaration_record::refused;
 use declaration_scan::BAR;
 use declaration_scan::PCDATA;
 use declaration_scan::Piece;
@@ -20,7 +20,7 @@ ghost use Rattle.book.specs.Book.{namesIn};
 ghost use Rattle.book.specs.Access.{LaidOut};
 ghost use Rattle.declaration_walk.specs.Gather.{mixedAnswer, contentAnswer, tokensAnswer};
 ghost use Rattle.declaration_rows.specs.Place.{tokensAt, partOf, textKind};
-ghost use Rattle.declaration_gather.specs.Answered.{declarationOf};
+ghost use Rattle.declaration_record.specs.Answered.{declarationOf};
 ghost use Rattle.declaration_reading.specs.Read.{ReadsDeclaration};
 
 // How many bytes `<!ELEMENT` has.

@@ -1,4 +1,4 @@
--- The steps and returns of the functions, over plain values.
+-- The steps and returns of the functions for one token and of `all_known`, over plain values.
 -- Assumes nothing.
 use Prim.Native.Nat.{ℕ, zero, suc, _+_, _-_, _≤_, _<_}
 use mathlib.Core.Path.{_≡_, refl, sym, _∙_, ap}

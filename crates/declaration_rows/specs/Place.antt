@@ -1,5 +1,5 @@
 -- A means: the traversal of crate `declaration_walk` that fills the record, by places of the text: the tokens from a
--- place on, and what a token is by its kind and its bytes. The functions of this crate promise it; `known-next`,
+-- place on, and what a token is by its kind and its bytes. The functions that read a model promise it; `known-next`,
 -- `take-next`, `text-next` and `answer-next` in proofs/Places.antt join it to that traversal.
 -- Assumes nothing.
 use Prim.Native.Nat.{ℕ, zero, suc, _-_}

@@ -1,5 +1,5 @@
-// What one token of a declaration does to the rows of the record under way: the factor of each name, and the mode of
-// each factor.
+// One token of a declaration: the number of its name by the book, and what it changes in the rows of the record under
+// way, the factor of each name and the mode of each factor.
 use declaration_scan::COMMA;
 use declaration_scan::PLUS;
 use declaration_scan::QUESTION;

@@ -60,7 +60,7 @@ use Rattle.declaration_spelling.proofs.Books.{good-names}
 use Rattle.declaration_walk.proofs.Theorem as Spelling
 use Rattle.declaration_writing.specs.declared.Written.{Written}
 use Rattle.declaration_writing.specs.Write.{written, WritesDeclaration}
-use Rattle.declaration_gather.specs.declared.Declaration.{Declaration}
+use Rattle.declaration_record.specs.declared.Declaration.{Declaration}
 use Rattle.declaration_reading.specs.Read.{Reads, ReadsDeclaration}
 use Rattle.declaration_reading.proofs.Theorem as Reading
 use Rattle.intake_word.specs.declared.Acceptance.{Acceptance}

@@ -33,7 +33,7 @@ use Rattle.declaration_writing.specs.Write.{fitted, writeIn, writeAnswer, lengt
 use Rattle.byte_buffer.specs.Put.{wrote}
 use Rattle.byte_buffer.proofs.Puts.{wrote-start, wrote-back}
 use Rattle.declaration_writing.proofs.Back.{Given, text-given, buffer-given, buffer-kept}
-use Rattle.declaration_gather.specs.declared.Declaration.{Declaration}
+use Rattle.declaration_record.specs.declared.Declaration.{Declaration}
 use Rattle.declaration_reading.specs.Read.{Reads, ReadsDeclaration}
 use Rattle.declaration_reading.proofs.Theorem as Reading
 use Rattle.intake_word.specs.declared.Acceptance.{Acceptance}

@@ -1,6 +1,8 @@
-// The seven calls open to the outside, passed on from the crates that have them. None has a requirement: each says for
-// every input what it answers.
+// The seven calls open to the outside and the types of their answers, passed on from the crates that have them. No call
+// has a requirement: each says for every input what it answers.
 pub use declaration_reading::read_declaration;
+pub use declaration_record::Declaration;
+pub use declaration_writing::Written;
 pub use declaration_writing::write_declaration;
 pub use intake_dtd::write_dtd;
 pub use intake_sample::Inferred;

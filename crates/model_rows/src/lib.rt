@@ -1,5 +1,4 @@
-// The conditions on the entries of a model record, each by itself: every name has a factor that it may have, every
-// factor a mode that it may have.
+// The conditions on the entries and on the modes of a model record, each by itself.
 ghost use Prim.Native.Nat.{ℕ};
 ghost use mathlib.Core.Path.{_≡_};
 ghost use mathlib.Core.Bool.{true, _||_};

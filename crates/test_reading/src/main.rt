@@ -3,7 +3,7 @@
 // of output has the refusal's number, the parent's number, the count of factors, the text byte, the factor of each of
 // the five names, the mode of each of the first five factors, and the text between `[` and `]`.
 // `tests/reading_cases.py` has the texts and what is due of each.
-use declaration_gather::Declaration;
+use declaration_record::Declaration;
 
 // How many names the book has.
 const NAMES: usize = 5;

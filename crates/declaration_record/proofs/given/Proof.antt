@@ -1,9 +1,9 @@
 -- `given` meets its contract.
 -- Assumes nothing.
 use mathlib.Core.Path.{refl}
-use Rattle.declaration_gather.specs.Answered.{parentDue, modelDue, declarationOf}
-use Rattle.declaration_gather.proofs.given.Statement.{statement}
-use Rattle.declaration_gather.proofs.given.Tie as tie
+use Rattle.declaration_record.specs.Answered.{parentDue, modelDue, declarationOf}
+use Rattle.declaration_record.proofs.given.Statement.{statement}
+use Rattle.declaration_record.proofs.given.Tie as tie
 
 returns : tie.Need-returns
 unfolding declarationOf parentDue modelDue

@@ -4,11 +4,11 @@ use mathlib.Core.Path.{_≡_}
 use mathlib.Core.Bool.{Bool, true, false}
 use Rattle.refusal.specs.declared.Refusal.the-variants.{UnknownName, NameTwice}
 use Rattle.refusal.specs.Answer.{refused}
-use Rattle.declaration_gather.specs.declared.Declaration.{Declaration}
-use Rattle.declaration_gather.specs.Answered.{declarationOf, twiceOrUnknown}
+use Rattle.declaration_record.specs.declared.Declaration.{Declaration}
+use Rattle.declaration_record.specs.Answered.{declarationOf, twiceOrUnknown}
 use borrow.Author.Needs.{needs}
-use Rattle.declaration_gather.proofs.twice.Statement.{statement}
-use Rattle.declaration_gather.proofs.twice.Tie as tie
+use Rattle.declaration_record.proofs.twice.Statement.{statement}
+use Rattle.declaration_record.proofs.twice.Tie as tie
 
 behind-known : (b k : Bool) (r : Declaration) → b ≡ k → b ≡ true → r ≡ declarationOf (refused NameTwice) → r ≡ declarationOf (refused (twiceOrUnknown k))
 unfolding twiceOrUnknown

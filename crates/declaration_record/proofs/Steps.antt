@@ -1,4 +1,4 @@
--- The functions' steps and returns, over plain values.
+-- The steps and returns of `read_factors` and `refused`, over plain values.
 -- Assumes nothing.
 use Prim.Native.Nat.{ℕ, _+_, _-_, _≤_, _<_}
 use mathlib.Core.Path.{_≡_, refl, sym, _∙_, ap}
@@ -20,9 +20,9 @@ use Rattle.declaration_scan.specs.declared.Piece.{Piece}
 use Rattle.declaration_scan.specs.Piece.{pieceAt}
 use Rattle.declaration_spelling.specs.Read.{numberFor, declared}
 use Rattle.declaration_walk.specs.Gather.{knownTokens, Rows, startRows, andThen, gatherFrom, modelOf, factorsAnswer}
-use Rattle.declaration_gather.specs.declared.Declaration.{Declaration}
+use Rattle.declaration_record.specs.declared.Declaration.{Declaration}
 use Rattle.declaration_rows.specs.Place.{tokensAt, partOf, kindMode, takeKind, freeKind, factorAfter, modeAfter, indexAfter}
-use Rattle.declaration_gather.specs.Answered.{parentDue, modelDue, declarationOf, twiceOrUnknown}
+use Rattle.declaration_record.specs.Answered.{parentDue, modelDue, declarationOf, twiceOrUnknown}
 use Rattle.declaration_rows.proofs.Places.{tokens-over, take-next, take-rows}
 use Rattle.declaration_rows.proofs.Steps.{known-over}
 

@@ -12,10 +12,10 @@ use Rattle.book.specs.Book.{namesIn}
 use Rattle.declaration_walk.specs.Gather.{knownTokens, startRows, gatherFrom}
 use Rattle.declaration_rows.specs.Place.{tokensAt}
 use Rattle.declaration_rows.proofs.Steps.{in-order, onward-to, unknown-kind, known-kind, number-same, known-stop, known-on, placed-same}
-use Rattle.declaration_gather.proofs.Steps.{left, left-start, left-on, left-stop, inside-on, factors-done, factors-unknown, factors-twice}
+use Rattle.declaration_record.proofs.Steps.{left, left-start, left-on, left-stop, inside-on, factors-done, factors-unknown, factors-twice}
 use borrow.Author.Needs.{needs}
-use Rattle.declaration_gather.proofs.read_factors.Statement.{statement}
-use Rattle.declaration_gather.proofs.read_factors.Tie as tie
+use Rattle.declaration_record.proofs.read_factors.Statement.{statement}
+use Rattle.declaration_record.proofs.read_factors.Tie as tie
 
 inside : (x : ℕ) (factor : List ℕ) → x ≤ places → (x ≡ places → ⊥) → length factor ≡ places → x < length factor
 inside x factor h d e = omega (arith, d)

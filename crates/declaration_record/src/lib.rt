@@ -17,7 +17,7 @@ ghost use Rattle.model.specs.Record.{modelWith};
 ghost use Rattle.declaration_spelling.specs.Read.{declared};
 ghost use Rattle.declaration_walk.specs.Gather.{knownTokens, factorsAnswer};
 ghost use Rattle.declaration_rows.specs.Place.{tokensAt};
-ghost use Rattle.declaration_gather.specs.Answered.{declarationOf, twiceOrUnknown};
+ghost use Rattle.declaration_record.specs.Answered.{declarationOf, twiceOrUnknown};
 
 // How a call that reads ended, the parent's number and the record: 0 and the empty model where it was refused.
 pub struct Declaration {

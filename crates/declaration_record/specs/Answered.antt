@@ -1,5 +1,6 @@
--- A means: the answer of the call that reads a declaration, as the code has it. `ReadsDeclaration` in
--- crates/declaration_reading/specs/Read.antt is what the call promises of it.
+-- A means: the answer of the call that reads a declaration, as the code has it. `read-kept` and `read-exactly` in
+-- crates/demands/proofs/Demands.antt say what it is; `factors-twice` in proofs/Steps.antt joins `twiceOrUnknown` to the
+-- walk.
 -- Assumes nothing.
 use Prim.Native.Nat.{ℕ}
 use mathlib.Core.Bool.{Bool, cond}
@@ -10,7 +11,7 @@ use Rattle.refusal.specs.Answer.{Answer, given, refused, outcomeOf}
 use Rattle.model.specs.declared.Model.{Model}
 use Rattle.model.specs.Record.{dueModel}
 use Rattle.declaration_spelling.specs.Read.{Declared}
-use Rattle.declaration_gather.specs.declared.Declaration.{Declaration}
+use Rattle.declaration_record.specs.declared.Declaration.{Declaration}
 
 -- The parent's number, "a length or parent number due is 0".
 unfoldable pub parentDue : Answer Declared → ℕ

@@ -1,9 +1,9 @@
 -- `refused` meets its contract.
 -- Assumes nothing.
-use Rattle.declaration_gather.proofs.Steps.{refused-is}
+use Rattle.declaration_record.proofs.Steps.{refused-is}
 use borrow.Author.Needs.{needs}
-use Rattle.declaration_gather.proofs.refused.Statement.{statement}
-use Rattle.declaration_gather.proofs.refused.Tie as tie
+use Rattle.declaration_record.proofs.refused.Statement.{statement}
+use Rattle.declaration_record.proofs.refused.Tie as tie
 
 returns : tie.Need-returns
 returns c = refused-is _ _ (c .empty .ensures)
