@@ -23,6 +23,8 @@
  *   15  the model in the text has a name twice
  *   16  a text byte in the book is above 1
  *   17  a name in the book is neither a parent nor a child in any block
+ *   18  the document has an odd length, a pair with a bad kind or number, or pairs that do not form one root element
+ *   19  the document opens an element at depth 33
  *
  * Several conditions may hold at once. A call makes its checks in the order that is given with it below, and answers
  * the number of the first one that fails. A book is not checked number by number. First its length is checked (1), then
@@ -41,7 +43,7 @@
  *
  * At one field the conditions are in this order: first 2, then those on its value. So the two bytes 00 00 are refused
  * with 3, although bytes are missing further on. A book has a name, so one without blocks is always refused: with 17 if
- * nothing else is wrong with it.
+ * nothing else is wrong with it. Nor is a document checked number by number: see curlewsong_accepts_document.
  *
  * A refused call changes nothing that it borrows. The rest of its answer is then: the model with count 0, every factor
  * 255, every mode 0 and text 0; no; length 0; parent 0. All of these are also answers of calls that were not refused,
@@ -52,8 +54,8 @@
  * nor reads those of a buffer. A buffer overlaps nothing else that is passed to the same call.
  *
  * docs/FORMAT.md has the bytes of a book, the order of the checks and the text of a declaration. They are those of
- * paper 01, with requests U1 (reading), U2 (the whole DTD), U4 (one model within another), U5 (fields that hold text)
- * and U6 (names that no block uses) of paper 02; the papers decide.
+ * paper 01, with requests U1 (reading), U2 (the whole DTD), U4 (one model within another), U5 (fields that hold text),
+ * U6 (names that no block uses) and U7 (whole documents) of paper 02; the papers decide.
  */
 #ifndef CURLEWSONG_H
 #define CURLEWSONG_H
@@ -76,6 +78,12 @@ extern "C" {
 #define CURLEWSONG_LONGEST_DTD 144256
 /* The most names of the word that shows that a model is not within another, and the places that its buffer needs. */
 #define CURLEWSONG_LONGEST_COUNTEREXAMPLE 65
+/* The bytes of a row in a table of models. */
+#define CURLEWSONG_MODEL_ROW 131
+/* The bytes of a table of models with 64 rows, the most that are ever looked at or written. */
+#define CURLEWSONG_LONGEST_MODELS 8384
+/* The most bytes of a document. */
+#define CURLEWSONG_LONGEST_DOCUMENT 60000
 
 /* A content model: `count` factors in order. factor[x] is the factor, from 0, that holds the name with number x, or
  * CURLEWSONG_NONE. mode[i] is the mark of factor i: 0 none, 1 '?', 2 '+', 3 '*'. `text` is 1 where text is allowed
@@ -164,6 +172,53 @@ curlewsong_written curlewsong_write_dtd(const uint8_t *book, size_t book_length,
  * one group may be the whole model, as in (a|b)*; and (#PCDATA)* is read as (#PCDATA). docs/FORMAT.md has the grammar.
  * Refusals, in this order: the book's (1 to 7, 16, 17), 13, 14, 15. */
 curlewsong_read curlewsong_read_declaration(const uint8_t *book, size_t book_length, const uint8_t *text, size_t text_length);
+
+/* The three calls below take a table of models: bytes that the caller owns, with one row of CURLEWSONG_MODEL_ROW bytes
+ * for each name. The row of name x begins at byte 131 * x:
+ *
+ *    byte 0             0: the name has no model. Any other value: the rest of the row is its model
+ *    byte 1             `count`
+ *    byte 2             `text`
+ *    bytes 3 to 66      `factor`
+ *    bytes 67 to 130    `mode`
+ *
+ * A name whose row is not whole in the table has no model. So a table that is too short for all names is not refused,
+ * and one of length 0 is good (its pointer still not NULL): no name has a model. Bytes 1 to 130 of a row whose byte 0
+ * is 0 are not looked at, nor is anything behind the rows of the names.
+ *
+ * Set a new table to zeros first: then no name has a model. curlewsong_put_model writes one row, curlewsong_fill_models
+ * those of all names of a book; for these two the table is a buffer. To take a model out, set byte 0 of its row to 0. */
+
+/* Whether the document over `names` names is valid by the models of the table: every element has a model there, its
+ * children in order are a word of that model, however many there are, and text stands only in elements whose model
+ * allows text.
+ *
+ * The document is byte pairs: a kind, then a number. 0 opens the element with the name of that number, 1 closes it, and
+ * 2 is text, whose number is 0. There is one root element, at depth 1, and no element is deeper than 32. An element may
+ * have text in several places. What the text says is not told, and the caller leaves out white space that is not meant
+ * as text. <a>x<b/></a>, with a as number 0 and b as number 1, is 0 0, 2 0, 0 1, 1 1, 1 0.
+ *
+ * The length is checked first (1), then the count of names (3) and every row of a name below it (10). An odd length is
+ * refused with 18 before any pair is looked at. Then the pairs are taken from left to right, and the first one with a
+ * fault decides. It is 18 for a kind above 2, a number that is not below `names`, text with a number other than 0, a
+ * close unlike its open or with none open, text outside the root, or a second root; if none of these, 19 for an open
+ * where 32 elements are open. After the last pair it is 18 if there was no root or an element is left open. An element
+ * without a model is no ground for a refusal: the answer is no, once all pairs are checked. Refusals, in this order:
+ * 1, 3, 10, then 18 or 19 as above. */
+curlewsong_verdict curlewsong_accepts_document(size_t names, const uint8_t *models, size_t models_length,
+                                               const uint8_t *document, size_t document_length);
+
+/* Puts the model of `parent` into its row of the table, with byte 0 as 1. All other bytes of the table keep their
+ * values. Answers the refusal, 0 where there was none. The table needs the whole row, so 131 * (parent + 1) bytes or
+ * more; it may lack later rows. Refusals, in this order: 3, 8, 10, 12. */
+uint8_t curlewsong_put_model(size_t names, size_t parent, curlewsong_model model, uint8_t *models, size_t models_length);
+
+/* Writes the rows of all names of the book to the front of the table: for a name with a block byte 0 as 1 and the model
+ * that curlewsong_model_of_parent answers, for any other name 131 bytes of 0. Answers the length of all rows, 131 for
+ * each name of the book; length / CURLEWSONG_MODEL_ROW is the count of names for curlewsong_accepts_document. The bytes
+ * behind them keep their values, so with a larger count rows from before would count. The table needs that many bytes;
+ * one of CURLEWSONG_LONGEST_MODELS bytes is never too short. Refusals, in this order: the book's (1 to 7, 16, 17), 12. */
+curlewsong_written curlewsong_fill_models(const uint8_t *book, size_t book_length, uint8_t *models, size_t models_length);
 
 #ifdef __cplusplus
 }

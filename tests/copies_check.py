@@ -1,10 +1,10 @@
 #!/usr/bin/env python3
-"""Nothing that runs once for each name or factor takes or returns a record or its arrays by value.
+"""Nothing that runs once for each name, factor or pair takes or returns a record or its arrays by value.
 
-Request U3 of paper 02 asks for this of acceptance; the comparison of two models (U4) keeps to it too. Looked at is the
-MIR of the static library, which `rt mir` prints: every function as the compiler has read it, with the types of its
-parameters, its result and all locals, also of those that the compiler made. From an exported call on, these are found
-and looked at:
+Request U3 of paper 02 asks for this of acceptance; the comparison of two models (U4) and the verdict on a document (U7)
+keep to it too. Looked at is the MIR that the compiler keeps beside each library that it has built, in the file mir.json
+below crates/NAME/out: every function as the compiler has read it, with the types of its parameters, its result and all
+locals, also of those that the compiler made. From a call for C on, these are found and looked at:
 
 - Loops: none makes a value with an array in it, in a local, in a part of one or behind a reference.
 - All functions that are called in loops, directly or by others, and those that call themselves: no parameter, no
@@ -15,83 +15,80 @@ Not seen is a record that is kept in another way than by arrays, for example in 
 
 Usage: python3 tests/copies_check.py
 
-Each finding is a line, with the functions that lead there. The exit status is 1 where there is a finding, and 2 where
-the MIR cannot be printed or read.
+It has the library curlewsong built first, if that is not done. Each finding is a line, with the functions that lead
+there. The exit status is 1 where there is a finding, and 2 where the MIR is not there or cannot be read.
 """
-import re
+import json
+import pathlib
 import subprocess
 import sys
 
+ROOT = pathlib.Path(__file__).resolve().parent.parent
 LIBRARY = "curlewsong"
+MIR = "*.rlib/toolchain/mir.json"
 
 # The calls that are looked at, each with functions that its loops must call: so the loops themselves were found.
 CALLS = {
     "curlewsong::curlewsong_accepts_word": ["model_step::step"],
+    "curlewsong::curlewsong_accepts_document": ["document_step::judge_pair", "model_step::step",
+                                                "model_table_check::is_model_in"],
     "curlewsong::curlewsong_within": ["model_extremes::lower", "model_places::far_over", "model_within::pass_factor"],
 }
 
-TOKEN = re.compile(r'"[^"]*"|[()]|[^\s()"]+')
+# A body is a list of nodes, each before its parts. How many parts each kind has; `Switch` says so itself.
+PARTS = {"Seq": 2, "If": 2, "Block": 1, "Loop": 1, "Skip": 0, "Return": 0, "Unreachable": 0, "Exit": 0, "Assign": 0,
+         "Call": 0, "LendStatic": 0}
+
+# Where the place stands that such a node puts a value in.
+TARGET = {"Assign": 0, "Call": 2, "LendStatic": 0}
 
 
 class Unreadable(Exception):
     """The MIR is not as this file expects it."""
 
 
-# ---- the tree of the MIR: a node is a word, or a list of nodes whose first one is its kind
+# What is raised where it is not.
+NOT_AS_EXPECTED = (Unreadable, ValueError, LookupError, TypeError)
 
-def tree_of(text):
-    open_nodes = [[]]
-    for token in TOKEN.findall(text):
-        if token == "(":
-            open_nodes.append([])
-        elif token == ")":
-            if len(open_nodes) < 2:
-                raise Unreadable("a bracket is closed that was not opened")
-            node = open_nodes.pop()
-            open_nodes[-1].append(node)
+
+def kind_of(node):
+    """The kind of a node, and what it has: a node is a word, or an object with one member."""
+    if isinstance(node, str):
+        return node, None
+    if not isinstance(node, dict) or len(node) != 1:
+        raise Unreadable(f"a node is expected, but there is {str(node)[:60]}")
+    return next(iter(node.items()))
+
+
+def part_at(body, start):
+    """The nodes of the part of a body that begins there."""
+    end, missing = start, 1
+    while missing:
+        if end == len(body):
+            raise Unreadable("a body ends too early")
+        kind, data = kind_of(body[end])
+        if kind == "Switch":
+            _, arms, has_other = data
+            missing += len(arms) + has_other
+        elif kind in PARTS:
+            missing += PARTS[kind]
         else:
-            open_nodes[-1].append(token.strip('"'))
-    if len(open_nodes) > 1 or open_nodes[0][:1] != ["program"]:
-        raise Unreadable("it is not one whole program")
-    return open_nodes[0]
-
-
-def is_kind(node, kind):
-    return isinstance(node, list) and node[:1] == [kind]
-
-
-def parts(node, kind, size):
-    """The parts of a node of this kind."""
-    if not is_kind(node, kind) or len(node) != size + 1:
-        raise Unreadable(f"a node `{kind}` of {size} parts is expected, but there is {str(node)[:60]}")
-    return node[1:]
-
-
-def listed(node, letter="l"):
-    """The members of a list, such as `lcons A (lcons B lnil)`."""
-    while node != f"{letter}nil":
-        member, node = parts(node, f"{letter}cons", 2)
-        yield member
-
-
-def member(members, number):
-    """The member of this number, which is a word of the MIR."""
-    if not number.isdecimal() or int(number) >= len(members):
-        raise Unreadable(f"there is no member {number} of {len(members)}")
-    return members[int(number)]
-
-
-def nodes_in(node):
-    """All nodes of a tree that are lists."""
-    waiting = [node]
-    while waiting:
-        node = waiting.pop()
-        if isinstance(node, list):
-            yield node
-            waiting += node
+            raise Unreadable(f"the node {kind} is not known")
+        missing, end = missing - 1, end + 1
+    return body[start:end]
 
 
 # ---- types
+
+def shown(kind):
+    """A type as it is usually written."""
+    word, data = kind_of(kind)
+    if word == "Array":
+        return f"[{shown(data[0])}; {kind_of(data[1])[1]}]"
+    if word == "Int":
+        return f"u{data}"
+    return data[0]["name"] if word == "Named" else data[0] if word == "Struct" else word
+
 
 class Types:
     """The structs and enums by name. Of each it has the types of its fields, for an enum by variant."""
@@ -99,66 +96,56 @@ class Types:
     def __init__(self):
         self.fields = {}
 
-    def add(self, name, definition):
-        if is_kind(definition, "fields"):
-            self.fields[name] = [list(listed(definition[1], "t"))]
-        else:
-            variants, = parts(definition, "variants", 1)
-            self.fields[name] = [list(listed(fields, "t")) for fields in listed(variants, "tt")]
+    def add(self, declared):
+        word, data = kind_of(declared["shape"])
+        if word not in ("Fields", "Variants"):
+            raise Unreadable(f"the type {declared['name']} is neither struct nor enum")
+        self.fields[declared["name"]] = [data] if word == "Fields" else data
 
     def variants(self, kind):
         """The fields of a struct, or of each variant of an enum."""
-        if is_kind(kind, "tyStruct"):
-            return [list(listed(kind[2], "t"))]
-        if not is_kind(kind, "tyNamed") or kind[1][1] not in self.fields:
+        word, data = kind_of(kind)
+        if word == "Struct":
+            return [data[1]]
+        if word != "Named" or data[0]["name"] not in self.fields:
             raise Unreadable(f"{shown(kind)} is no struct or enum that is known")
-        return self.fields[kind[1][1]]
+        return self.fields[data[0]["name"]]
 
     def has_array(self, kind):
-        if is_kind(kind, "tyArray"):
+        word, _ = kind_of(kind)
+        if word == "Array":
             return True
-        if is_kind(kind, "tyStruct") or is_kind(kind, "tyNamed"):
+        if word in ("Struct", "Named"):
             return any(self.has_array(field) for fields in self.variants(kind) for field in fields)
-        if isinstance(kind, str) or kind[0] in ("tyInt", "tyFloat", "tyRef"):
+        if word in ("Int", "Float", "Bool", "Unit", "Ref", "Ptr"):
             return False
         raise Unreadable(f"the type {shown(kind)} is not known")
 
     def of_place(self, function, place):
         """The type of a local, of a part of it, or of what is behind a reference."""
-        local, projections = parts(place, "place", 2)
-        kind, variant = member(function.locals, local), None
-        for projection in listed(projections):
-            if is_kind(projection, "deref"):
-                kind, = parts(projection, "deref", 1)
-            elif is_kind(projection, "variant"):
-                variant, = parts(projection, "variant", 1)
-            else:
-                at, = parts(projection, "field", 1)
+        kind, variant = function.locals[place["local"]], None
+        for step in place["steps"]:
+            word, data = kind_of(step)
+            if word == "Deref":
+                kind = data
+            elif word == "Variant":
+                variant = data
+            elif word == "Field":
                 known = self.variants(kind)
                 # The first field of a variant is its number.
-                fields = known[0] if variant is None else ["number", *member(known, variant)]
-                kind, variant = member(fields, at), None
+                fields = known[0] if variant is None else ["number", *known[variant]]
+                kind, variant = fields[data], None
+            else:
+                raise Unreadable(f"the step {word} is not known")
         return kind
-
-
-def shown(kind):
-    """A type as it is usually written."""
-    if is_kind(kind, "tyArray"):
-        return f"[{shown(kind[1])}; {kind[2][1]}]"
-    if is_kind(kind, "tyInt"):
-        return f"u{kind[1]}"
-    if is_kind(kind, "tyNamed"):
-        return kind[1][1]
-    return kind if isinstance(kind, str) else kind[0]
 
 
 # ---- functions
 
 class Function:
     def __init__(self, name, item):
-        _, _, count, local_list, self.body = parts(item, "fnItem", 5)
-        self.name, self.parameters = name, int(count)
-        self.locals = [parts(local, "local", 2)[0] for local in listed(local_list)]
+        self.name, self.parameters, self.body = name, item["params"], item["body"]
+        self.locals = [local["ty"] for local in item["locals"]]
 
     def has(self, at, kind):
         """That a local has this type, in words. The first local is the result, then come the parameters."""
@@ -166,34 +153,41 @@ class Function:
             return f"{self.name} has a local of type {kind}"
         return f"{self.name} {'takes' if at else 'returns'} {kind} by value"
 
+    def nodes(self):
+        """All nodes of the body."""
+        nodes = part_at(self.body, 0)
+        if len(nodes) < len(self.body):
+            raise Unreadable(f"the body of {self.name} is not one whole")
+        return nodes
+
     def loops(self):
-        return [node for node in nodes_in(self.body) if is_kind(node, "loop")]
+        return [part_at(self.body, at) for at, node in enumerate(self.nodes()) if node == "Loop"]
 
-    def made_in(self, part, types):
-        """The types of the values that are made in a part of the body."""
-        for node in nodes_in(part):
-            if is_kind(node, "assign"):
-                yield types.of_place(self, parts(node, "assign", 2)[0])
-            elif is_kind(node, "call"):
-                yield types.of_place(self, parts(node, "call", 3)[2])
+    def made_in(self, nodes, types):
+        """The types of the values that are made by these nodes."""
+        for kind, data in map(kind_of, nodes):
+            if kind in TARGET:
+                yield types.of_place(self, data[TARGET[kind]])
 
 
-def calls_in(node):
-    """The names of the functions that are called in a part of a body."""
-    for inner in nodes_in(node):
-        if is_kind(inner, "call"):
-            target, = parts(inner[1], "direct", 1)
-            yield parts(target, "fnRef", 1)[0]
+def calls_in(nodes):
+    """The names of the functions that are called by these nodes."""
+    for kind, data in map(kind_of, nodes):
+        if kind == "Call":
+            how, called = kind_of(data[0])
+            if how != "Fn":
+                raise Unreadable(f"a call of another kind than of a function: {how}")
+            yield called[0]
 
 
-def read(text):
+def read(libraries):
     """All functions by name, and the types."""
     functions, types = {}, Types()
-    for node in listed(tree_of(text)[1]):
-        name, item, *declared = node[1:]
-        functions[name] = Function(name, item)
-        for pair in listed(declared[0] if declared else "lnil"):
-            types.add(*parts(pair, "pair", 2))
+    for library in libraries:
+        for name, item in library:
+            functions[name] = Function(name, item)
+            for declared in item["types"]:
+                types.add(declared)
     return functions, types
 
 
@@ -208,7 +202,7 @@ def callees(functions, name):
             if name not in functions:
                 raise Unreadable(f"the function {name} is not in it")
             found[name] = route
-            waiting += [(other, route + (other,)) for other in calls_in(functions[name].body)]
+            waiting += [(other, route + (other,)) for other in calls_in(functions[name].nodes())]
     return found
 
 
@@ -220,16 +214,16 @@ def repeated_by(functions, call):
         loops = functions[name].loops()
         if loops:
             looping[name] = route
-        again = [other for other in calls_in(functions[name].body) if name in callees(functions, other)]
+        again = [other for other in calls_in(functions[name].nodes()) if name in callees(functions, other)]
         for other in again + [other for loop in loops for other in calls_in(loop)]:
             for inner, further in callees(functions, other).items():
                 repeated.setdefault(inner, route + further)
     return looping, repeated
 
 
-def findings(text, calls=None):
+def findings(libraries, calls=None):
     """A line for each copy; and how many functions were looked at, those with loops and those called in loops."""
-    functions, types = read(text)
+    functions, types = read(libraries)
     found, looped, called = [], set(), set()
     for call, expected in (calls or CALLS).items():
         looping, repeated = repeated_by(functions, call)
@@ -241,24 +235,35 @@ def findings(text, calls=None):
             function = functions[name]
             held = [function.has(at, shown(kind)) for at, kind in enumerate(function.locals) if types.has_array(kind)]
             made = [f"{name} makes a value of type {shown(kind)}"
-                    for kind in function.made_in(function.body, types) if types.has_array(kind)]
+                    for kind in function.made_in(function.nodes(), types) if types.has_array(kind)]
             found += [f"{what} ({' > '.join(route)})" for what in held or made]
         for name, route in looping.items():
-            for kind in functions[name].made_in(functions[name].loops(), types):
+            for kind in (kind for loop in functions[name].loops() for kind in functions[name].made_in(loop, types)):
                 if types.has_array(kind):
                     found.append(f"a loop of {name} makes a value of type {shown(kind)} ({' > '.join(route)})")
     return list(dict.fromkeys(found)), len(looped), len(called)
 
 
+def run(folder, *command):
+    """What the command prints."""
+    done = subprocess.run(command, cwd=folder, capture_output=True, text=True, encoding="utf-8")
+    if done.returncode:
+        raise Unreadable(f"{' '.join(command)} failed: {done.stdout}{done.stderr}")
+    return done.stdout
+
+
+def files():
+    """Where the MIR is: of the libraries of the repository, and of core, which is beside the page that rt names."""
+    toolchain = pathlib.Path(run(ROOT, "rt", "doc").strip()).parent
+    return [*sorted(ROOT.glob(f"crates/*/out/rlib/{MIR}")), *toolchain.glob(f"rlibs/{MIR.replace('*', 'core')}")]
+
+
 def main():
-    printed = subprocess.run(["rt", "mir", LIBRARY], capture_output=True, text=True, encoding="utf-8")
-    if printed.returncode:
-        print(f"copies_check: rt mir {LIBRARY} failed:\n{printed.stderr}", file=sys.stderr)
-        return 2
     try:
-        found, looped, called = findings(printed.stdout)
-    except Unreadable as why:
-        print(f"copies_check: the MIR of {LIBRARY} cannot be read: {why}. Adapt tests/copies_check.py.",
+        run(ROOT / "crates" / LIBRARY, "rt", "lib")
+        found, looped, called = findings(json.loads(file.read_text()) for file in files())
+    except NOT_AS_EXPECTED as why:
+        print(f"copies_check: the MIR of {LIBRARY} cannot be read: {why!r}. Adapt tests/copies_check.py.",
               file=sys.stderr)
         return 2
     if found:

@@ -2,15 +2,17 @@
 """Checks what README.md, CONTRIBUTING.md and docs/ say against the repository.
 
   docs_check.py            all checks; where a program is not built, those that run it are skipped, with a note
-  docs_check.py --static   all checks but those that run the programs target/bin/dtd and target/bin/test_reading
+  docs_check.py --static   all checks but those that run the programs dtd and test_reading, in their folders out/
   docs_check.py --counts   rewrites the line counts of docs/TRUST.md, and checks nothing
 
 The checks:
 - no line has more than 120 characters, except table rows and code blocks;
 - every path of the repository that is named exists, unless it has a placeholder such as NAME or *;
 - names that are cited with a file of a crate are defined there: `a`, `b` in `crates/..`, or `crates/..`: `a`, `b`;
+  docs/landings/ keeps the spelling of its time, `isName` or `name-law` for what is now `is_name` or `name_law`;
 - the map of README.md has a row for each group of crates.txt, with its sentence and its crates, and no other row;
-- in docs/TRUST.md, a table row with a file and a number has the file's number of lines;
+- in docs/TRUST.md, a table row with a file and a number has the file's number of lines, and a row of a call and its
+  promise is right: the contract is that promise alone, and so it is of the function that exports the call;
 - in docs/FORMAT.md, the offsets in each code block `hex` are right, and dtd prints for its bytes the next code block
   `dtd`; for the bytes in a table with a column "`dtd` prints" it prints what the table says;
 - in docs/FORMAT.md, test_reading, whose book has the names EMPTY, a, b, c and d, answers for the texts in a table with
@@ -26,8 +28,7 @@ import sys
 from collections import namedtuple
 
 ROOT = pathlib.Path(__file__).resolve().parent.parent
-DTD = ROOT / "target" / "bin" / "dtd"
-READER = ROOT / "target" / "bin" / "test_reading"
+DTD, READER = (ROOT / "crates" / name / "out" / name for name in ("dtd", "test_reading"))
 WIDEST = 120
 
 # A line of a document; `block` has the number of the first line of the code block that it is in, and what follows ```.
@@ -49,6 +50,8 @@ BYTE_NAMES = {"a space": " ", "a tab": "\t", "a line feed": "\n", "a carriage re
               "a vertical tab": "\v", "U+0085": "\x85", "U+00A0": "\xa0"}
 BYTES = r"[0-9a-f]{2}(?: [0-9a-f]{2})*"
 SUM = re.compile(r'Sum of (all rows|the rows without "read already"|the rows down to ([\w.]+)): ([\d,]+)')
+# The crate with the calls for C, and the one that exports each of them with the same contract.
+EXPORTED = "crates/curlewsong/", "crates/curlewsong_c/"
 PROMISE = re.compile(r"\| `(\w+)` in (crates/\S+\.rt) \| `(\w+)` in crates/\S+\.antt \|$")
 COUNT = re.compile(r"(\| *`?)(crates/[\w./-]+)(`? *\|(?:[^|\n]*\|)*? *)(\d[\d,]*)( *\|)")
 
@@ -151,11 +154,21 @@ def cited(lines):
             yield next(line for line in paragraph if f"`{name}`" in line.text), name, path
 
 
+def spelled_now(name):
+    """A name of docs/landings/ in today's spelling; types keep theirs."""
+    if name[:1].isupper():
+        return name
+    return re.sub(r"(?<=[a-z0-9])[A-Z]", lambda capital: "_" + capital.group().lower(), name).replace("-", "_")
+
+
 def wrong_citations(lines):
     for line, name, path in cited(lines):
         crate_or_file = path.startswith(f"crates/{name}/") or re.search(r"\.(antt|rt|md)$", name)
         if not crate_or_file and (ROOT / path).exists():
-            if not set(name.split("::")[-1].split(".")) <= defined(ROOT / path):
+            parts = name.split("::")[-1].split(".")
+            if line.file.parent.name == "landings":
+                parts = map(spelled_now, parts)
+            if not set(parts) <= defined(ROOT / path):
                 yield finding(line, f"`{name}` is not defined in {path}")
 
 
@@ -169,7 +182,7 @@ def map_rows():
         elif line.startswith("#"):
             kind = "*" if line.endswith("(no function).") else ""
         elif line:
-            rows[-1][2].append(f"{kind}`{line.split(':')[0]}`{kind}")
+            rows[-1][2].append(f"{kind}`{re.split('[: ]', line)[0]}`{kind}")
     return [f"| {group} | {said} | {', '.join(crates)} |" for group, said, crates in rows]
 
 
@@ -226,17 +239,19 @@ def wrong_sums(lines):
 
 
 def wrong_promises(lines):
-    """Each row of a call and its promise: the contract requires nothing, and its one `ensures` has the promise."""
+    """Each row of a call and its promise: the contract requires nothing, and its one `ensures` has the promise. A call
+    for C is looked at in both of its crates."""
     for line in prose(lines):
         row = PROMISE.match(line.text)
         if not row:
             continue
-        call, path, promise = row.groups()
-        code = (ROOT / path).read_text() if (ROOT / path).is_file() else ""
-        contract = re.search(rf"(?ms)^pub (?:extern \"C\" )?fn {call}\(.*?^{{", code)
-        found = re.findall(r"\b(requires|ensures)\b", contract.group()) if contract else []
-        if found != ["ensures"] or not re.search(rf"⌜ {promise} ", contract.group()):
-            yield finding(line, f"the contract of {call} in {path} is not `ensures` {promise} alone")
+        call, named, promise = row.groups()
+        for path in dict.fromkeys((named, named.replace(*EXPORTED))):
+            code = (ROOT / path).read_text() if (ROOT / path).is_file() else ""
+            contract = re.search(rf"(?ms)^pub (?:extern \"C\" )?fn {call}\(.*?^{{", code)
+            found = re.findall(r"\b(requires|ensures)\b", contract.group()) if contract else []
+            if found != ["ensures"] or not re.search(rf"ensures \{{ {promise} ", contract.group()):
+                yield finding(line, f"the contract of {call} in {path} is not `ensures` {promise} alone")
 
 
 def write_counts(file):
@@ -344,8 +359,8 @@ def main(arguments):
     wanted = [] if arguments else [DTD, READER]
     for program in wanted:
         if not program.exists():
-            print(f"docs: target/bin/{program.name} is not built, so that what it prints is not checked; "
-                  f"rt check {program.name} builds it")
+            print(f"docs: {program.relative_to(ROOT)} is not built, so that what it prints is not checked; "
+                  f"rt run builds it, in crates/{program.name}")
     return check([program for program in wanted if program.exists()])
 
 

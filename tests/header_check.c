@@ -226,6 +226,7 @@ static void check_refused_with(const uint8_t *bytes, size_t length, size_t paren
         curlewsong_write_declaration(bytes, length, parent, model, buffer, places),
         curlewsong_write_from_sample(bytes, length, parent, buffer, places),
         curlewsong_write_dtd(bytes, length, buffer, places),
+        curlewsong_fill_models(bytes, length, buffer, places),
     };
     for (size_t i = 0; i < sizeof written / sizeof *written; i++) {
         expect(written[i].refusal == number && written[i].length == 0, what);
@@ -268,6 +269,135 @@ static void check_unused_names(void) {
     for (uint8_t unused = 0; unused < 3; unused++) {
         check_unused_name(unused);
     }
+}
+
+/* Opens, closes and text of a document over the names a to z: a capital letter opens, a small one closes, # is text. */
+static size_t pairs_of(const char *signs, uint8_t *document) {
+    size_t length = 0;
+    for (; *signs != '\0'; signs++) {
+        const bool open = *signs >= 'A' && *signs <= 'Z';
+        document[length++] = *signs == '#' ? 2 : open ? 0 : 1;
+        document[length++] = (uint8_t)(*signs == '#' ? 0 : *signs - (open ? 'A' : 'a'));
+    }
+    return length;
+}
+
+/* The verdict that is due of a document by this table, over the three names of `text_book`. */
+static void check_document(const uint8_t *models, size_t models_length, const char *signs, uint8_t refusal, bool yes) {
+    uint8_t document[200];
+    const size_t length = pairs_of(signs, document);
+    const curlewsong_verdict got = curlewsong_accepts_document(3, models, models_length, document, length);
+    expect(got.refusal == refusal && got.yes == yes, signs);
+}
+
+static void check_fill_models(void) {
+    const size_t rows = 3 * CURLEWSONG_MODEL_ROW;
+    uint8_t models[CURLEWSONG_LONGEST_MODELS], put[sizeof models];
+    memset(models, 7, sizeof models);
+    curlewsong_written written = curlewsong_fill_models(text_book, sizeof text_book - 1, models, sizeof models);
+    expect(written.refusal == 2 && written.length == 0, "a cut book fills no table");
+    written = curlewsong_fill_models(text_book, sizeof text_book, models, rows - 1);
+    expect(written.refusal == 12 && written.length == 0, "a table one byte short of its rows is refused");
+    expect(all_seven(models, sizeof models), "a refused call fills nothing");
+    written = curlewsong_fill_models(text_book, sizeof text_book, models, rows);
+    expect(written.refusal == 0 && written.length == rows, "a table of three rows is long enough for three names");
+    expect(all_seven(models + rows, sizeof models - rows), "the bytes behind the rows are kept");
+
+    memset(put, 7, sizeof put);
+    for (size_t parent = 0; parent < 3; parent++) {
+        const curlewsong_model model = curlewsong_model_of_parent(text_book, sizeof text_book, parent).model;
+        expect(curlewsong_put_model(3, parent, model, put, rows) == 0, "a model is put into its row");
+    }
+    expect(memcmp(models, put, sizeof put) == 0, "the same rows, each put alone");
+
+    static const uint8_t no_block[CURLEWSONG_MODEL_ROW];
+    written = curlewsong_fill_models(two_parents, sizeof two_parents, models, sizeof models);
+    expect(written.refusal == 0 && written.length == rows, "a name without a block has a row too");
+    expect(memcmp(models + CURLEWSONG_MODEL_ROW, no_block, sizeof no_block) == 0, "of 131 bytes of 0");
+}
+
+static void check_put_model(void) {
+    const size_t row = CURLEWSONG_MODEL_ROW;
+    const curlewsong_model two = plain_names(2);
+    curlewsong_model bad = two;
+    bad.mode[1] = 4;
+    uint8_t models[3 * CURLEWSONG_MODEL_ROW];
+    memset(models, 7, sizeof models);
+    expect(curlewsong_put_model(0, 9, bad, models, 0) == 3, "no names are too few for a table");
+    expect(curlewsong_put_model(65, 0, two, models, sizeof models) == 3, "65 names are too many for one");
+    expect(curlewsong_put_model(2, 2, bad, models, 0) == 8, "there is no parent 2 of two names");
+    expect(curlewsong_put_model(2, 1, bad, models, 0) == 10, "a record that is no model is not put");
+    expect(curlewsong_put_model(1, 0, two, models, sizeof models) == 10, "nor one of two names over one");
+    expect(curlewsong_put_model(2, 1, two, models, 2 * row - 1) == 12, "the row has to be whole");
+    expect(all_seven(models, sizeof models), "a refused call puts nothing");
+
+    expect(curlewsong_put_model(2, 1, two, models, 2 * row) == 0, "and needs no more than that");
+    const uint8_t front[] = {1, 2, 0, 0, 1, CURLEWSONG_NONE};
+    expect(memcmp(models + row, front, sizeof front) == 0, "byte 0 is 1, then the count, the text and the factors");
+    expect(memcmp(models + row + 67, two.mode, CURLEWSONG_PLACES) == 0, "and the modes");
+    expect(all_seven(models, row) && all_seven(models + 2 * row, row), "the other rows are kept");
+}
+
+/* By the models of `text_book`: a (#PCDATA|b|c)*, b (#PCDATA), c EMPTY. */
+static void check_documents(void) {
+    uint8_t models[3 * CURLEWSONG_MODEL_ROW];
+    const size_t length = curlewsong_fill_models(text_book, sizeof text_book, models, sizeof models).length;
+    check_document(models, length, "A#CcB#b#a", 0, true);
+    check_document(models, length, "B##b", 0, true);
+    check_document(models, length, "C#c", 0, false);
+    check_document(models, length, "ABCcba", 0, false);
+    check_document(models, length, "AAaa", 0, false);
+    check_document(models, length, "ABbCca", 0, true);
+    check_document(models, length - 1, "ABbCca", 0, false);
+    check_document(models, length - 1, "ABba", 0, true);
+    check_document(models, 0, "Aa", 0, false);
+
+    const char *const refused[] = {"", "#", "a", "A", "AB", "Ab", "ABab", "Aa#", "AaAa", "Aaa", "ADda", "ABbBba#"};
+    for (size_t i = 0; i < sizeof refused / sizeof *refused; i++) {
+        check_document(models, length, refused[i], 18, false);
+        check_document(models, 0, refused[i], 18, false);
+    }
+    const char *const deepest = "AAAAAAAAAAAAAAAAAAAAAAAAAAAAAAAAaaaaaaaaaaaaaaaaaaaaaaaaaaaaaaaa";
+    check_document(models, length, deepest, 0, false);
+    check_document(models, length, "AAAAAAAAAAAAAAAAAAAAAAAAAAAAAAAAA", 19, false);
+    check_document(models, length, "AAAAAAAAAAAAAAAAAAAAAAAAAAAAAAAAD", 18, false);
+    check_document(models, length, "AAAAAAAAAAAAAAAAAAAAAAAAAAAAAAAAAb", 19, false);
+}
+
+/* The other refusals of a document, and a document of the most bytes. */
+static void check_document_limits(void) {
+    static uint8_t longest[CURLEWSONG_LONGEST_DOCUMENT + 2];
+    uint8_t models[2 * CURLEWSONG_MODEL_ROW] = {0};
+    curlewsong_model list = plain_names(0);
+    list.count = 1;
+    list.factor[1] = 0;
+    list.mode[0] = 2;
+    expect(curlewsong_put_model(2, 0, list, models, sizeof models) == 0, "(b+) of a");
+    expect(curlewsong_put_model(2, 1, plain_names(0), models, sizeof models) == 0, "EMPTY of b");
+    for (size_t at = 2; at + 2 < CURLEWSONG_LONGEST_DOCUMENT; at += 2) {
+        longest[at] = at / 2 % 2 == 0;
+        longest[at + 1] = 1;
+    }
+    longest[CURLEWSONG_LONGEST_DOCUMENT - 2] = 1;
+    curlewsong_verdict got =
+        curlewsong_accepts_document(2, models, sizeof models, longest, CURLEWSONG_LONGEST_DOCUMENT);
+    expect(got.refusal == 0 && got.yes, "60,000 bytes, a word of 14,999 names");
+    for (size_t more = 1; more <= 2; more++) {
+        got = curlewsong_accepts_document(0, models, sizeof models, longest, CURLEWSONG_LONGEST_DOCUMENT + more);
+        expect(got.refusal == 1 && !got.yes, "a longer document is refused before the count of names");
+    }
+    got = curlewsong_accepts_document(2, models, sizeof models, longest, CURLEWSONG_LONGEST_DOCUMENT - 1);
+    expect(got.refusal == 18 && !got.yes, "an odd length");
+
+    models[CURLEWSONG_MODEL_ROW] = 255;
+    expect(curlewsong_accepts_document(2, models, sizeof models, longest, CURLEWSONG_LONGEST_DOCUMENT).yes,
+           "any byte 0 other than 0 stands for a model");
+    models[CURLEWSONG_MODEL_ROW + 2] = 2;
+    expect(curlewsong_accepts_document(65, models, sizeof models, longest, 1).refusal == 3, "the names, then the table");
+    expect(curlewsong_accepts_document(2, models, sizeof models, longest, 1).refusal == 10, "then the document");
+    models[CURLEWSONG_MODEL_ROW] = 0;
+    got = curlewsong_accepts_document(2, models, sizeof models, longest, CURLEWSONG_LONGEST_DOCUMENT);
+    expect(got.refusal == 0 && !got.yes, "with byte 0 as 0 the record is not looked at, and b has no model");
 }
 
 int main(void) {
@@ -314,6 +444,10 @@ int main(void) {
     check_text_of_samples();
     check_text_records();
     check_unused_names();
+    check_fill_models();
+    check_put_model();
+    check_documents();
+    check_document_limits();
 
     if (failures == 0) {
         printf("header_check: every call of include/curlewsong.h answers as the papers have it\n");

@@ -6,8 +6,8 @@ The text is one sentence that is true for every call that gives the number. Comp
 
 - the numbers of the variants, in the code and in the definitions;
 - the names in docs/REFUSALS.md;
-- the texts, word for word, in the header, in Rust, in docs/REFUSALS.md and docs/FORMAT.md, and those of a book's
-  refusals in tools/book.py.
+- the texts, word for word, in the header, in Rust, in docs/REFUSALS.md and docs/FORMAT.md, those of a book's refusals
+  in tools/book.py, and those of all others in tools/document.py.
 
 Which call gives which numbers, and in which order, is compared with the fields of the records in
 crates/demands/specs/Conditions.antt: in README.md, docs/REFUSALS.md, docs/FORMAT.md and the header.
@@ -33,14 +33,14 @@ HEADER = "include/curlewsong.h"
 Refusal = namedtuple("Refusal", "number name text")
 
 # A table of refusals: its file; how the line before it begins and the line after it, "" being an empty line; the
-# pattern of a row, and what a row should be; which refusals it has: all of them, those of a book (`BookConditions`), or
-# those that `Stops` states of the bytes of a book.
+# pattern of a row, and what a row should be; which refusals it has: all of them, those of a book (`BookConditions`), all
+# others, or those that `Stops` states of the bytes of a book.
 Place = namedtuple("Place", "file start end row right kind")
-ALL, OF_BOOK, OF_BYTES = range(3)
+ALL, OF_BOOK, NOT_OF_BOOK, OF_BYTES = range(4)
 
 PLACES = [
     Place(LIST, "pub fn number(", "}", r"Refusal::\w+ => (?P<number>\d+),", "Refusal::{name} => {number},", ALL),
-    Place(TABLE, "abbrev pub numberOf :", "", r"numberOf \w+ = (?P<number>\d+)", "numberOf {name} = {number}", ALL),
+    Place(TABLE, "abbrev pub number_of :", "", r"number_of \w+ = (?P<number>\d+)", "number_of {name} = {number}", ALL),
     Place(CONDITIONS, "pub record BookConditions ", "", r"\(k ≡ (?P<number>\d+)\) ↔ Stops bytes \w+",
           "(k ≡ {number}) ↔ Stops bytes {name}", OF_BYTES),
     Place(HEADER, " * refusal: 0 where", " * Several conditions", r" \* +(?P<number>\d+)  .*",
@@ -48,6 +48,7 @@ PLACES = [
     Place("rust/curlewsong/src/lib.rs", "impl std::fmt::Display for Refusal", "}", r'(?P<number>\d+) => ".*",',
           '{number} => "{text}",', ALL),
     Place("tools/book.py", "REASONS = {", "}", r'(?P<number>\d+): ".*",', '{number}: "{text}",', OF_BOOK),
+    Place("tools/document.py", "REASONS = {", "}", r'(?P<number>\d+): ".*",', '{number}: "{text}",', NOT_OF_BOOK),
     Place("docs/REFUSALS.md", "| number |", "", r"\| (?P<number>\d+) \|[^|]*\|[^|]*\|",
           "| {number} | `{name}` | {text} |", ALL),
     Place("docs/FORMAT.md", "| Number |", "", r"\| (?P<number>\d+) \|[^|]*\|", "| {number} | {text} |", ALL),
@@ -56,11 +57,14 @@ PLACES = [
 # Each call, and the program, with the record that has its conditions.
 CALLS = {
     "accepts_word": "WordConditions",
+    "accepts_document": "DocumentConditions",
+    "put_model": "PutConditions",
     "within": "WithinConditions",
     "model_of_parent": "ModelConditions",
     "write_declaration": "WriteConditions",
     "write_from_sample": "SampleConditions",
     "write_dtd": "DtdConditions",
+    "fill_models": "FillConditions",
     "read_declaration": "ReadConditions",
     "dtd": "ProgramConditions",
 }
@@ -135,6 +139,7 @@ def kinds(root, refusals):
     return {
         ALL: refusals,
         OF_BOOK: [one for one in refusals if one.number in book],
+        NOT_OF_BOOK: [one for one in refusals if one.number not in book],
         OF_BYTES: [one for one in refusals if re.search(rf"→ Stops s {one.name}\b", stops)],
     }
 

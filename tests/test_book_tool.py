@@ -1,5 +1,6 @@
 #!/usr/bin/env python3
 """Tests of tools/book.py: what it makes, what it shows, and what it says of bad files."""
+import io
 import pathlib
 import subprocess
 import sys
@@ -486,7 +487,18 @@ class Commands(unittest.TestCase):
     def test_other_closed_streams(self):
         self.assertEqual(run("make", "-", redirected="<&-"), (1, b"", "book.py: standard input is closed\n"))
         # A note that has nowhere to go stays out of the book.
-        self.assertEqual(run("make", "-", fed=b"<e k=''/>", redirected="2>&-"), (0, b"\1\0\1e\1\0\0\0\0", ""))
+        for redirected in ("2>&-", "2>/dev/full"):
+            self.assertEqual(run("make", "-", fed=b"<e k=''/>", redirected=redirected),
+                             (0, b"\1\0\1e\1\0\0\0\0", ""))
+        self.assertEqual(run("make", "-", fed=b"<e>", redirected="2>/dev/full"), (1, b"", ""))
+
+    def test_first_bytes(self):
+        """No more bytes are taken than asked for, however many pieces that is."""
+        stream = io.BytesIO(bytes(range(250)) * 10000)
+        for most, size in ((0, 0), (1, 1), (999998, 999998), (1000001, 1000001), (1000000, 500000), (9, 0)):
+            self.assertEqual(len(tool.first_bytes(stream, most)), size)
+        stream.seek(0)
+        self.assertEqual(tool.first_bytes(stream, 2500001), stream.getvalue())
 
     def test_usage(self):
         self.assertEqual(run()[0], 2)

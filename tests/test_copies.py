@@ -1,62 +1,84 @@
 #!/usr/bin/env python3
 """Tests of copies_check.py: it finds a copy of each kind, says which functions lead there, and takes references."""
 import contextlib
+import copy
 import io
-import subprocess
+import json
+import pathlib
+import tempfile
 import unittest
 from unittest import mock
 
 import copies_check as checker
 
-BYTE, ROW = "(tyInt 8)", "(tyArray (tyInt 8) (lenLit 64))"
-LENT = f"(tyRef erased imm {ROW})"
-SLICE = f'(tyStruct "&[]" (tcons (tyRef erased imm {BYTE}) (tcons (tyInt 64) tnil)))'
+BYTE, WORD = {"Int": 8}, {"Int": 64}
+ROW = {"Array": [BYTE, {"Lit": 64}]}
 
 
-def listed(*members, letter="l"):
-    return "".join(f"({letter}cons {member} " for member in members) + f"{letter}nil" + ")" * len(members)
+def lent(kind, how="Imm"):
+    return {"Ref": ["Erased", how, kind]}
+
+
+SLICE = {"Struct": ["&[]", [lent(BYTE), WORD]]}
 
 
 def named(name):
-    return f'(tyNamed (pair "{name}" lnil))'
+    return {"Named": [{"name": name, "lifetimes": []}, []]}
 
 
-DECLARED = listed(
-    f'(pair "Chain" (fields {listed("(tyInt 64)", ROW, letter="t")}))',
-    f'(pair "Model" (fields {listed(named("Chain"), BYTE, letter="t")}))',
-    f'(pair "State" (fields {listed("(tyInt 64)", "tyBool", letter="t")}))',
-    f'(pair "Moved" (variants {listed(listed(named("State"), letter="t"), "tnil", letter="tt")}))',
-    f'(pair "Held" (variants {listed("tnil", listed(BYTE, named("Chain"), letter="t"), letter="tt")}))')
+DECLARED = [{"name": name, "shape": shape} for name, shape in [
+    ("Chain", {"Fields": [WORD, ROW]}),
+    ("Model", {"Fields": [named("Chain"), BYTE]}),
+    ("State", {"Fields": [WORD, "Bool"]}),
+    ("Moved", {"Variants": [[named("State")], []]}),
+    ("Held", {"Variants": [[], [BYTE, named("Chain")]]}),
+]]
+
+ZERO = {"Int": {"width": 8, "value": 0}}
+RETURN = ["Return"]
 
 
-def place(local, *projections):
-    return f"(place {local} {listed(*projections)})"
+def place(local, *steps):
+    return {"local": local, "steps": list(steps)}
+
+
+def field(number):
+    return {"Field": number}
+
+
+def assign(to, value=ZERO):
+    return [{"Assign": [to, {"Opd": value}]}]
 
 
 def call(name, to=0):
-    return f'(call (direct (fnRef "{name}")) lnil {place(to)})'
+    return [{"Call": [{"Fn": [name, {"types": [], "dicts": []}]}, [], place(to)]}]
+
+
+def seq(first, *others):
+    return ["Seq", *first, *seq(*others)] if others else first
 
 
 def loop(statement):
-    return f"(block (loop {statement}))"
+    return ["Block", "Loop", *statement]
 
 
-def function(name, body, *kinds, parameters=0):
+def function(body, *kinds, parameters=0):
     """A function of the MIR; the first of its types is that of the result."""
-    local_list = listed(*(f"(local {kind} valueLocal)" for kind in kinds or ("tyBool",)))
-    return f'(fn-def "{name}" (fnItem 0 lnil {parameters} {local_list} {body}) {DECLARED})'
+    locals_ = [{"ty": kind, "home": "ValueLocal"} for kind in kinds or ("Bool",)]
+    return {"params": parameters, "locals": locals_, "types": DECLARED, "body": body}
 
 
 def program(**changed):
-    """A call that runs a loop with a step in it, and a function that is never called in a loop."""
+    """A call that runs a loop with a step in it, and a function that is never called in a loop: two libraries."""
     functions = {
-        "call": function("call", f"(seq {call('before')} {call('run')})"),
-        "before": function("before", "return", ROW),
-        "run": function("run", f"(seq {loop(call('step'))} return)"),
-        "step": function("step", call("deep"), named("Moved"), LENT, SLICE, named("State"), parameters=3),
-        "deep": function("deep", "return", BYTE),
+        "call": function(seq(call("before"), call("run"))),
+        "before": function(RETURN, ROW),
+        "run": function(seq(loop(call("step")), RETURN)),
+        "step": function(call("deep"), named("Moved"), lent(ROW), SLICE, named("State"), parameters=3),
+        "deep": function(RETURN, BYTE),
     }
-    return f'program {listed(*(functions | changed).values())} (fnRef "none::main")'
+    items = [list(item) for item in (functions | changed).items()]
+    return [items[:3], items[3:]]
 
 
 ROUTE = "(call > run > step)"
@@ -75,99 +97,121 @@ class Copies(unittest.TestCase):
             for parameters, kinds, said in [(1, (BYTE, kind), f"step takes {name} by value"),
                                             (0, (kind, BYTE), f"step returns {name} by value"),
                                             (0, (BYTE, kind), f"step has a local of type {name}")]:
-                step = function("step", "return", *kinds, parameters=parameters)
+                step = function(RETURN, *kinds, parameters=parameters)
                 self.assertEqual(self.found(step=step), [f"{said} {ROUTE}"])
 
     def test_a_function_that_a_step_calls(self):
-        deep = function("deep", "return", BYTE, named("Chain"), parameters=1)
+        deep = function(RETURN, BYTE, named("Chain"), parameters=1)
         self.assertEqual(self.found(deep=deep), ["deep takes Chain by value (call > run > step > deep)"])
 
     def test_a_function_that_calls_itself(self):
-        for run, deep in [(call("run"), "return"), (call("deep"), call("run"))]:
-            found = self.found(run=function("run", f"(seq {loop(call('step'))} {run})", "tyBool", ROW),
-                               deep=function("deep", deep))
+        for run, deep in [(call("run"), RETURN), (call("deep"), call("run"))]:
+            found = self.found(run=function(seq(loop(call("step")), run), "Bool", ROW), deep=function(deep))
             self.assertIn("run has a local of type [u8; 64]", found[0])
 
     def test_a_value_made_in_a_loop(self):
-        copy = f"(assign {place(1)} (rvOpd (copy {place(0)})))"
-        into_field = f"(assign {place(1, '(field 1)')} (rvOpd (copy {place(0)})))"
-        into_variant = f"(assign {place(1, '(variant 1)', '(field 2)')} (rvOpd (copy {place(0)})))"
-        for kind, body, name in [(ROW, copy, "[u8; 64]"), (named("Chain"), into_field, "[u8; 64]"),
-                                 (named("Held"), into_variant, "Chain"), (named("Chain"), call("step", 1), "Chain")]:
-            run = function("run", f"(seq {loop(call('step'))} {loop(body)})", "tyBool", kind)
+        into_field, into_variant = place(1, field(1)), place(1, {"Variant": 1}, field(2))
+        static = [{"LendStatic": [place(1), BYTE, {"Ints": {"width": 8, "values": []}}]}]
+        for kind, body, name in [(ROW, assign(place(1)), "[u8; 64]"), (named("Chain"), assign(into_field), "[u8; 64]"),
+                                 (named("Held"), assign(into_variant), "Chain"),
+                                 (named("Chain"), call("step", 1), "Chain"), (ROW, static, "[u8; 64]")]:
+            run = function(seq(loop(call("step")), loop(body)), "Bool", kind)
             self.assertEqual(self.found(run=run), [f"a loop of run makes a value of type {name} (call > run)"])
 
+    def test_a_value_made_in_a_branch_of_a_loop(self):
+        test = {"Copy": place(0)}
+        two = [{"Switch": [test, [[0], [1]], False]}, "Skip", *call("before", 1)]
+        other = [{"Switch": [test, [[0, 1], [2]], True]}, "Skip", "Unreachable", *call("before", 1)]
+        for branch in [[{"If": test}, {"Exit": 1}, *call("before", 1)], two, other]:
+            run = function(seq(loop(call("step")), loop(branch), RETURN), "Bool", ROW)
+            self.assertEqual(self.found(run=run), ["before returns [u8; 64] by value (call > run > before)",
+                                                   "a loop of run makes a value of type [u8; 64] (call > run)"])
+            run = function(seq(loop(call("step")), branch, RETURN), "Bool", ROW)
+            self.assertEqual(self.found(run=run), [])
+
     def test_a_value_made_behind_a_reference(self):
-        for kind, projections, name in [(LENT, (f"(deref {ROW})",), "[u8; 64]"),
-                                        (named("Chain"), (f"(deref {named('Chain')})", "(field 1)"), "[u8; 64]")]:
-            body = f"(assign {place(1, *projections)} (repeat (int 8 0) 64))"
-            lent = f"(tyRef erased mut {kind})"
-            deep = function("deep", body, "tyBool", lent, parameters=1)
+        for kind, steps, name in [(lent(ROW, "Mut"), [{"Deref": ROW}], "[u8; 64]"),
+                                  (lent(named("Chain"), "Mut"), [{"Deref": named("Chain")}, field(1)], "[u8; 64]")]:
+            body = [{"Assign": [place(1, *steps), {"Repeat": [ZERO, {"Lit": 64}]}]}]
+            deep = function(body, "Bool", kind, parameters=1)
             self.assertEqual(self.found(deep=deep), [f"deep makes a value of type {name} (call > run > step > deep)"])
-            run = function("run", f"(seq {loop(call('step'))} {loop(body)})", "tyBool", lent, parameters=1)
+            run = function(seq(loop(call("step")), loop(body)), "Bool", kind, parameters=1)
             self.assertEqual(self.found(run=run), [f"a loop of run makes a value of type {name} (call > run)"])
 
     def test_a_finding_is_told_once(self):
-        twice = f"(seq {loop(call('before', 1))} {loop(call('before', 1))})"
-        run = function("run", f"(seq {loop(call('step'))} {twice})", "tyBool", ROW)
+        twice = seq(loop(call("before", 1)), loop(call("before", 1)))
+        run = function(seq(loop(call("step")), twice), "Bool", ROW)
         self.assertEqual(self.found(run=run), ["before returns [u8; 64] by value (call > run > before)",
                                                "a loop of run makes a value of type [u8; 64] (call > run)"])
 
     def test_a_part_of_a_slice(self):
-        body = f"(assign {place(1, '(field 0)', f'(deref {BYTE})')} (rvOpd (int 8 0)))"
-        run = function("run", f"(seq {loop(call('step'))} {loop(body)})", "tyBool", SLICE, parameters=1)
+        body = assign(place(1, field(0), {"Deref": BYTE}))
+        run = function(seq(loop(call("step")), loop(body)), "Bool", SLICE, parameters=1)
         self.assertEqual(self.found(run=run), [])
 
     def test_a_part_without_an_array(self):
-        for projections in [("(field 0)",), (f"(deref {BYTE})",)]:
-            body = f"(assign {place(1, *projections)} (rvOpd (int 8 0)))"
-            run = function("run", f"(seq {loop(call('step'))} {loop(body)})", "tyBool", named("Chain"))
+        for steps in [(field(0),), ({"Deref": BYTE},)]:
+            run = function(seq(loop(call("step")), loop(assign(place(1, *steps)))), "Bool", named("Chain"))
             self.assertEqual(self.found(run=run), [])
-        body = f"(assign {place(1, '(variant 1)', '(field 0)')} (rvOpd (int 8 0)))"
-        run = function("run", f"(seq {loop(call('step'))} {loop(body)})", "tyBool", named("Held"))
+        body = assign(place(1, {"Variant": 1}, field(1)))
+        run = function(seq(loop(call("step")), loop(body)), "Bool", named("Held"))
+        self.assertEqual(self.found(run=run), [])
+
+    def test_a_place_of_an_array(self):
+        """An array that was made before a loop may get another byte in it."""
+        there = [{"Assign": [place(2), {"AddrOf": place(1)}]}]
+        body = seq(there, assign(place(2, {"Deref": BYTE})))
+        run = function(seq(call("before", 1), loop(seq(call("step"), body))), "Bool", ROW, "Ptr")
         self.assertEqual(self.found(run=run), [])
 
     def test_a_value_made_before_a_loop(self):
-        run = function("run", f"(seq {call('before', 1)} {loop(call('step'))})", "tyBool", ROW)
+        run = function(seq(call("before", 1), loop(call("step"))), "Bool", ROW)
         self.assertEqual(self.found(run=run), [])
 
     def test_no_loop_with_a_step(self):
-        for run in ["return", call("step"), loop(call("deep"))]:
-            found, = self.found(run=function("run", run))
+        for run in [RETURN, call("step"), loop(call("deep"))]:
+            found, = self.found(run=function(run))
             self.assertIn("step is called in none of its loops", found)
 
     def test_what_cannot_be_read(self):
-        whole = program()
-        unknown = function("step", "return", "(tyOther 1)")
-        for target in [place(7), place("x"), place(0, "(field 0)"), place(1, "(field 9)"), place(1, "(index 1)")]:
-            body = f"(seq {call('step')} (assign {target} (rvOpd (int 8 0))))"
-            with self.assertRaises(checker.Unreadable):
-                self.found(run=function("run", loop(body), "tyBool", named("State")))
-        indirect = call("step").replace("direct", "indirect")
-        with self.assertRaises(checker.Unreadable):
-            self.found(run=function("run", loop(f"(seq {call('step')} {indirect})")))
-        for text in ["", whole[:-1], whole[:-30], whole + ")", program(step=unknown),
-                     whole.replace('"deep"', '"other"', 1), whole.replace("(fnItem 0", "(fnItem", 1),
-                     whole.replace('(pair "State" (fields', '(pair "Other" (fields')]:
-            with self.assertRaises(checker.Unreadable):
-                checker.findings(text, {"call": ["step"]})
+        for target in [place(7), place("x"), place(0, field(0)), place(1, field(9)), place(1, {"Index": 1})]:
+            body = seq(call("step"), assign(target))
+            with self.assertRaises(checker.NOT_AS_EXPECTED):
+                self.found(run=function(loop(body), "Bool", named("State")))
+        indirect = copy.deepcopy(call("step"))
+        indirect[0]["Call"][0] = {"Method": ["step", {}]}
+        unknown = [{"Param": 0}, {"Vector": [BYTE, {"Lit": 4}]}, named("Other")]
+        for changed in [*({"step": function(RETURN, kind)} for kind in unknown),
+                        {"run": function(loop(seq(call("step"), indirect)))},
+                        {"run": function(loop(call("step"))[:-1])}, {"run": function(loop(call("step")) + RETURN)},
+                        {"run": function(loop([{"Jump": 1}]))}, {"run": function(loop(call("nowhere")))}]:
+            with self.assertRaises(checker.NOT_AS_EXPECTED):
+                self.found(**changed)
+        other = program()
+        other[0][0][1]["types"] = [{"name": "Other", "shape": {"Opaque": 8}}]
+        for libraries in [[], [[["call"]]], [{}], other]:
+            with self.assertRaises(checker.NOT_AS_EXPECTED):
+                checker.findings(libraries, {"call": ["step"]})
 
-    def status(self, text, status=0):
-        printed = subprocess.CompletedProcess([], status, text, "not proved")
+    def status(self, libraries, failed=None):
         self.out, self.err = io.StringIO(), io.StringIO()
-        with mock.patch.object(subprocess, "run", return_value=printed), \
-                mock.patch.object(checker, "CALLS", {"call": ["step"]}), \
+        with tempfile.TemporaryDirectory() as folder, mock.patch.object(checker, "run") as run, \
+                mock.patch.object(checker, "files") as files, mock.patch.object(checker, "CALLS", {"call": ["step"]}), \
                 contextlib.redirect_stdout(self.out), contextlib.redirect_stderr(self.err):
+            run.side_effect = failed
+            files.return_value = [pathlib.Path(folder, str(number)) for number in range(len(libraries))]
+            for file, library in zip(files.return_value, libraries):
+                file.write_text(json.dumps(library))
             return checker.main()
 
     def test_the_command(self):
         self.assertEqual(self.status(program()), 0)
         self.assertIn("no record and no array by value", self.out.getvalue())
-        self.assertEqual(self.status(program(deep=function("deep", "return", ROW))), 1)
+        self.assertEqual(self.status(program(deep=function(RETURN, ROW))), 1)
         self.assertIn("deep returns [u8; 64] by value", self.out.getvalue())
-        self.assertEqual(self.status("program lnil"), 2)
+        self.assertEqual(self.status([]), 2)
         self.assertIn("the function call is not in it", self.err.getvalue())
-        self.assertEqual(self.status("", 1), 2)
+        self.assertEqual(self.status(program(), checker.Unreadable("rt lib failed: not proved")), 2)
         self.assertIn("not proved", self.err.getvalue())
 
 

@@ -16,7 +16,7 @@ a:
 b: a
 ## high: Above.
 # Three.
-c: a b io
+c staticlib: a b io
 """
 
 

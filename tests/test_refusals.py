@@ -16,11 +16,12 @@ TWELVE = "the output buffer is shorter than the text to be written, or has fewer
 # A row in each place, and what the check says of it where its text or its name is changed.
 ROWS = [
     (checker.LIST, "Refusal::NoBlock => 9,", "Refusal::BadWord => 9,"),
-    (checker.TABLE, "numberOf NoBlock = 9", "numberOf BadWord = 9"),
+    (checker.TABLE, "number_of NoBlock = 9", "number_of BadWord = 9"),
     (checker.CONDITIONS, "(k ≡ 3) ↔ Stops bytes BadNameCount", "(k ≡ 3) ↔ Stops bytes BadName"),
     (checker.HEADER, f"*   12  {TWELVE}", "*   12  the buffer is too short"),
     ("rust/curlewsong/src/lib.rs", f'12 => "{TWELVE}",', '12 => "too short",'),
     ("tools/book.py", '3: "the count of names is 0 or above 64",', '3: "the count of names is above 64",'),
+    ("tools/document.py", f'12: "{TWELVE}",', '12: "too short",'),
     ("docs/REFUSALS.md", "| `NoBlock` |", "| `BadWord` |"),
     ("docs/REFUSALS.md", f"| {TWELVE} |", "| the buffer is too short |"),
     ("docs/FORMAT.md", f"| {TWELVE} |", "| the buffer is too short |"),
@@ -65,7 +66,8 @@ class Refusals(unittest.TestCase):
     def test_another_text_in_the_list(self):
         found, _ = self.planted(checker.LIST, f"// 12: {TWELVE}.", "// 12: too short.")
         self.assertEqual([one.split(":")[0] for one in found],
-                         [checker.HEADER, "rust/curlewsong/src/lib.rs", "docs/REFUSALS.md", "docs/FORMAT.md"])
+                         [checker.HEADER, "rust/curlewsong/src/lib.rs", "tools/document.py", "docs/REFUSALS.md",
+                          "docs/FORMAT.md"])
 
     def test_another_number(self):
         """Two findings: no row has this number, and one row too many has the other."""
@@ -75,21 +77,23 @@ class Refusals(unittest.TestCase):
         self.assertIn('a row is missing in the table\n    should be: 3: "the count', found[1])
 
     def test_a_row_that_is_missing_or_added(self):
-        found, _ = self.planted(checker.TABLE, "numberOf BadText = 16\n", "")
-        self.assertIn("a row is missing in the table\n    should be: numberOf BadText = 16", found[0])
+        found, _ = self.planted(checker.TABLE, "number_of BadText = 16\n", "")
+        self.assertIn("a row is missing in the table\n    should be: number_of BadText = 16", found[0])
         found, line = self.planted("tools/book.py", "    1: ", '    8: "new",\n    1: ')
         self.assertIn(f'tools/book.py:{line}: 8: "new",\n    should be: no such row', found[0])
+        (found,), line = self.planted("tools/document.py", "    8: ", '    1: "new",\n    8: ')
+        self.assertIn(f'tools/document.py:{line}: 1: "new",\n    should be: no such row', found)
 
     def test_a_new_refusal(self):
         """One line in each place is asked for."""
-        last = "    UnusedName,\n"
-        found, _ = self.planted(checker.LIST, last, last + "    // 18: it is late.\n    Late,\n")
+        last = "    TooDeep,\n"
+        found, _ = self.planted(checker.LIST, last, last + "    // 20: it is late.\n    Late,\n")
         self.assertEqual([one.split("should be: ")[1] for one in found], [
-            "Refusal::Late => 18,", "numberOf Late = 18", "*   18  it is late", '18 => "it is late",',
-            "| 18 | `Late` | it is late |", "| 18 | it is late |"])
+            "Refusal::Late => 20,", "number_of Late = 20", "*   20  it is late", '20 => "it is late",',
+            '20: "it is late",', "| 20 | `Late` | it is late |", "| 20 | it is late |"])
 
     def test_a_list_out_of_form(self):
-        for old, new in (("// 3: ", "// 4: "), ("// 3: ", "// "), ("    BadName,\n", ""), ("    UnusedName,\n", "")):
+        for old, new in (("// 3: ", "// 4: "), ("// 3: ", "// "), ("    BadName,\n", ""), ("    TooDeep,\n", "")):
             said = rf"{checker.LIST}:\d+: .*\n    should be: // \d+: text"
             with self.subTest(new=new), self.assertRaisesRegex(SystemExit, said):
                 self.planted(checker.LIST, old, new)
@@ -135,11 +139,12 @@ class Refusals(unittest.TestCase):
         self.assertTrue(found.startswith(f"{checker.CONDITIONS}:{line}: record NewConditions\n    should be: in CALLS"))
 
     def test_a_new_condition_of_a_book(self):
-        """Its text is asked for in the tool, too."""
+        """Its text is asked for in the tool for books, and no longer in the one for documents."""
         field = "  pub seven : (k ≡ 7)"
         found, _ = self.planted(checker.CONDITIONS, field, f"  pub eight : (k ≡ 8) ↔ Late\n{field}")
         self.assertIn('should be: 8: "the parent asked for', found[0])
         self.assertTrue(found[0].startswith("tools/book.py:"))
+        self.assertRegex(found[1], "^tools/document.py:.* 8: .*\n    should be: no such row")
 
     def test_conditions_of_the_bytes_of_a_book(self):
         """Those of `Stops`, and no others, are stated by it."""

@@ -20,7 +20,7 @@ book are those in its blocks. A book with a further name is refused by every cal
 Of an XML document each element is a block: its name, whether it has text, and the names of its child elements in order.
 It has text where character data other than white space is directly in it. White space is text only where no block of
 that name has a child, in all the files: a DTD says EMPTY of an element without text and children, and EMPTY allows not
-even a space, but white space around children is always allowed. A CDATA section, though it be empty, and white space
+even a space, but white space around children is always allowed. A CDATA section, even an empty one, and white space
 that is written as a character reference, such as &#32;, are text too: they are allowed only where text is. An entity
 counts as its replacement text does in its place, in which a character reference is left only if it was declared as
 &#38;#32;. So white space that comes through another entity is white space.
@@ -88,6 +88,20 @@ class Refused(Exception):
 def printable(message):
     """The message with escapes for what a terminal would obey and not show."""
     return "".join(c if c.isprintable() else c.encode("unicode_escape").decode() for c in message)
+
+
+def say_as(tool):
+    """A function that prints a message of this tool on standard error, or drops it where it cannot be written."""
+    def say(line):
+        # Where standard error is closed, `print` would take standard output in its place.
+        if sys.stderr is None:
+            return
+        try:
+            print(printable(f"{tool}: {line}"), file=sys.stderr, flush=True)
+        except OSError:
+            # Python writes what is left over once more at its end, and changes the exit status where that fails too.
+            sys.stderr = None
+    return say
 
 
 # Names
@@ -241,8 +255,8 @@ def lines_of(names, blocks):
 # XML documents
 
 
-class Document:
-    """Walks one document; `blocks` then has a block for each element, in the order of opening tags."""
+class Reader:
+    """Walks one document, and tells a class below of it: `start` and `end` of a tag, `holds` of what is between."""
 
     def __init__(self, file):
         self.file = file
@@ -250,13 +264,7 @@ class Document:
         self.reading = []  # the names of the entities that are being read
         self.inner = None  # the parser of the document, or of the innermost of these entities
         self.data = b""  # what `inner` reads
-        self.blocks = []
-        self.open = []  # the places in `blocks` of the elements that are open
-        self.tags = []  # the line of each block's opening tag
-        self.attributes = []  # the names of the elements that have attributes
-        self.standalone = False  # whether the document says standalone="yes"
         parser = xml.parsers.expat.ParserCreate()
-        parser.XmlDeclHandler = self.declaration
         parser.EntityDeclHandler = self.entity
         parser.StartElementHandler = self.start
         parser.EndElementHandler = self.end
@@ -273,31 +281,9 @@ class Document:
     def where(self, line=None):
         return f"{self.file}, line {self.parser.CurrentLineNumber if line is None else line}"
 
-    def declaration(self, _version, _encoding, standalone):
-        self.standalone = standalone == 1
-
     def entity(self, name, is_parameter, text, *_elsewhere):
         if not is_parameter:
             self.entities[name] = text
-
-    def start(self, name, attributes):
-        name = checked(name.encode(), self.where())
-        if self.open:
-            self.blocks[self.open[-1]][2].append(name)
-        if attributes:
-            self.attributes.append(name)
-        self.open.append(len(self.blocks))
-        self.blocks.append((name, NOTHING, []))
-        self.tags.append(self.parser.CurrentLineNumber)
-
-    def end(self, _name):
-        place = self.open.pop()
-        self.blocks[place] = checked_block(self.where(self.tags[place]), *self.blocks[place])
-
-    def holds(self, content):
-        if self.open:
-            parent, before, children = self.blocks[self.open[-1]]
-            self.blocks[self.open[-1]] = parent, max(before, content), children
 
     def characters(self, data):
         offset = self.inner.CurrentByteIndex
@@ -332,10 +318,47 @@ class Document:
             raise Bad(f"{self.where()}: not a well-formed XML document: {xml.parsers.expat.ErrorString(e.code)}")
         except (LookupError, ValueError, RecursionError) as e:
             raise Bad(f"{self.where()}: not a readable XML document: {e}")
+        except MemoryError:
+            raise Bad(f"{self.where()}: there is not enough memory to read the rest")
 
     def read(self, data):
         self.parse(self.parser, data)
         return self
+
+
+class Document(Reader):
+    """Walks one document; `blocks` then has a block for each element, in the order of opening tags."""
+
+    def __init__(self, file):
+        super().__init__(file)
+        self.blocks = []
+        self.open = []  # the places in `blocks` of the elements that are open
+        self.tags = []  # the line of each block's opening tag
+        self.attributes = []  # the names of the elements that have attributes
+        self.standalone = False  # whether the document says standalone="yes"
+        self.parser.XmlDeclHandler = self.declaration
+
+    def declaration(self, _version, _encoding, standalone):
+        self.standalone = standalone == 1
+
+    def start(self, name, attributes):
+        name = checked(name.encode(), self.where())
+        if self.open:
+            self.blocks[self.open[-1]][2].append(name)
+        if attributes:
+            self.attributes.append(name)
+        self.open.append(len(self.blocks))
+        self.blocks.append((name, NOTHING, []))
+        self.tags.append(self.parser.CurrentLineNumber)
+
+    def end(self, _name):
+        place = self.open.pop()
+        self.blocks[place] = checked_block(self.where(self.tags[place]), *self.blocks[place])
+
+    def holds(self, content):
+        if self.open:
+            parent, before, children = self.blocks[self.open[-1]]
+            self.blocks[self.open[-1]] = parent, max(before, content), children
 
 
 def notes_of(documents, blocks):
@@ -447,17 +470,33 @@ def read_book(data):
 # Commands
 
 
-def contents(file):
-    """The bytes of a file, and what to call it in a message."""
+PIECE = 1000000
+
+
+def first_bytes(stream, most):
+    """The bytes of a stream, at most so many, or all. One `read` of so many would take memory for all of them."""
+    if most is None:
+        return stream.read()
+    pieces = []
+    while most > 0 and (piece := stream.read(min(most, PIECE))):
+        pieces.append(piece)
+        most -= len(piece)
+    return b"".join(pieces)
+
+
+def contents(file, most=None):
+    """The bytes of a file, at most so many, or all, and what to call the file in a message."""
     if file == "-" and sys.stdin is None:
         raise Bad("standard input is closed")
     try:
         if file == "-":
-            return sys.stdin.buffer.read(), "standard input"
+            return first_bytes(sys.stdin.buffer, most), "standard input"
         with open(file, "rb") as f:
-            return f.read(), file
+            return first_bytes(f, most), file
     except OSError as e:
         raise Bad(f"{file}: {e.strerror}")
+    except MemoryError:
+        raise Bad(f"{file}: there is not enough memory to read it")
 
 
 def is_xml(data):
@@ -518,12 +557,7 @@ def main(arguments=None):
     shower = commands.add_parser("show", help="a book as lines")
     shower.add_argument("book", nargs="?", default="-", metavar="BOOK")
     chosen = parser.parse_args(arguments)
-
-    def say(line):
-        # Where standard error is closed, `print` would take standard output in its place.
-        if sys.stderr is not None:
-            print(printable(f"book.py: {line}"), file=sys.stderr)
-
+    say = say_as("book.py")
     try:
         if chosen.command == "make":
             book = make(chosen.files, chosen.distinct, say)

@@ -17,17 +17,18 @@ ROOT = pathlib.Path(__file__).resolve().parent.parent
 PICTURE = ROOT / "docs" / "layers.svg"
 MARK = "(no function)."
 WITHOUT_ARROWS = "test programs"
-LEFT, WIDTH, TOP, ROW, BOX, GAP = 112, 840, 18, 44, 24, 16
+LEFT, WIDTH, TOP, ROW, BOX, GAP = 112, 1120, 18, 44, 24, 16
 COLOURS = ["#444444", "#00558b", "#8a4b00", "#00693e", "#8b1a4a", "#5b2a86", "#006d77", "#9b2226"]
 LEGEND = [
     "Lowest layer at the bottom. An arrow goes from a crate to one that it depends on, in the colour of its own group.",
-    "Left out: arrows that follow from others, the arrows of the test programs, and Rattle's libraries io and libc.",
+    "Left out: arrows that follow from others, and the arrows of the test programs.",
     "Dashed border: a crate of types, definitions and theorems only, without a function.",
 ]
 
 
 def read(text):
     """The crates of each group, each crate's dependencies, and the crates marked as having no function."""
+    text = re.sub(r"^(\w+) staticlib:", r"\1:", text, flags=re.M)
     names = re.findall(r"^(\w+):", text, re.M)
     groups, deps, bare, said = {}, {}, set(), ""
     for number, line in enumerate(text.splitlines(), 1):

@@ -1,4 +1,4 @@
-//! Says where the static library is: CURLEWSONG_LIB, or the folder in which `rt staticlib` leaves it.
+//! Says where the static library is: CURLEWSONG_LIB, or the folder in which tools/build.sh leaves it.
 
 fn main() {
     println!("cargo:rerun-if-env-changed=CURLEWSONG_LIB");

@@ -11,7 +11,7 @@ use lib.Dec.{eqb, ltb}
 use lib.ListN.{length}
 use borrow.Author.Tests.{lt-ltb, le-ltb, ltb-true, ltb-false, not-true, not-false}
 use Rattle.refusal.specs.declared.Refusal.{Refusal}
-use Rattle.refusal.specs.declared.Refusal.TheVariants.{BookTooLong, BytesMissing, BadNameCount, BadName, NameNotAbove, NumberNotBelow, BytesLeftOver, BadText, UnusedName}
+use Rattle.refusal.specs.declared.Refusal.TheVariants.{BookTooLong, BytesMissing, BadNameCount, BadName, NameNotAbove, NumberNotBelow, BytesLeftOver, BadText, UnusedName, BadDocument, BadParent, BadWord, BufferTooShort, NameTwice, NoBlock, NotADeclaration, NotAModel, TooDeep, UnknownName}
 use Rattle.refusal.specs.Table.{number_of, of_book}
 use Rattle.refusal.specs.Answer.{Answer, given, refused, onward, refuse_if}
 use Rattle.refusal.proofs.Answers.{onward_given, check_given, given_same, given_refused, onward_refused, check_refused}
@@ -204,6 +204,17 @@ module _ (s : List ℕ) where
   stops_refused NumberNotBelow (bad_block {rest} a h) = block_refused rest a NumberNotBelow (block_bad (count_at s 0) rest h)
   stops_refused BadText (bad_text {rest} a h) = block_refused rest a BadText (block_text (count_at s 0) rest h)
   stops_refused BytesLeftOver (left_over {rest} a l) = left_over_refused rest a l
+  stops_refused BadParent x' = elim x' [ ]
+  stops_refused NoBlock x'' = elim x'' [ ]
+  stops_refused NotAModel x3 = elim x3 [ ]
+  stops_refused BadWord x4 = elim x4 [ ]
+  stops_refused BufferTooShort x5 = elim x5 [ ]
+  stops_refused NotADeclaration x6 = elim x6 [ ]
+  stops_refused UnknownName x7 = elim x7 [ ]
+  stops_refused NameTwice x8 = elim x8 [ ]
+  stops_refused UnusedName x9 = elim x9 [ ]
+  stops_refused BadDocument x10 = elim x10 [ ]
+  stops_refused TooDeep x11 = elim x11 [ ]
 
 -- Bytes are refused by a number exactly where its condition holds.
 pub book_refused : (s : List ℕ) (r : Refusal) → (book_of s ≡ refused r) ↔ Stops s r
@@ -223,7 +234,7 @@ module _ (s : List ℕ) (b : Book) where
       (record {
         section = f.0.rest;
         names = names_read s f.0 (ltb-false longest_book (length s) l.0) t;
-        all_names_lem = sym t.count;
+        all_names = sym t.count;
         enough = u.enough;
         all_blocks = u.count;
         within = rw t.count u.within;
@@ -235,8 +246,8 @@ module _ (s : List ℕ) (b : Book) where
   whole_given w =
       rw (
         le-ltb longest_book (length s) w.names.short,
-        section_given s b.names w.section w.names w.all_names_lem,
-        w.all_names_lem,
+        section_given s b.names w.section w.names w.all_names,
+        w.all_names,
         count_given w.section 0 w.enough,
         w.all_blocks,
         w.stand,
@@ -259,3 +270,14 @@ book_stops s r e = let (book, apart) = own r (refused_stops s r e) in (book, oth
     own NumberNotBelow (bad_block a h) = (refl, refl)
     own BadText (bad_text a h) = (refl, refl)
     own BytesLeftOver (left_over a h) = (refl, refl)
+    own BadParent x' = elim x' [ ]
+    own NoBlock x'' = elim x'' [ ]
+    own NotAModel x3 = elim x3 [ ]
+    own BadWord x4 = elim x4 [ ]
+    own BufferTooShort x5 = elim x5 [ ]
+    own NotADeclaration x6 = elim x6 [ ]
+    own UnknownName x7 = elim x7 [ ]
+    own NameTwice x8 = elim x8 [ ]
+    own UnusedName x9 = elim x9 [ ]
+    own BadDocument x10 = elim x10 [ ]
+    own TooDeep x11 = elim x11 [ ]

@@ -80,7 +80,7 @@ pub record AtEnd (s rest : List ℕ) : Type 0 where
 pub record Whole (s : List ℕ) (b : Book) : Type 0 where
   pub section : List ℕ
   pub names : NamesRead s b.names section
-  pub all_names_lem : length b.names ≡ count_at s 0
+  pub all_names : length b.names ≡ count_at s 0
   pub enough : count_size ≤ length section
   pub all_blocks : count_at section 0 ≡ length b.blocks
   pub within : BlocksBelow (count_at s 0) b.blocks

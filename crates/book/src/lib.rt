@@ -1,4 +1,6 @@
 // The book: where its names and blocks stand.
+#![tactic(auto)]
+
 use nameset::PLACES;
 use refusal::Outcome;
 
@@ -10,7 +12,7 @@ pub const TEXT_AT: usize = 1;
 pub const CHILD_COUNT_AT: usize = 2;
 
 // Where the parts of a book stand.
-#[derive(Drop)]
+#[derive(Clone, Copy)]
 pub struct Layout {
     // how many names there are: paper 01's N
     pub names: usize,
@@ -23,14 +25,14 @@ pub struct Layout {
 }
 
 // A book that was read; the layout of a refused one is all 0.
-#[derive(Drop)]
+#[derive(Clone, Copy)]
 pub struct Reading {
     pub outcome: Outcome,
     pub layout: Layout,
 }
 
 // The number of a name, or that no name has these bytes.
-#[derive(Drop)]
+#[derive(Clone, Copy)]
 pub enum Found {
     At(usize),
     Nothing,

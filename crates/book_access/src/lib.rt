@@ -1,4 +1,6 @@
 // Back to a name of a book that was read.
+#![tactic(auto)]
+
 ghost use Rattle.std.specs.Prelude.{◌≡◌, [], ◌+◌, ◌≤◌, ◌<◌, length, get_or, take, drop};
 ghost use Rattle.name_order.specs.Order.{order_of};
 ghost use Rattle.book.specs.Book.{names_in};

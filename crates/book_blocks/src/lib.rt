@@ -1,4 +1,6 @@
 // The blocks of a book, checked one after the other.
+#![tactic(auto)]
+
 ghost use Rattle.std.specs.Prelude.{◌≡◌, cond, ◌+◌, ◌≤◌, ◌<◌, length, drop};
 ghost use Rattle.nameset.specs.Places.{places};
 ghost use Rattle.nameset.specs.Set.{empty, below};
@@ -12,14 +14,14 @@ use nameset::NameSet;
 use refusal::Refusal;
 
 // What stands where a block is due: a block of so many children, or why the call stops.
-#[derive(Drop)]
+#[derive(Clone, Copy)]
 pub enum BlockStep {
     Block(usize),
     Stopped(Refusal),
 }
 
 // Where the last block ends, and the names that no block uses; or why the call stops.
-#[derive(Drop)]
+#[derive(Clone, Copy)]
 pub enum BlocksEnd {
     End(usize, NameSet),
     Stopped(Refusal),

@@ -1,4 +1,6 @@
 // What the bytes at a place of a book say: a byte, a count, a part; and whether each number of a word is below n.
+#![tactic(auto)]
+
 ghost use Rattle.std.specs.Prelude.{◌≡◌, ◌+◌, ◌-◌, ◌≤◌, ◌<◌, length, take, drop};
 ghost use Rattle.book.specs.Field.{count_size, count_at};
 ghost use Rattle.book.specs.Book.{all_below};

@@ -1,4 +1,6 @@
 // Section 1 of the book: the count N and the names.
+#![tactic(auto)]
+
 ghost use Rattle.std.specs.Prelude.{◌≡◌, [], ◌+◌, ◌-◌, ◌≤◌, ◌<◌, length, drop};
 ghost use Rattle.nameset.specs.Places.{places};
 ghost use Rattle.book.specs.Field.{count_size};
@@ -10,14 +12,14 @@ use nameset::{PLACES, good_count};
 use refusal::{Outcome, Refusal};
 
 // What stands where a name is due: a name of so many bytes, or why the call stops.
-#[derive(Drop)]
+#[derive(Clone, Copy)]
 pub enum NameStep {
     Name(usize),
     Stopped(Refusal),
 }
 
 // The names of a book: how many, where each length byte stands, and where the last name ends.
-#[derive(Drop)]
+#[derive(Clone, Copy)]
 pub struct NameTable {
     pub outcome: Outcome,
     pub names: usize,
@@ -61,7 +63,7 @@ fn name_at(bytes: &[u8], at: usize, before: &[u8]) -> NameStep
 }
 
 // What stands in the place of the names of a refused book.
-fn no_names_lem(refusal: Refusal) -> NameTable
+fn no_names(refusal: Refusal) -> NameTable
     ensures { result ≡ no_names refusal }
 {
     NameTable {
@@ -89,7 +91,7 @@ fn read_names(bytes: &[u8], n: usize) -> NameTable
                 at = from + size;
             }
             NameStep::Stopped(refusal) => {
-                return no_names_lem(refusal);
+                return no_names(refusal);
             }
         }
         i += 1;
@@ -107,12 +109,12 @@ pub fn name_section(bytes: &[u8]) -> NameTable
     ensures { result ≡ name_table (name_section bytes.now) }
 {
     if bytes.len() < COUNT_SIZE {
-        return no_names_lem(Refusal::BytesMissing);
+        return no_names(Refusal::BytesMissing);
     }
     let n = count_at(bytes, 0);
     if good_count(n) {
         read_names(bytes, n)
     } else {
-        no_names_lem(Refusal::BadNameCount)
+        no_names(Refusal::BadNameCount)
     }
 }

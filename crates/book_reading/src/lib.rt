@@ -1,4 +1,6 @@
 // A book read: its head, its blocks, its end.
+#![tactic(auto)]
+
 ghost use Rattle.std.specs.Prelude.{◌≡◌, length};
 ghost use Rattle.book.specs.Layout.{reading_of, no_reading};
 ghost use Rattle.book.specs.Taken.{taken_book};

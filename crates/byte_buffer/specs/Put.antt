@@ -1,4 +1,4 @@
--- A means: bytes put into a buffer; `wrote_start` and `Wrote-none` in proofs/Puts.antt say what the buffer then holds.
+-- A means: bytes put into a buffer; `wrote_start` and `wrote_none` in proofs/Puts.antt say what the buffer then holds.
 -- Assumes nothing.
 use Rattle.std.specs.Prelude.{ℕ, ◌+◌, ◌≡◌, cond, List, [], ◌∷◌, eqb, length}
 use Rattle.std.proofs.lemmas.List.Edits.{sets}

@@ -1,4 +1,6 @@
 // Bytes into a lent buffer, from a place on. Each function answers the place behind what it put.
+#![tactic(auto)]
+
 ghost use Rattle.std.specs.Prelude.{◌+◌, ◌≤◌, length};
 ghost use Rattle.byte_buffer.specs.Put.{Put, shown};
 

@@ -1,4 +1,6 @@
 // The largest byte of a row.
+#![tactic(auto)]
+
 ghost use Rattle.std.specs.Prelude.{◌≡◌, max, drop};
 ghost use Rattle.byte_row.specs.Largest.{largest};
 

@@ -1,4 +1,6 @@
 // Loop groups, by what each name reaches, and which of these names stand behind it.
+#![tactic(auto)]
+
 ghost use Rattle.std.specs.Prelude.{◌≡◌, ℕ, ◌≤◌, ◌<◌};
 ghost use Rattle.nameset.specs.Places.{places};
 ghost use Rattle.nameset.specs.Set.{member};
@@ -60,7 +62,7 @@ fn put_each(rows: &mut [u64], group: NameSet, set: NameSet)
 }
 
 // What stands behind each name, the names in loop groups, and the smallest name of each group.
-#[derive(Drop)]
+#[derive(Clone, Copy)]
 pub struct Loops {
     pub behind: [u64; ROWS],
     pub names: NameSet,

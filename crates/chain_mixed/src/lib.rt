@@ -1,4 +1,6 @@
 // The chain of a parent with text (paper 02, U5): one starred factor of the names that stand in its words.
+#![tactic(auto)]
+
 ghost use Rattle.std.specs.Prelude.{◌≡◌, Bool, ◌≤◌};
 ghost use Rattle.nameset.specs.Places.{places};
 ghost use Rattle.nameset.specs.declared.NameSet.{NameSet};

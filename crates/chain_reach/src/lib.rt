@@ -1,5 +1,7 @@
 // What each name reaches, as rows of words, by the follow rows: one name after the other is closed, and a name that is
 // closed stands for all that it reaches.
+#![tactic(auto)]
+
 ghost use Rattle.std.specs.Prelude.{◌≡◌, ◌≤◌, ◌<◌};
 ghost use Rattle.nameset.specs.Places.{places};
 ghost use Rattle.nameset.specs.Rows.{IsRows};

@@ -1,4 +1,6 @@
 // The model of a parent's sample, from the row that keeps its facts.
+#![tactic(auto)]
+
 ghost use Rattle.std.specs.Prelude.{◌≡◌, ℕ, ◌≤◌, length};
 ghost use Rattle.nameset.specs.Places.{places};
 ghost use Rattle.follow.specs.View.{view_of};

@@ -3,19 +3,24 @@
 -- at the end of crates/demands/proofs/Demands.antt.
 -- Assumes nothing.
 use Rattle.std.specs.Prelude.{ℕ, ◌≡◌, List}
+use Rattle.refusal.specs.declared.Outcome.{Outcome}
+use Rattle.refusal.specs.declared.Acceptance.{Acceptance}
+use Rattle.refusal.specs.Answer.{outcome_number}
 use Rattle.model.specs.declared.Model.{Model}
 use Rattle.declaration_writing.specs.declared.Written.{Written}
 use Rattle.declaration_writing.specs.Write.{WritesDeclaration}
 use Rattle.declaration_record.specs.declared.Declaration.{Declaration}
 use Rattle.declaration_reading.specs.Read.{ReadsDeclaration}
-use Rattle.intake_word.specs.declared.Acceptance.{Acceptance}
 use Rattle.intake_within.specs.declared.Inclusion.{Inclusion}
 use Rattle.intake_sample.specs.declared.Inferred.{Inferred}
 use Rattle.intake_word.specs.Acceptance.{AcceptsWord}
+use Rattle.intake_document.specs.Document.{AcceptsDocument}
 use Rattle.intake_within.specs.Comparison.{ComparesModels}
 use Rattle.intake_sample.specs.Inference.{InfersModel}
 use Rattle.intake_sample.specs.Writing.{WritesSample}
 use Rattle.intake_dtd.specs.Dtd.{WritesDtd}
+use Rattle.intake_models.specs.Putting.{PutsModel}
+use Rattle.intake_models.specs.Filling.{WritesModels}
 use Rattle.curlewsong_reply.specs.declared.ModelReply.{ModelReply}
 use Rattle.curlewsong_reply.specs.declared.Verdict.{Verdict}
 use Rattle.curlewsong_reply.specs.declared.InclusionReply.{InclusionReply}
@@ -28,6 +33,9 @@ RepliesModel bytes parent r = (x : Inferred) × InfersModel bytes parent x × (r
 
 abbrev pub RepliesWord : ℕ → Model → List ℕ → Verdict → Type 0
 RepliesWord n m w r = (x : Acceptance) × AcceptsWord n m w x × (r ≡ verdict x)
+
+abbrev pub RepliesDocument : ℕ → List ℕ → List ℕ → Verdict → Type 0
+RepliesDocument n table w r = (x : Acceptance) × AcceptsDocument n table w x × (r ≡ verdict x)
 
 -- The buffer held `before` and then holds `after`.
 abbrev pub RepliesWithin : ℕ → Model → Model → InclusionReply → List ℕ → List ℕ → Type 0
@@ -44,3 +52,10 @@ RepliesDtd bytes r before after = (x : Written) × WritesDtd bytes x before afte
 
 abbrev pub RepliesText : List ℕ → List ℕ → TextReply → Type 0
 RepliesText bytes text r = (x : Declaration) × ReadsDeclaration bytes text x × (r ≡ text_reply x)
+
+-- The reply is the number alone.
+abbrev pub RepliesPut : ℕ → ℕ → Model → ℕ → List ℕ → List ℕ → Type 0
+RepliesPut n parent m k before after = (x : Outcome) × PutsModel n parent m x before after × (k ≡ outcome_number x)
+
+abbrev pub RepliesModels : List ℕ → LengthReply → List ℕ → List ℕ → Type 0
+RepliesModels bytes r before after = (x : Written) × WritesModels bytes x before after × (r ≡ length_reply x)

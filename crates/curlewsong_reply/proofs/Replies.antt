@@ -4,16 +4,15 @@ use Prim.Native.Nat.{ℕ}
 use mathlib.Core.Path.{◌≡◌, ap}
 use mathlib.Core.Bool.{true, false}
 use Rattle.refusal.specs.declared.Refusal.{Refusal}
+use Rattle.refusal.specs.declared.Acceptance.{Acceptance}
+use Rattle.refusal.specs.declared.Acceptance.TheVariants.{Yes, No, Refused}
 use Rattle.refusal.specs.Table.{number_of}
-use Rattle.refusal.specs.Answer.{outcome_number}
+use Rattle.refusal.specs.Answer.{outcome_number, acceptance_number, acceptance_yes}
 use Rattle.declaration_writing.specs.declared.Written.{Written}
 use Rattle.declaration_record.specs.declared.Declaration.{Declaration}
-use Rattle.intake_word.specs.declared.Acceptance.{Acceptance}
-use Rattle.intake_word.specs.declared.Acceptance.TheVariants.{Yes, No, Refused}
 use Rattle.intake_within.specs.declared.Inclusion.{Inclusion}
 use Rattle.intake_within.specs.declared.Inclusion.TheVariants as Case
 use Rattle.intake_sample.specs.declared.Inferred.{Inferred}
-use Rattle.intake_word.specs.Acceptance.{acceptance_number, acceptance_yes}
 use Rattle.intake_within.specs.Comparison.{inclusion_number, inclusion_yes, inclusion_length}
 use Rattle.curlewsong_reply.specs.Reply.{model_reply, verdict, inclusion_reply, length_reply, text_reply}
 

@@ -1,13 +1,12 @@
 -- To be believed: answers as C and Rust get them, with the refusal's number first, 0 for none.
 -- Assumes nothing.
 use Rattle.std.specs.Prelude.{ℕ, Bool}
-use Rattle.refusal.specs.Answer.{outcome_number}
+use Rattle.refusal.specs.declared.Acceptance.{Acceptance}
+use Rattle.refusal.specs.Answer.{outcome_number, acceptance_number, acceptance_yes}
 use Rattle.declaration_writing.specs.declared.Written.{Written}
 use Rattle.declaration_record.specs.declared.Declaration.{Declaration}
-use Rattle.intake_word.specs.declared.Acceptance.{Acceptance}
 use Rattle.intake_within.specs.declared.Inclusion.{Inclusion}
 use Rattle.intake_sample.specs.declared.Inferred.{Inferred}
-use Rattle.intake_word.specs.Acceptance.{acceptance_number, acceptance_yes}
 use Rattle.intake_within.specs.Comparison.{inclusion_number, inclusion_yes, inclusion_length}
 use Rattle.curlewsong_reply.specs.declared.ModelReply.{ModelReply}
 use Rattle.curlewsong_reply.specs.declared.Verdict.{Verdict}

@@ -1,4 +1,6 @@
 // Answers as C and Rust get them, as include/curlewsong.h declares them: the refusal as a number, 0 for none.
+#![tactic(auto)]
+
 ghost use Rattle.std.specs.Prelude.{◌≡◌};
 ghost use Rattle.curlewsong_reply.specs.Reply.{model_reply, verdict, inclusion_of, inclusion_reply, length_reply, text_reply};
 
@@ -6,12 +8,12 @@ use declaration_record::Declaration;
 use declaration_writing::Written;
 use intake_sample::Inferred;
 use intake_within::Inclusion;
-use intake_word::Acceptance;
 use model::Model;
+use refusal::Acceptance;
 
 // A model, or the empty one and why.
 #[repr(C)]
-#[derive(Drop)]
+#[derive(Clone, Copy)]
 pub struct ModelReply {
     pub refusal: u8,
     pub model: Model,
@@ -19,7 +21,7 @@ pub struct ModelReply {
 
 // A yes or no, or no and why.
 #[repr(C)]
-#[derive(Drop)]
+#[derive(Clone, Copy)]
 pub struct Verdict {
     pub refusal: u8,
     pub yes: bool,
@@ -27,7 +29,7 @@ pub struct Verdict {
 
 // A yes, or a no and the length of a word, or no and 0 and why.
 #[repr(C)]
-#[derive(Drop)]
+#[derive(Clone, Copy)]
 pub struct InclusionReply {
     pub refusal: u8,
     pub yes: bool,
@@ -36,7 +38,7 @@ pub struct InclusionReply {
 
 // The length that was written, or 0 and why.
 #[repr(C)]
-#[derive(Drop)]
+#[derive(Clone, Copy)]
 pub struct LengthReply {
     pub refusal: u8,
     pub length: usize,
@@ -44,7 +46,7 @@ pub struct LengthReply {
 
 // What a text was read as, or parent 0 and the empty model and why.
 #[repr(C)]
-#[derive(Drop)]
+#[derive(Clone, Copy)]
 pub struct TextReply {
     pub refusal: u8,
     pub parent: usize,

@@ -1,4 +1,6 @@
 // Steps along the bytes of a text: its next unread byte, and where white space or a run of the bytes of words ends.
+#![tactic(auto)]
+
 ghost use Rattle.std.specs.Prelude.{◌≡◌, ◌+◌, ◌≤◌, length, drop};
 ghost use Rattle.name.specs.Class.{class_table};
 ghost use Rattle.name.specs.Word.{word_byte};

@@ -1,5 +1,7 @@
 // A text together with the place of its next unread byte: thin steps over the functions of `declaration_bytes` and
 // `declaration_scan`, and the next token by them.
+#![tactic(auto)]
+
 ghost use Rattle.std.specs.Prelude.{◌≡◌, ◌≤◌, length, drop};
 ghost use Rattle.declaration_bytes.specs.Unread.{end_of_text, next_of};
 ghost use Rattle.declaration_scan.specs.Piece.{space_end, piece_from, piece_at};
@@ -7,7 +9,7 @@ ghost use Rattle.declaration_scan.specs.Piece.{space_end, piece_from, piece_at};
 use declaration_scan::Piece;
 
 // The text, and the place of its next unread byte.
-#[derive(Drop)]
+#[derive(Clone, Copy)]
 pub struct Cursor<'a> {
     text: &'a [u8],
     at: usize,

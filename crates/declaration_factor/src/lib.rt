@@ -1,4 +1,6 @@
 // The text of one factor: a name, the names, the factor.
+#![tactic(auto)]
+
 ghost use Rattle.std.specs.Prelude.{◌≡◌, false, ◌+◌, ◌≤◌, ◌<◌, length};
 ghost use Rattle.book.specs.Book.{names_in};
 ghost use Rattle.book.specs.Access.{LaidOut};

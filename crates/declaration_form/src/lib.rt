@@ -1,4 +1,6 @@
 // Whether a text has the form of a declaration: one walk along its tokens.
+#![tactic(auto)]
+
 ghost use Rattle.std.specs.Prelude.{◌≡◌, true, ◌-◌, ◌≤◌, ◌<◌, length, take, drop};
 ghost use Rattle.name.specs.Class.{class_table};
 ghost use Rattle.declaration_spelling.specs.Token.{word};

@@ -1,4 +1,6 @@
 // The factors of a model, read from the tokens of a text into a record.
+#![tactic(auto)]
+
 ghost use Rattle.std.specs.Prelude.{◌≡◌, ◌≤◌, length};
 ghost use Rattle.refusal.specs.Answer.{given, refused};
 ghost use Rattle.nameset.specs.Places.{places};
@@ -16,7 +18,7 @@ use nameset::PLACES;
 use refusal::{Outcome, Refusal};
 
 // How a call that reads ended, the parent's number and the record: 0 and the empty model where it was refused.
-#[derive(Drop)]
+#[derive(Clone, Copy)]
 pub struct Declaration {
     pub outcome: Outcome,
     pub parent: usize,

@@ -1,5 +1,7 @@
 // One token of a declaration: the number of its name by the book, and what it changes in the rows of the record under
 // way, the factor of each name and the mode of each factor.
+#![tactic(auto)]
+
 ghost use Rattle.std.specs.Prelude.{◌≡◌, ◌&&◌, ◌<◌, ltb, length, set};
 ghost use Rattle.nameset.specs.Places.{places};
 ghost use Rattle.declaration_rows.specs.Place.{free_at, free_kind, factor_after, kind_mode, mode_after, index_after};

@@ -1,4 +1,6 @@
 // The token that begins at a place of a text: its kind, and where it ends.
+#![tactic(auto)]
+
 ghost use Rattle.std.specs.Prelude.{◌≡◌, false, ◌+◌, ◌≤◌, length, drop};
 ghost use Rattle.name.specs.Word.{word_byte};
 ghost use Rattle.declaration_bytes.specs.Unread.{end_of_text, next_of, run_of};
@@ -34,7 +36,7 @@ pub const PLUS: u8 = 10;
 pub const STAR: u8 = 11;
 
 // A token of the text: whether white space stands before it, its kind, and the places where it begins and ends.
-#[derive(Drop)]
+#[derive(Clone, Copy)]
 pub struct Piece {
     pub gap: bool,
     pub kind: u8,

@@ -155,6 +155,7 @@ same_name names v w p q e = sym (number_is names v p).1 ∙ ap (name_at names) e
 
 twice_to : (names xs : List (List ℕ)) → ((x : List ℕ) → Memᴰ x xs → known names x ≡ true) → Twice xs → (k : ℕ) × (k < length names) × (1 < times k (numbers_for names xs))
 unfolding times numbers_for
+twice_to names [] h t = elim t [ ]
 twice_to names (w ∷ ws) h (inl m) =
     (number_for names w, (number_is names w (h w (Memᴰ.head refl))).0, rw (eq-eqb (number_for names w) (number_for names w) refl) (let k = member_times names w ws m in omega arith))
 twice_to names (w ∷ ws) h (inr t) = go (twice_to names ws (λ x m. h x (Memᴰ.tail m)) t)

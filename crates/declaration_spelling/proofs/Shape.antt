@@ -66,9 +66,11 @@ order_goes c (suc zero) [] o h = tt
 order_goes c (suc zero) (f ∷ fs) (l, mode, own, o) h = go fs o h
   where
     go : (gs : List (Factor ℕ)) → Reordered c 1 gs → (suc zero ≡ zero) ⊎ ((suc zero ≡ suc zero) × MayHaveText c) → (gs ≡ []) × (f.mode ≡ 3)
-    go gs q (inl e) = absurd (omega arith)
-    go gs q (inr (e, inl none)) = absurd (omega arith)
+    go [] q (inl e) = absurd (omega arith)
+    go [] q (inr (e, inl none)) = absurd (omega arith)
     go [] q (inr (e, inr (one, star))) = (refl, omega (arith, mode, star))
+    go (g ∷ gs) q (inl e) = absurd (omega arith)
+    go (g ∷ gs) q (inr (e, inl none)) = absurd (omega arith)
     go (g ∷ gs) (k, mode, own, q) (inr (e, inr (one, star))) = absurd (omega arith)
 order_goes c (suc (suc t)) fs o (inl e) = absurd (omega arith)
 order_goes c (suc (suc t)) fs o (inr (e, h)) = absurd (omega arith)

@@ -1,4 +1,6 @@
 // What the walk along a text asks of one token: the next state by the table, white space before it, a word's bytes.
+#![tactic(auto)]
+
 ghost use Rattle.std.specs.Prelude.{◌≡◌, true, cond, ◌-◌, ◌≤◌, length, take, drop};
 ghost use Rattle.name.specs.Class.{class_table};
 ghost use Rattle.name.specs.Rule.{is_name};

@@ -1,8 +1,8 @@
 -- The parts written from left to right are the house spelling.
 -- Assumes nothing.
 use Prim.Native.Nat.{ℕ, zero, suc}
-use mathlib.Core.Path.{◌≡◌, refl, sym, ◌∙◌, ap}
-use mathlib.Core.Bool.{true, false, cond}
+use mathlib.Core.Path.{◌≡◌, refl, sym, ◌∙◌, ap, subst}
+use mathlib.Core.Bool.{Bool, true, false, cond}
 use mathlib.Core.List.{List, [], ◌∷◌, ◌++◌, append_assoc, append-nil}
 use native.Mathlib.Omega.{arith}
 use lib.Dec.{eqb, ltb}
@@ -32,8 +32,9 @@ group_leads : (x : List ℕ) (xs : List (List ℕ)) (after : List ℕ) →
 unfolding group_text leads shown lead_byte close_byte
 group_leads x [] after = sym (ap (λ (t : List ℕ). t ++ after) (append-nil x))
 group_leads x (y ∷ xs) after =
-    let e : ltb 1 (suc (suc (length xs))) ≡ true = lt-ltb 1 (suc (suc (length xs))) (omega arith) in
-    rw e (ap (λ (t : List ℕ). 40 ∷ t) (ap (λ (t : List ℕ). x ++ t) (bars_leads (y ∷ xs) after) ∙ sym (append_assoc x (leads true true (y ∷ xs)) (41 ∷ after))))
+    let e : ltb 1 (suc (length (y ∷ xs))) ≡ true = lt-ltb 1 (suc (length (y ∷ xs))) (omega arith) in
+    subst (λ (b : Bool). group_text (x ∷ y ∷ xs) after ≡ leads b false (x ∷ y ∷ xs) ++ (shown (close_byte b) ++ after)) (sym e)
+    (ap (λ (t : List ℕ). 40 ∷ t) (ap (λ (t : List ℕ). x ++ t) (bars_leads (y ∷ xs) after) ∙ sym (append_assoc x (leads true true (y ∷ xs)) (41 ∷ after))))
 
 mark_shown : (m : ℕ) (after : List ℕ) → mark_text m after ≡ shown (mode_byte m) ++ after
 unfolding mark_text shown mode_byte mark_byte

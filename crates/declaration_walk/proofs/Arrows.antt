@@ -142,6 +142,7 @@ module _ (t : Token) (ts : List Token) (r : State) where
       by_one : Taken (by_word r) t ts → (word_kind ≤ token_kind t) × (token_kind t ≤ empty_kind) × (walk r ts ≡ true)
       by_one (inl (k, q)) = (omega arith, omega arith, q)
       by_one (inr (inl (k, q))) = (omega arith, omega arith, q)
+      by_one (inr (inr x'')) = elim x'' [ ]
 
       go : (word_kind ≤ token_kind t) × (token_kind t ≤ empty_kind) × (walk r ts ≡ true) → (x : List ℕ) × (t ≡ word x) × (is_plain x ≡ true) × (walk r ts ≡ true)
       go (l, h, q) = let (x, e) = word_is t l (omega arith) in (x, e, ap (passes is_plain) (sym e) ∙ kind_plain t (λ k. omega arith), q)
@@ -150,6 +151,7 @@ module _ (t : Token) (ts : List Token) (r : State) where
   mark_taken (inl (k, q)) = let w = mark_is t (omega arith) in (w.0, w.1, w.2, q)
   mark_taken (inr (inl (k, q))) = let w = mark_is t (omega arith) in (w.0, w.1, w.2, q)
   mark_taken (inr (inr (inl (k, q)))) = let w = mark_is t (omega arith) in (w.0, w.1, w.2, q)
+  mark_taken (inr (inr (inr x3))) = elim x3 [ ]
 
 pub lpar_is : (t : Token) → token_kind t ≡ lpar_kind → t ≡ lpar
 lpar_is t e = sign_is t lpar_kind e (omega arith) (omega arith)

@@ -230,6 +230,17 @@ back text_name t ts ih (inl (k, q)) = swap text_name t rpar ts (rpar_is t k) (rp
 back text_name t ts ih (inr (inl (k, q))) = swap text_name t bar ts (bar_is t k) (let (x, xs, e) = bar_starred ts (ih text_bar q) in (x ∷ xs, e))
 back before_star t ts ih (inl (k, q)) = swap before_star t (mark 2) ts (star_is t k) (ap (cons (mark 2)) (ih before_end q))
 back before_end t ts ih (inl (k, q)) = swap before_end t end ts (end_is t k) (ap (cons end) (ih behind_end q))
+back before_model t ts ih (inr (inr h)) = elim h [ ]
+back whole_name t ts ih (inr (inr h)) = elim h [ ]
+back group_name t ts ih (inr (inr h)) = elim h [ ]
+back behind_mark t ts ih (inr (inr h)) = elim h [ ]
+back behind_text t ts ih (inr (inr h)) = elim h [ ]
+back text_alone t ts ih (inr (inr h)) = elim h [ ]
+back text_name t ts ih (inr (inr h)) = elim h [ ]
+back before_star t ts ih (inr h) = elim h [ ]
+back before_end t ts ih (inr h) = elim h [ ]
+back behind_end t ts ih h = elim h [ ]
+back nowhere t ts ih h = elim h [ ]
 
 -- the walk ends in one state alone
 ends : (s : State) → walk s [] ≡ true → Left s []

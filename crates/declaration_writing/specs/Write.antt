@@ -1,5 +1,5 @@
 -- A means: what the call that writes a declaration answers: 1 to 7, 16, 17, 8, 10, 12, in this order, else the
--- declaration. `write_refusals`, `write-Kept` and `write_done` in crates/demands/proofs/Demands.antt say what that is.
+-- declaration. `write_refusals`, `write_kept` and `write_done` in crates/demands/proofs/Demands.antt say what that is.
 -- Assumes nothing.
 use Rattle.std.specs.Prelude.{ℕ, ◌≡◌, not, List, [], ltb, length}
 use Rattle.refusal.specs.declared.Refusal.TheVariants.{BadParent, NotAModel, BufferTooShort}
@@ -14,7 +14,7 @@ use Rattle.declaration_spelling.specs.House.{declaration}
 use Rattle.declaration_writing.specs.declared.Written.{Written}
 use Rattle.byte_buffer.specs.Put.{wrote}
 
--- "12: shorter than the declaration", or than the whole DTD, for a buffer of so many bytes.
+-- "12: shorter than the declaration", or than the whole DTD or the rows of a table, for a buffer of so many bytes.
 unfoldable pub fitted : ℕ → List ℕ → Answer (List ℕ)
 fitted room text = refuse_if (ltb room (length text)) BufferTooShort (given text)
 

@@ -1,4 +1,6 @@
 // Writing one declaration into a borrowed buffer.
+#![tactic(auto)]
+
 ghost use Rattle.std.specs.Prelude.{◌≡◌, ◌<◌, length};
 ghost use Rattle.refusal.specs.Answer.{refused};
 ghost use Rattle.nameset.specs.Places.{places};
@@ -18,7 +20,7 @@ use refusal::{Outcome, Refusal};
 const LONGEST: usize = 2253;
 
 // How a call that writes ended, and how many bytes it wrote: none where it was refused.
-#[derive(Drop)]
+#[derive(Clone, Copy)]
 pub struct Written {
     pub outcome: Outcome,
     pub length: usize,

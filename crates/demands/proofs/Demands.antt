@@ -1,22 +1,25 @@
--- The three demands, over the seven calls open to the outside, the same calls for C, and the program; then requests U2,
--- U4, U5 and U6 of paper 02. Each statement begins with `pub`; what follows, from `unfolding` or the repeated name on,
+-- The three demands, over the calls open to the outside, the same calls for C, and the program; then requests U2, U4,
+-- U5, U6 and U7 of paper 02. Each statement begins with `pub`; what follows, from `unfolding` or the repeated name on,
 -- is its proof: skip it. Quotes are from the demands, which call paper 01 "document 01", and from the papers.
--- In a quarter of an hour: `no_better_model` with specs/Results, the names that end in `-refusals` with
--- specs/Conditions, those that end in `-kept`, then demand 2. The part for C repeats them for replies in C.
+-- In a quarter of an hour: `no_better_model` with specs/Results, the names that end in `_refusals`, and
+-- `document_exactly`, with specs/Conditions, those that end in `_kept`, then demand 2. The part for C repeats them for
+-- replies in C.
 -- A theorem about an answer assumes one thing of it, `call`: the answer is as the call's contract (`ensures`) promises.
 -- The prover has shown that of every answer.
 -- The definitions in crates/demands/specs are to be believed, with those that they cite; docs/TRUST.md has the list.
 -- k = 0 means not refused; `outcome_number r.outcome` is the number k of an answer r.
 -- Assumes nothing.
-use Prim.Native.Nat.{ℕ, ◌≤◌, ◌<◌}
+use Prim.Native.Nat.{ℕ, ◌*◌, ◌%◌, ◌≤◌, ◌<◌}
 use mathlib.Core.Path.{◌≡◌, refl, sym, ◌∙◌, ap, ap₂, subst}
 use mathlib.Core.Bool.{Bool, true, false}
 use mathlib.Core.List.{List, [], ◌∷◌, ◌++◌, Memᴰ, map}
 use mathlib.Core.Logic.{◌↔◌, ◌⊎◌}
 use native.Mathlib.Omega.{arith}
 use lib.ListN.{length, take}
-use Rattle.refusal.specs.Answer.{given, value_or, outcome_number}
-use Rattle.refusal.proofs.Laws.{refused_by}
+use Rattle.refusal.specs.declared.Outcome.{Outcome}
+use Rattle.refusal.specs.declared.Acceptance.{Acceptance}
+use Rattle.refusal.specs.Answer.{given, value_or, outcome_number, answer_number, acceptance_number, acceptance_yes}
+use Rattle.refusal.proofs.Laws.{refused_by, done_by}
 use Rattle.refusal.proofs.Answers.{outcome_refused}
 use Rattle.nameset.specs.Places.{places}
 use Rattle.book.specs.Field.{Field}
@@ -34,6 +37,7 @@ use Rattle.model.specs.declared.Chain.{Chain}
 use Rattle.model.specs.declared.Model.{Model}
 use Rattle.model.specs.Record.{factor_of, mode_of, IsChain, model_with, IsModel, empty_model, due_model}
 use Rattle.model.specs.Accept.{Accepts, Names}
+use Rattle.model_table.specs.Table.{lacks, has, row_size, entry_of}
 use Rattle.model_language.specs.Word.{Point, name, end, Fact, AcceptsAll}
 use Rattle.model_language.specs.Reach.{Reach}
 use Rattle.model_inclusion.specs.Inclusion.{Within, Counterexample, longest_counterexample}
@@ -63,10 +67,17 @@ use Rattle.declaration_writing.specs.Write.{written, WritesDeclaration}
 use Rattle.declaration_record.specs.declared.Declaration.{Declaration}
 use Rattle.declaration_reading.specs.Read.{Reads, ReadsDeclaration}
 use Rattle.declaration_reading.proofs.Theorem as Reading
-use Rattle.intake_word.specs.declared.Acceptance.{Acceptance}
+use Rattle.document.specs.Tree.{Tree, document_of, Admitted}
+use Rattle.document.specs.Fault.{Open, unbegun, Leads}
+use Rattle.document.specs.Walk.{walk, start}
+use Rattle.document.specs.Examples.{example_entries, examples}
+use Rattle.document.proofs.Unique.{tree_same}
+use Rattle.document.proofs.Beginning.{beginning}
+use Rattle.document.proofs.Examples.{answered}
+use Rattle.intake_document.specs.Document.{document_answer, AcceptsDocument}
 use Rattle.intake_within.specs.declared.Inclusion.{Inclusion}
 use Rattle.intake_sample.specs.declared.Inferred.{Inferred}
-use Rattle.intake_word.specs.Acceptance.{acceptance_number, acceptance_yes, Passes, AcceptsWord}
+use Rattle.intake_word.specs.Acceptance.{Passes, AcceptsWord}
 use Rattle.intake_within.specs.Comparison.{inclusion_number, inclusion_yes, inclusion_length, PassesBoth, ComparesModels}
 use Rattle.intake_sample.specs.Inference.{sample_of, text_of, parent_model, model_answer, inferred, InfersModel}
 use Rattle.intake_sample.specs.Writing.{WritesSample}
@@ -77,6 +88,9 @@ use Rattle.intake_sample.proofs.NoBetterModel as Model3
 use Rattle.dtd_lines.specs.Lines.{fact_lines, table_facts}
 use Rattle.intake_dtd.specs.Dtd.{line_of, dtd_of, facts_of, WritesDtd}
 use Rattle.intake_dtd.proofs.Agree.{dtd_by_facts}
+use Rattle.intake_models.specs.Putting.{PutsModel}
+use Rattle.intake_models.specs.Filling.{models_of, WritesModels}
+use Rattle.intake_models.proofs.Theorem as Tables
 use Rattle.dtd_output.specs.Output.{output_of}
 use Rattle.demands_samples.specs.Samples.{lines, text_lines, line_declaration, printed_declaration}
 use Rattle.demands_samples.proofs.Samples.{marked, with_text_lem}
@@ -86,9 +100,9 @@ use Rattle.curlewsong_reply.specs.declared.InclusionReply.{InclusionReply}
 use Rattle.curlewsong_reply.specs.declared.LengthReply.{LengthReply}
 use Rattle.curlewsong_reply.specs.declared.TextReply.{TextReply}
 use Rattle.curlewsong_reply.specs.Reply.{model_reply, verdict, inclusion_reply, length_reply, text_reply}
-use Rattle.curlewsong.specs.Replies.{RepliesModel, RepliesWord, RepliesWithin, RepliesWritten, RepliesSample, RepliesDtd, RepliesText}
-use Rattle.demands.specs.Conditions.{BookConditions, WordConditions, WithinConditions, ModelConditions, WriteConditions, SampleConditions, DtdConditions, ReadConditions, ProgramConditions}
-use Rattle.demands.specs.Results.{Wrote, Asked, Minimal}
+use Rattle.curlewsong.specs.Replies.{RepliesModel, RepliesWord, RepliesDocument, RepliesWithin, RepliesWritten, RepliesSample, RepliesDtd, RepliesText, RepliesPut, RepliesModels}
+use Rattle.demands.specs.Conditions.{BookConditions, WordConditions, WithinConditions, ModelConditions, WriteConditions, SampleConditions, DtdConditions, ReadConditions, ProgramConditions, DocumentConditions, PutConditions, FillConditions}
+use Rattle.demands.specs.Results.{Wrote, HasPut, Asked, Minimal}
 use Rattle.demands.proofs.Refusals as Law
 use Rattle.demands.proofs.Texts as Text
 use Rattle.demands.proofs.SoFar as So
@@ -509,6 +523,84 @@ no_block_is_17 bytes k conditions b read none = unused_is_17 bytes k conditions 
 pub used_or_not : (b : Book) (i : ℕ) → i < length b.names → (Used b.blocks i × (¬ Unused b i)) ⊎ (Unused b i × (¬ Used b.blocks i))
 used_or_not = used_or_unused
 
+-- ==== paper 02, request U7
+
+-- The verdict on a document. `DocumentConditions` of specs/Conditions has the exact condition of every answer: of each
+-- refusal, of yes and of no. A refused call answers no (`word_kept`, which is about every yes or no).
+pub document_exactly : (n : ℕ) (table w : List ℕ) (r : Acceptance) (call : AcceptsDocument n table w r) →
+    DocumentConditions n table w (acceptance_number r) (acceptance_yes r)
+document_exactly n table w r call =
+    subst (λ (k : ℕ). DocumentConditions n table w k (acceptance_yes r)) (sym call.number)
+    (subst (λ (y : Bool). DocumentConditions n table w (answer_number (document_answer n table w)) y) (sym call.yes) (Law.document_conditions n table w))
+
+-- A document is that of one tree.
+pub one_tree : (one other : Tree) → document_of one ≡ document_of other → one ≡ other
+one_tree = tree_same
+
+-- Pairs p have no fault exactly where they begin the document of some tree over n names that is not too deep. So the
+-- first fault is at the first pair with which no such tree is left.
+pub no_fault : (n : ℕ) → 0 < n → (p : List ℕ) → length p % 2 ≡ 0 →
+    ((q : Open) × Leads n unbegun p q) ↔ ((t : Tree) × (more : List ℕ) × Admitted n t × (p ++ more ≡ document_of t))
+no_fault = beginning
+
+-- Some documents with their answers, past the checks of the length, of the names and of the models.
+pub document_examples : map (λ e. walk 4 example_entries start e.pairs) examples ≡ map (λ e. e.answer) examples
+document_examples = answered
+
+-- A model put into a table: its refusals; a refused call changes nothing; else the table has the model (specs/Results).
+pub put_refusals : (n parent : ℕ) (m : Model) (r : Outcome) (before after : List ℕ) (call : PutsModel n parent m r before after) →
+    PutConditions n parent m (length before) (outcome_number r)
+put_refusals n parent m r before after call =
+    subst (PutConditions n parent m (length before)) (sym (ap outcome_number call.0)) (Law.put_conditions n parent m before)
+
+pub put_kept : (n parent : ℕ) (m : Model) (r : Outcome) (before after : List ℕ) (call : PutsModel n parent m r before after) →
+    0 < outcome_number r → after ≡ before
+put_kept n parent m r before after call l = let (f, e) = refused_by r l in Tables.put_kept n parent m r before after call f e
+
+pub put_done : (n parent : ℕ) (m : Model) (r : Outcome) (before after : List ℕ) (call : PutsModel n parent m r before after) →
+    outcome_number r ≡ 0 → HasPut parent m before after
+put_done n parent m r before after call z =
+    let d = done_by r z in
+    record {
+      row = Tables.put_row_lem n parent m r before after call d;
+      own = Tables.put_entry n parent m r before after call d;
+      others = Tables.put_others n parent m r before after call d;
+      size = Tables.put_length n parent m r before after call d;
+      bytes = Tables.put_bytes n parent m r before after call d;
+    }
+
+-- A table filled from the samples of a book: its refusals; a refused call changes nothing; else the rows of all names
+-- are at the front, 131 bytes for each, and the table has for each name x with a block the model that the call for x
+-- answers (y), and none for the others.
+pub fill_refusals : (bytes : List ℕ) (w : Written) (before after : List ℕ) (call : WritesModels bytes w before after) →
+    FillConditions bytes (length before) (outcome_number w.outcome)
+unfolding written
+fill_refusals bytes w before after call = subst (FillConditions bytes (length before))
+    (sym (ap (λ (x : Written). outcome_number x.outcome) call.0)) (Law.fill_conditions bytes (length before))
+
+pub fill_kept : (bytes : List ℕ) (w : Written) (before after : List ℕ) (call : WritesModels bytes w before after) →
+    0 < outcome_number w.outcome → (w.length ≡ 0) × (after ≡ before)
+fill_kept bytes w before after call = Text.writes_kept _ w before after call
+
+pub fill_done : (bytes : List ℕ) (w : Written) (before after : List ℕ) (call : WritesModels bytes w before after) →
+    outcome_number w.outcome ≡ 0 → (b : Book) × TakenAs bytes b × Wrote (models_of b) w.length before after
+fill_done = Text.fill_done
+
+pub fill_length : (bytes : List ℕ) (w : Written) (before after : List ℕ) (call : WritesModels bytes w before after) →
+    outcome_number w.outcome ≡ 0 → (b : Book) → TakenAs bytes b → w.length ≡ length b.names * row_size
+fill_length bytes w before after call z = Tables.fill_length bytes w before after call (done_by w.outcome z)
+
+pub fill_entry : (bytes : List ℕ) (w : Written) (before after : List ℕ) (call : WritesModels bytes w before after) →
+    outcome_number w.outcome ≡ 0 → (b : Book) → TakenAs bytes b → (x : ℕ) → x < length b.names →
+    ((y : Inferred) → Asked bytes x y b → entry_of after x ≡ has y.model) × (sample_of b x ≡ [] → entry_of after x ≡ lacks)
+unfolding parent_model
+fill_entry bytes w before after call z b taken x below =
+    let d = done_by w.outcome z in (
+      λ y a. Tables.fill_entry bytes w before after call d b taken x a.block
+          ∙ ap has (Model3.model_is bytes x y a.call b a.read a.block),
+      Tables.fill_lacks bytes w before after call d b taken x below,
+    )
+
 -- ==== the calls for C and Rust
 
 -- Each of these makes the call in Rattle and passes on its answer as a struct r of C. Stated of r, one after another:
@@ -521,6 +613,13 @@ unfolding verdict
 c_word n m w r (x, call, e) =
     subst (λ (v : Verdict). WordConditions n m w v.refusal × (0 < v.refusal → v.yes ≡ false) × ((v.yes ≡ true) ↔ (Passes n m w × Accepts m.chain w))) (sym e)
     (word_refusals n m w x call, word_kept x, accepted_exactly n m w x call)
+
+pub c_document : (n : ℕ) (table w : List ℕ) (r : Verdict) (call : RepliesDocument n table w r) →
+    DocumentConditions n table w r.refusal r.yes × (0 < r.refusal → r.yes ≡ false)
+unfolding verdict
+c_document n table w r (x, call, e) =
+    subst (λ (v : Verdict). DocumentConditions n table w v.refusal v.yes × (0 < v.refusal → v.yes ≡ false)) (sym e)
+    (document_exactly n table w x call, word_kept x)
 
 pub c_within : (n : ℕ) (first second : Model) (r : InclusionReply) (before after : List ℕ)
     (call : RepliesWithin n first second r before after) →
@@ -607,3 +706,23 @@ c_read bytes text r (x, call, e) =
     ((p : ℕ) (m : Model) → ((v.refusal ≡ 0) × (v.parent ≡ p) × (v.model ≡ m)) ↔
     ((b : Book) × TakenAs bytes b × Spelled places b.names text p m))) (sym e)
     (read_refusals bytes text x call, read_kept bytes text x call, λ p m. Text.read_number bytes text x call p m)
+
+-- (Of this one the reply is the number alone.)
+pub c_put : (n parent : ℕ) (m : Model) (k : ℕ) (before after : List ℕ) (call : RepliesPut n parent m k before after) →
+    PutConditions n parent m (length before) k × (0 < k → after ≡ before) × (k ≡ 0 → HasPut parent m before after)
+c_put n parent m k before after (x, call, e) =
+    subst (λ (v : ℕ). PutConditions n parent m (length before) v × (0 < v → after ≡ before) × (v ≡ 0 → HasPut parent m before after)) (sym e)
+    (put_refusals n parent m x before after call, put_kept n parent m x before after call, put_done n parent m x before after call)
+
+pub c_fill : (bytes : List ℕ) (r : LengthReply) (before after : List ℕ) (call : RepliesModels bytes r before after) →
+    FillConditions bytes (length before) r.refusal × (0 < r.refusal → (r.length ≡ 0) × (after ≡ before)) ×
+    (r.refusal ≡ 0 → (b : Book) × TakenAs bytes b × Wrote (models_of b) r.length before after) ×
+    (r.refusal ≡ 0 → (b : Book) → TakenAs bytes b → (x : ℕ) → x < length b.names →
+    ((y : Inferred) → Asked bytes x y b → entry_of after x ≡ has y.model) × (sample_of b x ≡ [] → entry_of after x ≡ lacks))
+unfolding length_reply
+c_fill bytes r before after (x, call, e) =
+    subst (λ (v : LengthReply). FillConditions bytes (length before) v.refusal × (0 < v.refusal → (v.length ≡ 0) × (after ≡ before)) ×
+    (v.refusal ≡ 0 → (b : Book) × TakenAs bytes b × Wrote (models_of b) v.length before after) ×
+    (v.refusal ≡ 0 → (b : Book) → TakenAs bytes b → (x : ℕ) → x < length b.names →
+    ((y : Inferred) → Asked bytes x y b → entry_of after x ≡ has y.model) × (sample_of b x ≡ [] → entry_of after x ≡ lacks))) (sym e)
+    (fill_refusals bytes x before after call, fill_kept bytes x before after call, fill_done bytes x before after call, fill_entry bytes x before after call)

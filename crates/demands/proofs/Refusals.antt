@@ -1,19 +1,19 @@
 -- Demand 1: each refusal is given for its condition and for no other, by the definition of each call's answer.
 -- Demands.antt says it of the calls.
 -- Assumes nothing.
-use Prim.Native.Nat.{ℕ, ◌≤◌, ◌<◌}
+use Prim.Native.Nat.{ℕ, ◌+◌, ◌*◌, ◌≤◌, ◌<◌}
 use mathlib.Core.Path.{◌≡◌, refl, sym, ◌∙◌, ap, subst}
 use mathlib.Core.Bool.{Bool, true, false, not, false≢true}
 use mathlib.Core.List.{List, []}
 use mathlib.Core.Logic.{◌↔◌, ◌⊎◌, inl, inr, ⊎_elim}
-use lib.Dec.{eqb, ltb}
+use lib.Dec.{eqb, ltb, leb}
 use lib.ListN.{length}
-use borrow.Author.Tests.{lt-ltb, le-ltb, ltb-true, ltb-false, not-true, not-false}
+use borrow.Author.Tests.{lt-ltb, le-ltb, ltb-true, ltb-false, le-leb, lt-leb, leb-true, leb-false, not-true, not-false}
 use Rattle.refusal.specs.declared.Refusal.{Refusal}
-use Rattle.refusal.specs.declared.Refusal.TheVariants.{BookTooLong, BytesMissing, BadNameCount, BadName, NameNotAbove, NumberNotBelow, BytesLeftOver, BadParent, NoBlock, NotAModel, BadWord, BufferTooShort, NotADeclaration, UnknownName, NameTwice, BadText, UnusedName}
+use Rattle.refusal.specs.declared.Refusal.TheVariants.{BookTooLong, BytesMissing, BadNameCount, BadName, NameNotAbove, NumberNotBelow, BytesLeftOver, BadParent, NoBlock, NotAModel, BadWord, BufferTooShort, NotADeclaration, UnknownName, NameTwice, BadText, UnusedName, BadDocument, TooDeep}
 use Rattle.refusal.specs.Table.{number_of, of_book}
-use Rattle.refusal.specs.Answer.{Answer, given, refused, onward, refuse_if, answer_number}
-use Rattle.refusal.proofs.Answers.{given_refused, check_law, number_refused}
+use Rattle.refusal.specs.Answer.{Answer, given, refused, onward, refuse_if, answer_number, yes_due}
+use Rattle.refusal.proofs.Answers.{given_same, given_refused, check_law, number_refused, number_given}
 use Rattle.refusal.proofs.Checks.{other, own_check, next_check, pass_check, last_check, avoids, own, own_or_next, row, row_0, number_only}
 use Rattle.nameset.specs.Places.{places, good_count}
 use Rattle.nameset.proofs.Count.{count_bounds, bounds_count, count_bad}
@@ -28,6 +28,8 @@ use Rattle.model.specs.Check.{is_model}
 use Rattle.model.specs.Accept.{Names}
 use Rattle.model.specs.Run.{accepts}
 use Rattle.model.proofs.ModelLaw.{model_law}
+use Rattle.byte_buffer.specs.Put.{wrote}
+use Rattle.model_table.specs.Table.{row_size, model_row}
 use Rattle.declaration_spelling.specs.House.{declaration}
 use Rattle.declaration_spelling.specs.Spelled.{Spelled}
 use Rattle.declaration_spelling.specs.Read.{Declared, declared}
@@ -39,6 +41,8 @@ use Rattle.declaration_reading.specs.Read.{read_answer}
 use Rattle.declaration_reading.proofs.Theorem as Reading
 use Rattle.intake_word.specs.Acceptance.{bad_model, longest_word, bad_word, answer_of, Passes}
 use Rattle.intake_word.proofs.Theorem.{good_word, word_good, bad_word_lem}
+use Rattle.intake_document.specs.Document.{document_answer}
+use Rattle.intake_document.proofs.Theorem as Document
 use Rattle.model_inclusion.specs.Inclusion.{longest_counterexample}
 use Rattle.model_inclusion.specs.Search.{within}
 use Rattle.intake_within.specs.Comparison.{comparison_of, PassesBoth}
@@ -46,9 +50,12 @@ use Rattle.intake_sample.specs.Inference.{sample_of, no_word, parent_model, mode
 use Rattle.intake_sample.specs.Writing.{sample_text}
 use Rattle.intake_sample.proofs.Samples.{no_word_lem, some_word_lem}
 use Rattle.intake_dtd.specs.Dtd.{dtd_of, dtd_answer}
+use Rattle.intake_models.specs.Putting.{put_answer}
+use Rattle.intake_models.specs.Filling.{models_of, models_answer}
+use Rattle.intake_models.proofs.Theorem.{rows_length_lem}
 use Rattle.dtd_output.specs.Output.{output_of}
 use Rattle.dtd_output.proofs.Printed.{printed_refused}
-use Rattle.demands.specs.Conditions.{OfBook, InRange, BookConditions, WordConditions, WithinConditions, ModelConditions, WriteConditions, sample_declaration, SampleConditions, DtdConditions, ReadConditions, ProgramConditions}
+use Rattle.demands.specs.Conditions.{OfBook, InRange, BookConditions, WordConditions, WithinConditions, ModelConditions, WriteConditions, sample_declaration, SampleConditions, DtdConditions, ReadConditions, ProgramConditions, DocumentConditions, PutConditions, FillConditions}
 
 -- ---- what the tests mean
 
@@ -365,17 +372,151 @@ sample_conditions bytes parent room =
 
 -- ---- the whole DTD written
 
+-- the conditions of a call that writes one text for a whole book
+record FittedRows (bytes : List ℕ) (room : ℕ) (text : Book → List ℕ) (k : ℕ) : Type 0 where
+  book : BookConditions bytes k
+  twelve : (k ≡ 12) ↔ ((b : Book) × TakenAs bytes b × (room < length (text b)))
+  none : (k ≡ 0) ↔ ((b : Book) × TakenAs bytes b × (length (text b) ≤ room))
+  no_other : (k ≡ 0) ⊎ (OfBook k ⊎ (k ≡ 12))
+
+fitted_rows : (bytes : List ℕ) (room : ℕ) (text : Book → List ℕ) → FittedRows bytes room text (answer_number (onward (taken_book bytes) (λ b. fitted room (text b))))
+fitted_rows bytes room text =
+    let next : Book → Answer (List ℕ) = λ b. fitted room (text b) in
+    let a = onward (taken_book bytes) next in
+    record {
+      book = book_rows bytes a (λ f l. book_first bytes next f l (λ b k e. subst (λ (r : Refusal). of_book r ≡ false) (fitted_only room (text b) f e) refl));
+      twelve = row a BufferTooShort (in_book bytes next (λ b. room < length (text b)) BufferTooShort refl (λ b. short_law room (text b)));
+      none = row_0 a (in_given bytes next (λ b. length (text b) ≤ room) (λ b q. fits_law room (text b)));
+      no_other = no_other (λ k. k ≡ 12) bytes next (λ b f e. ap number_of (sym (fitted_only room (text b) f e)));
+    }
+
 pub dtd_conditions : (bytes : List ℕ) (room : ℕ) → DtdConditions bytes room (answer_number (dtd_answer bytes room))
 unfolding dtd_answer
 dtd_conditions bytes room =
-    let a = dtd_answer bytes room in
-    let next : Book → Answer (List ℕ) = λ b. fitted room (dtd_of b) in
+    let h = fitted_rows bytes room dtd_of in
+    record { book = h.book; twelve = h.twelve; none = h.none; no_other = h.no_other }
+
+-- ---- a table of models filled
+
+pub fill_conditions : (bytes : List ℕ) (room : ℕ) → FillConditions bytes room (answer_number (models_answer bytes room))
+unfolding models_answer
+fill_conditions bytes room =
+    let h = fitted_rows bytes room models_of in
     record {
-      book = book_rows bytes a (λ f l. book_first bytes next f l (λ b k e. subst (λ (r : Refusal). of_book r ≡ false) (fitted_only room (dtd_of b) f e) refl));
-      twelve = row a BufferTooShort (in_book bytes next (λ b. room < length (dtd_of b)) BufferTooShort refl (λ b. short_law room (dtd_of b)));
-      none = row_0 a (in_given bytes next (λ b. length (dtd_of b) ≤ room) (λ b q. fits_law room (dtd_of b)));
-      no_other = no_other (λ k. k ≡ 12) bytes next (λ b f e. ap number_of (sym (fitted_only room (dtd_of b) f e)));
+      book = h.book;
+      twelve = (
+        λ k. let (b, t, l) = h.twelve.0 k in (b, t, subst (λ (size : ℕ). room < size) (rows_length_lem bytes b t) l),
+        λ (b, t, l). h.twelve.1 (b, t, subst (λ (size : ℕ). room < size) (sym (rows_length_lem bytes b t)) l),
+      );
+      none = (
+        λ k. let (b, t, l) = h.none.0 k in (b, t, subst (λ (size : ℕ). size ≤ room) (rows_length_lem bytes b t) l),
+        λ (b, t, l). h.none.1 (b, t, subst (λ (size : ℕ). size ≤ room) (sym (rows_length_lem bytes b t)) l),
+      );
+      no_other = h.no_other;
     }
+
+-- ---- a model put into a table of models
+
+module _ (n parent : ℕ) (m : Model) (table : List ℕ) where
+  put_only : (f : Refusal) → put_answer n parent m table ≡ refused f → (number_of f ≡ 3) ⊎ ((number_of f ≡ 8) ⊎ ((number_of f ≡ 10) ⊎ (number_of f ≡ 12)))
+  unfolding put_answer
+  put_only f e =
+      ⊎_elim (λ z. inl (ap number_of (sym z))) (λ h. inr (
+      ⊎_elim (λ z. inl (ap number_of (sym z))) (λ k. inr (
+      ⊎_elim (λ z. inl (ap number_of (sym z)))
+      (λ l. inr (ap number_of (sym (own (ltb (length table) (parent * row_size + row_size)) BufferTooShort _ f l))))
+      (own_or_next (not (is_model places n m)) NotAModel _ f k)))
+      (own_or_next (leb n parent) BadParent _ f h)))
+      (own_or_next (not (good_count n)) BadNameCount _ f e)
+
+  pub put_conditions : PutConditions n parent m (length table) (answer_number (put_answer n parent m table))
+  unfolding put_answer
+  put_conditions =
+      let t₁ = not (good_count n) in
+      let t₂ = leb n parent in
+      let t₃ = not (is_model places n m) in
+      let t₄ = ltb (length table) (parent * row_size + row_size) in
+      let a₄ = given (wrote table (parent * row_size) (model_row m)) in
+      let a₃ = refuse_if t₄ BufferTooShort a₄ in
+      let a₂ = refuse_if t₃ NotAModel a₃ in
+      let a₁ = refuse_if t₂ BadParent a₂ in
+      let a = refuse_if t₁ BadNameCount a₁ in
+      let count = turned_back (good_count n) (count_law n) in
+      let named : (leb n parent ≡ false) ↔ (parent < n) = (leb-false n parent, lt-leb n parent) in
+      record {
+        three =
+            row a BadNameCount
+            (own_check t₁ BadNameCount a₁ (turned (good_count n) (count_bad n))
+            (avoids t₂ BadParent a₂ BadNameCount (other BadParent BadNameCount refl)
+            (avoids t₃ NotAModel a₃ BadNameCount (other NotAModel BadNameCount refl)
+            (avoids t₄ BufferTooShort a₄ BadNameCount (other BufferTooShort BadNameCount refl) (given_refused _ _)))));
+        eight =
+            row a BadParent
+            (next_check t₁ BadNameCount a₁ BadParent (other BadNameCount BadParent refl) count
+            (own_check t₂ BadParent a₂ (leb-true n parent, le-leb n parent)
+            (avoids t₃ NotAModel a₃ BadParent (other NotAModel BadParent refl)
+            (avoids t₄ BufferTooShort a₄ BadParent (other BufferTooShort BadParent refl) (given_refused _ _)))));
+        ten =
+            row a NotAModel
+            (next_check t₁ BadNameCount a₁ NotAModel (other BadNameCount NotAModel refl) count
+            (next_check t₂ BadParent a₂ NotAModel (other BadParent NotAModel refl) named
+            (own_check t₃ NotAModel a₃ (no_model n m)
+            (avoids t₄ BufferTooShort a₄ NotAModel (other BufferTooShort NotAModel refl) (given_refused _ _)))));
+        twelve =
+            row a BufferTooShort
+            (next_check t₁ BadNameCount a₁ BufferTooShort (other BadNameCount BufferTooShort refl) count
+            (next_check t₂ BadParent a₂ BufferTooShort (other BadParent BufferTooShort refl) named
+            (next_check t₃ NotAModel a₃ BufferTooShort (other NotAModel BufferTooShort refl) (is_model_lem n m)
+            (own_check t₄ BufferTooShort a₄ (below_law (length table) (parent * row_size + row_size)) (given_refused _ _)))));
+        none =
+            row_0 a
+            (pass_check t₁ BadNameCount a₁ count
+            (pass_check t₂ BadParent a₂ named
+            (pass_check t₃ NotAModel a₃ (is_model_lem n m)
+            (last_check t₄ BufferTooShort _ (at_most_law (length table) (parent * row_size + row_size))))));
+        no_other = number_only (λ k. (k ≡ 0) ⊎ ((k ≡ 3) ⊎ ((k ≡ 8) ⊎ ((k ≡ 10) ⊎ (k ≡ 12))))) a (inl refl) (λ f e. inr (put_only f e));
+      }
+
+-- ---- the verdict on a document
+
+-- a yes, and a no of a call that was not refused
+yes_due_lem : (a : Answer Bool) → (yes_due a ≡ true) ↔ (a ≡ given true)
+yes_due_lem (given b) = (λ e. ap given e, λ e. given_same b true e)
+yes_due_lem (refused f) = (λ e. absurd (false≢true e), λ e. absurd (given_refused true f (sym e)))
+
+no_due : (a : Answer Bool) → ((answer_number a ≡ 0) × (yes_due a ≡ false)) ↔ (a ≡ given false)
+no_due a = (
+  λ (z, e). let (b, q) = (number_given a).0 z in q ∙ ap given (sym (ap yes_due q) ∙ e),
+  λ e. ((number_given a).1 (false, e), ap yes_due e),
+)
+
+joined : {A B C : Type 0} → A ↔ B → B ↔ C → A ↔ C
+joined f g = (λ a. g.0 (f.0 a), λ c. f.1 (g.1 c))
+
+pub document_conditions : (n : ℕ) (table w : List ℕ) → DocumentConditions n table w (answer_number (document_answer n table w)) (yes_due (document_answer n table w))
+document_conditions n table w =
+    let a = document_answer n table w in
+    record {
+      one = row a BookTooLong (Document.answer_long n table w);
+      three = row a BadNameCount (Document.answer_count n table w);
+      ten = row a NotAModel (Document.answer_model n table w);
+      eighteen = row a BadDocument (Document.answer_bad n table w);
+      nineteen = row a TooDeep (Document.answer_deep n table w);
+      yes = joined (yes_due_lem a) (Document.answer_yes n table w);
+      no = joined (no_due a) (Document.answer_no n table w);
+      none = row_0 a (Document.answer_given n table w);
+      no_other =
+          number_only (λ k. (k ≡ 0) ⊎ ((k ≡ 1) ⊎ ((k ≡ 3) ⊎ ((k ≡ 10) ⊎ ((k ≡ 18) ⊎ (k ≡ 19)))))) a (inl refl)
+          (λ f e. inr (numbers f (Document.answer_only n table w f e)));
+    }
+  where
+    numbers : (f : Refusal) → (f ≡ BookTooLong) ⊎ ((f ≡ BadNameCount) ⊎ ((f ≡ NotAModel) ⊎ ((f ≡ BadDocument) ⊎ (f ≡ TooDeep)))) →
+        (number_of f ≡ 1) ⊎ ((number_of f ≡ 3) ⊎ ((number_of f ≡ 10) ⊎ ((number_of f ≡ 18) ⊎ (number_of f ≡ 19))))
+    numbers f (inl e) = inl (ap number_of e)
+    numbers f (inr (inl e)) = inr (inl (ap number_of e))
+    numbers f (inr (inr (inl e))) = inr (inr (inl (ap number_of e)))
+    numbers f (inr (inr (inr (inl e)))) = inr (inr (inr (inl (ap number_of e))))
+    numbers f (inr (inr (inr (inr e)))) = inr (inr (inr (inr (ap number_of e))))
 
 -- ---- a declaration read
 

@@ -13,7 +13,9 @@ use lib.Seq.{drop-append_seam}
 use borrow.Author.Tests.{ltb-false}
 use Rattle.refusal.specs.declared.Refusal.TheVariants.{BufferTooShort}
 use Rattle.refusal.specs.declared.Outcome.TheVariants.{Done}
-use Rattle.refusal.specs.Answer.{Answer, given, onward, value_or, outcome_number}
+use Rattle.refusal.specs.declared.Acceptance.{Acceptance}
+use Rattle.refusal.specs.declared.Acceptance.TheVariants.{Yes, No, Refused as Stopped}
+use Rattle.refusal.specs.Answer.{Answer, given, onward, value_or, outcome_number, acceptance_number, acceptance_yes}
 use Rattle.refusal.proofs.Laws.{refused_by, done_by}
 use Rattle.refusal.proofs.Answers.{onward_given, check_given, given_same, outcome_refused, outcome_given}
 use Rattle.nameset.specs.Places.{places}
@@ -36,10 +38,7 @@ use Rattle.declaration_writing.proofs.Back.{Given, text_given, buffer_given, buf
 use Rattle.declaration_record.specs.declared.Declaration.{Declaration}
 use Rattle.declaration_reading.specs.Read.{Reads, ReadsDeclaration}
 use Rattle.declaration_reading.proofs.Theorem as Reading
-use Rattle.intake_word.specs.declared.Acceptance.{Acceptance}
-use Rattle.intake_word.specs.declared.Acceptance.TheVariants.{Yes, No, Refused as Stopped}
 use Rattle.intake_sample.specs.declared.Inferred.{Inferred}
-use Rattle.intake_word.specs.Acceptance.{acceptance_number, acceptance_yes}
 use Rattle.model_inclusion.specs.Inclusion.{Counterexample, longest_counterexample}
 use Rattle.intake_within.specs.declared.Inclusion.{Inclusion}
 use Rattle.intake_within.specs.Comparison.{inclusion_number, inclusion_yes, inclusion_length, ComparesModels}
@@ -49,6 +48,7 @@ use Rattle.intake_sample.specs.Writing.{sample_text, WritesSample}
 use Rattle.intake_sample.proofs.Writing.{model_given}
 use Rattle.intake_sample.proofs.NoBetterModel as Model3
 use Rattle.intake_dtd.specs.Dtd.{dtd_of, dtd_answer, WritesDtd}
+use Rattle.intake_models.specs.Filling.{models_of, models_answer, WritesModels}
 use Rattle.demands.specs.Results.{Wrote}
 
 -- ---- a yes or no
@@ -123,23 +123,35 @@ module _ (bytes : List ℕ) (parent : ℕ) (m : Model) (w : Written) (before aft
 
 -- ---- the whole DTD written
 
-pub dtd_done : (bytes : List ℕ) (w : Written) (before after : List ℕ) → WritesDtd bytes w before after → outcome_number w.outcome ≡ 0 →
-    (b : Book) × TakenAs bytes b × Wrote (dtd_of b) w.length before after
-unfolding dtd_answer fitted
-dtd_done bytes w before after call z =
+-- a call that writes one text for a whole book
+fitted_done : (bytes : List ℕ) (text : Book → List ℕ) (w : Written) (before after : List ℕ) →
+    Writes (onward (taken_book bytes) (λ b. fitted (length before) (text b))) w before after → outcome_number w.outcome ≡ 0 →
+    (b : Book) × TakenAs bytes b × Wrote (text b) w.length before after
+unfolding fitted
+fitted_done bytes text w before after call z =
     let (t, e) = writes_given _ w before after call (done_by w.outcome z) in
     let (b, taken, g) = onward_given (taken_book bytes) _ t e in
-    let (short, same) = check_given (ltb (length before) (length (dtd_of b))) BufferTooShort (given (dtd_of b)) t g in
-    let text : t ≡ dtd_of b = sym (given_same (dtd_of b) t same) in
-    let fits : length t ≤ length before = rw text (ltb-false (length before) (length (dtd_of b)) short) in (
+    let (short, same) = check_given (ltb (length before) (length (text b))) BufferTooShort (given (text b)) t g in
+    let own : t ≡ text b = sym (given_same (text b) t same) in
+    let fits : length t ≤ length before = rw own (ltb-false (length before) (length (text b)) short) in (
       b,
       taken,
       record {
-        size = writes_size _ w before after call t e ∙ ap length text;
-        front = writes_front _ w before after call t e fits ∙ text;
+        size = writes_size _ w before after call t e ∙ ap length own;
+        front = writes_front _ w before after call t e fits ∙ own;
         past = writes_past _ w before after call t e fits;
       },
     )
+
+pub dtd_done : (bytes : List ℕ) (w : Written) (before after : List ℕ) → WritesDtd bytes w before after → outcome_number w.outcome ≡ 0 →
+    (b : Book) × TakenAs bytes b × Wrote (dtd_of b) w.length before after
+unfolding dtd_answer
+dtd_done bytes = fitted_done bytes dtd_of
+
+pub fill_done : (bytes : List ℕ) (w : Written) (before after : List ℕ) → WritesModels bytes w before after → outcome_number w.outcome ≡ 0 →
+    (b : Book) × TakenAs bytes b × Wrote (models_of b) w.length before after
+unfolding models_answer
+fill_done bytes = fitted_done bytes models_of
 
 -- ---- a declaration written from the sample
 

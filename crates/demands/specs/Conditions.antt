@@ -2,10 +2,10 @@
 -- k is the number that the call answered, 0 where it was not refused. One record for each call. Each condition includes
 -- that no earlier one applies. `TakenAs bytes b`: the call takes the bytes as the book b (crates/book/specs/Taken.antt).
 -- Assumes nothing.
-use Rattle.std.specs.Prelude.{ℕ, ◌≤◌, ◌<◌, ◌≡◌, true, ◌↔◌, ◌⊎◌, length}
+use Rattle.std.specs.Prelude.{ℕ, ◌+◌, ◌*◌, ◌%◌, ◌≤◌, ◌<◌, ◌≡◌, Bool, true, false, ◌↔◌, ◌⊎◌, length}
 use mathlib.Core.List.{List, [], Memᴰ}
 use Rattle.refusal.specs.declared.Refusal.{Refusal}
-use Rattle.refusal.specs.declared.Refusal.TheVariants.{BookTooLong, BytesMissing, BadNameCount, BadName, NameNotAbove, NumberNotBelow, BytesLeftOver, BadText}
+use Rattle.refusal.specs.declared.Refusal.TheVariants.{BookTooLong, BytesMissing, BadNameCount, BadName, NameNotAbove, NumberNotBelow, BytesLeftOver, BadText, BadDocument, TooDeep}
 use Rattle.refusal.specs.Table.{number_of, of_book}
 use Rattle.nameset.specs.Places.{places, OutOfRange}
 use Rattle.book.specs.Book.{Book, IsBook}
@@ -14,11 +14,16 @@ use Rattle.book.specs.Taken.{TakenAs}
 use Rattle.book.specs.Stops.{Stops}
 use Rattle.model.specs.declared.Model.{Model}
 use Rattle.model.specs.Record.{IsModel}
+use Rattle.model_table.specs.Table.{row_size, entry_of}
+use Rattle.model_table_check.specs.Check.{BadRecord}
+use Rattle.document.specs.Tree.{Tree, IsDocument, Valid}
+use Rattle.document.specs.Fault.{unbegun, FirstFault}
 use Rattle.declaration_spelling.specs.House.{declaration}
 use Rattle.declaration_spelling.specs.Spelled.{Spelled}
 use Rattle.declaration_spelling.specs.Stops.{Form, model_names, form_names, Twice, HasForm}
 use Rattle.model_inclusion.specs.Inclusion.{longest_counterexample}
 use Rattle.intake_word.specs.Acceptance.{longest_word, Passes}
+use Rattle.intake_document.specs.Document.{longest_document, Ready}
 use Rattle.intake_within.specs.Comparison.{PassesBoth}
 use Rattle.intake_sample.specs.Inference.{sample_of, parent_model}
 use Rattle.intake_dtd.specs.Dtd.{dtd_of}
@@ -64,6 +69,38 @@ pub record WordConditions (n : ℕ) (m : Model) (w : List ℕ) (k : ℕ) : Type 
   pub eleven : (k ≡ 11) ↔ (InRange n × (IsModel places n m × ((longest_word < length w) ⊎ ((x : ℕ) × Memᴰ x w × (n ≤ x)))))
   pub none : (k ≡ 0) ↔ Passes n m w
   pub no_other : (k ≡ 0) ⊎ ((k ≡ 3) ⊎ ((k ≡ 10) ⊎ (k ≡ 11)))
+
+-- The verdict on the document w, by a table of models for n names (request U7 of paper 02). y is the yes or no that the
+-- call answered. `Ready`: none of 1, 3 and 10 applies. `FirstFault n unbegun w f`: the pairs w have a fault, and the
+-- first one is refused with f. `IsDocument n t w`: w are the pairs of the tree t.
+pub record DocumentConditions (n : ℕ) (table w : List ℕ) (k : ℕ) (y : Bool) : Type 0 where
+  -- "Length above 60,000 bytes is 1, and comes first;"
+  pub one : (k ≡ 1) ↔ (longest_document < length w)
+  -- "3,"
+  pub three : (k ≡ 3) ↔ ((length w ≤ longest_document) × OutOfRange n)
+  -- "then 10 by rising name, follow." It is one number for all names, so it does not tell which one was seen first.
+  pub ten : (k ≡ 10) ↔ ((length w ≤ longest_document) × (InRange n × BadRecord n table))
+  -- "18, an odd length", which "is seen before any pair", or a fault of a pair, or at the end
+  pub eighteen : (k ≡ 18) ↔ (Ready n table w × ((length w % 2 ≡ 1) ⊎ ((length w % 2 ≡ 0) × FirstFault n unbegun w BadDocument)))
+  -- "19, an open that would make depth 33"
+  pub nineteen : (k ≡ 19) ↔ (Ready n table w × ((length w % 2 ≡ 0) × FirstFault n unbegun w TooDeep))
+  -- "The verdict is yes exactly when every element has a model, its children in order are a word of it, and text stands
+  -- only where it is allowed."
+  pub yes : (y ≡ true) ↔ (Ready n table w × ((t : Tree) × IsDocument n t w × Valid (entry_of table) t))
+  -- no, of a call that was not refused
+  pub no : ((k ≡ 0) × (y ≡ false)) ↔ (Ready n table w × ((t : Tree) × IsDocument n t w × (¬ Valid (entry_of table) t)))
+  pub none : (k ≡ 0) ↔ (Ready n table w × ((t : Tree) × IsDocument n t w))
+  pub no_other : (k ≡ 0) ⊎ ((k ≡ 1) ⊎ ((k ≡ 3) ⊎ ((k ≡ 10) ⊎ ((k ≡ 18) ⊎ (k ≡ 19)))))
+
+-- A model put into a table of models of `room` bytes, for a parent among so many names (`count`).
+pub record PutConditions (count parent : ℕ) (m : Model) (room : ℕ) (k : ℕ) : Type 0 where
+  pub three : (k ≡ 3) ↔ OutOfRange count
+  pub eight : (k ≡ 8) ↔ (InRange count × (count ≤ parent))
+  pub ten : (k ≡ 10) ↔ (InRange count × ((parent < count) × (¬ IsModel places count m)))
+  -- too short for the parent's row
+  pub twelve : (k ≡ 12) ↔ (InRange count × ((parent < count) × (IsModel places count m × (room < parent * row_size + row_size))))
+  pub none : (k ≡ 0) ↔ (InRange count × ((parent < count) × (IsModel places count m × (parent * row_size + row_size ≤ room))))
+  pub no_other : (k ≡ 0) ⊎ ((k ≡ 3) ⊎ ((k ≡ 8) ⊎ ((k ≡ 10) ⊎ (k ≡ 12))))
 
 -- The comparison of two models over so many names (`count`), with a buffer of `room` places (request U4 of paper 02).
 pub record WithinConditions (count : ℕ) (first second : Model) (room : ℕ) (k : ℕ) : Type 0 where
@@ -119,6 +156,14 @@ pub record DtdConditions (bytes : List ℕ) (room : ℕ) (k : ℕ) : Type 0 wher
   -- shorter than the whole text
   pub twelve : (k ≡ 12) ↔ ((b : Book) × TakenAs bytes b × (room < length (dtd_of b)))
   pub none : (k ≡ 0) ↔ ((b : Book) × TakenAs bytes b × (length (dtd_of b) ≤ room))
+  pub no_other : (k ≡ 0) ⊎ (OfBook k ⊎ (k ≡ 12))
+
+-- A table of models of `room` bytes filled from the samples of a book.
+pub record FillConditions (bytes : List ℕ) (room : ℕ) (k : ℕ) : Type 0 where
+  pub book : BookConditions bytes k
+  -- shorter than the rows of all names
+  pub twelve : (k ≡ 12) ↔ ((b : Book) × TakenAs bytes b × (room < length b.names * row_size))
+  pub none : (k ≡ 0) ↔ ((b : Book) × TakenAs bytes b × (length b.names * row_size ≤ room))
   pub no_other : (k ≡ 0) ⊎ (OfBook k ⊎ (k ≡ 12))
 
 -- A declaration read. d lists what the text spells: the parent's name, whether the model has text,

@@ -27,6 +27,15 @@ use Rattle.byte_buffer.proofs.Puts.{Left, left_start, left_is, left_put, left_ro
 use Rattle.declaration_text.proofs.Whole.{declaration_short}
 use Rattle.dtd_lines.specs.Lines.{fact_line, row_facts, longest_line}
 
+-- facts of a row that show a word give a model
+pub shown_model : (n : ℕ) → n ≤ places → (row : List ℕ) → OfWords n row → show_word places (row_facts n row).follow ≡ true →
+    (m : Model) → m ≡ model_of places (row_facts n row).follow (row_facts n row).text → IsModel places n m
+unfolding row_facts
+shown_model n few row kept some m made =
+    let words : ¬ (kept.words ≡ []) = λ e. both_ways _ some ((shows_is n row few kept).1 e) in
+    subst (IsModel places n) (sym (made ∙ model_is n row few kept (text_in row)))
+    (words_model n few kept.words (over_in n kept.words kept.over) words (text_in row))
+
 module _ (s : List ℕ) (l : Layout) (laid : LaidOut s l) (p : ℕ) (below : p < l.names) (row : List ℕ) (kept : OfWords l.names row) where
   -- facts that show no word
   no_line : show_word places (row_facts l.names row).follow ≡ false → fact_line (names_in s) p (row_facts l.names row) ≡ []
@@ -40,12 +49,7 @@ module _ (s : List ℕ) (l : Layout) (laid : LaidOut s l) (p : ℕ) (below : p <
   module _ (some : show_word places (row_facts l.names row).follow ≡ true) (m : Model)
       (made : m ≡ model_of places (row_facts l.names row).follow (row_facts l.names row).text) where
     pub model : IsModel places l.names m
-    unfolding row_facts
-    model =
-        let few = few_names s l laid in
-        let words : ¬ (kept.words ≡ []) = λ e. both_ways _ some ((shows_is l.names row few kept).1 e) in
-        subst (IsModel places l.names) (sym (made ∙ model_is l.names row few kept (text_in row)))
-        (words_model l.names few kept.words (over_in l.names kept.words kept.over) words (text_in row))
+    model = shown_model l.names (few_names s l laid) row kept some m made
 
     line_is : fact_line (names_in s) p (row_facts l.names row) ≡ declaration (names_in s) p m ++ shown 10
     unfolding fact_line shown

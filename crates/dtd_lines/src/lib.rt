@@ -1,4 +1,6 @@
 // The lines of a DTD, from the names of a book and the facts of its parents.
+#![tactic(auto)]
+
 ghost use Rattle.std.specs.Prelude.{◌≡◌, ◌+◌, ◌≤◌, ◌<◌, ltb, length};
 ghost use Rattle.book.specs.Book.{names_in};
 ghost use Rattle.book.specs.Access.{LaidOut};

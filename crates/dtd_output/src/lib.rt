@@ -1,4 +1,6 @@
 // What the program prints for a book: its whole DTD, or why it was refused.
+#![tactic(auto)]
+
 ghost use Rattle.std.specs.Prelude.{◌≡◌, cond, ◌+◌, ◌/◌, ◌≤◌, ltb, length};
 ghost use Rattle.book.specs.Taken.{taken_book};
 ghost use Rattle.byte_buffer.specs.Put.{Put};

@@ -1,5 +1,7 @@
 // Follow facts of words: which names may start a word, which may end one, which follow which, and whether a word is
 // empty.
+#![tactic(auto)]
+
 ghost use Rattle.std.specs.Prelude.{◌≡◌, true, ◌||◌, ◌<◌, length, get_or};
 ghost use Rattle.nameset.specs.Places.{places};
 ghost use Rattle.nameset.specs.Rows.{IsRows};
@@ -10,7 +12,7 @@ ghost use Rattle.follow.specs.Adding.{with_first, with_last, with_pairs, with_wo
 use nameset::{NameSet, ROWS, put_row, row_at};
 
 // Row a of `follows` keeps the names that follow a.
-#[derive(Drop)]
+#[derive(Clone, Copy)]
 pub struct Facts {
     pub starts: NameSet,
     pub ends: NameSet,

@@ -1,5 +1,6 @@
-// A word added to follow facts that are lent by `&mut`, over `follow::add_word`. Both functions are proved by a walk of
-// their MIR, by hand.
+// A word added to follow facts that are lent by `&mut`, over `follow::add_word`.
+#![tactic(auto)]
+
 ghost use Rattle.std.specs.Prelude.{◌≡◌, true};
 ghost use Rattle.nameset.specs.Places.{places};
 ghost use Rattle.book.specs.Book.{all_below};
@@ -15,8 +16,7 @@ pub fn add_word_to(facts: &mut Facts, word: &[u8])
     *facts = follow::add_word(*facts, word);
 }
 
-// The facts with a word added, by value: a local is lent to `add_word_to` and handed back, so that a caller needs no
-// walk by hand.
+// The facts with a word added, by value: a local is lent to `add_word_to` and handed back.
 pub fn after_word(facts: Facts, word: &[u8]) -> Facts
     requires { all_below places word.now ≡ true }
     ensures { result ≡ with_word facts word.now }

@@ -1,4 +1,6 @@
 // The follow facts of one parent and whether it has text, kept as a row of words; and a block added to them.
+#![tactic(auto)]
+
 ghost use Rattle.std.specs.Prelude.{◌≡◌, true, cond, eqb, length};
 ghost use Rattle.nameset.specs.Places.{places};
 ghost use Rattle.book.specs.Book.{all_below};

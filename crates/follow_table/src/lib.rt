@@ -1,5 +1,7 @@
 // A book read, and the follow facts of all its parents gathered while it is read, with whether each has text: the
 // blocks are gone through once.
+#![tactic(auto)]
+
 ghost use Rattle.std.specs.Prelude.{◌≡◌, true, [], ◌≤◌, ◌<◌, length, drop};
 ghost use Rattle.nameset.specs.Places.{places};
 ghost use Rattle.nameset.specs.Set.{empty, below};

@@ -1,4 +1,6 @@
 // The call that writes the whole DTD of a book. It has no requirement: it says for every input what it answers.
+#![tactic(auto)]
+
 ghost use Rattle.intake_dtd.specs.Dtd.{WritesDtd};
 
 use declaration_writing::Written;

@@ -1,5 +1,7 @@
 // The call that says whether every word of a model is a word of another (request U4 of paper 02). It has no
 // requirement: it says for every input what it answers and what the buffer then holds.
+#![tactic(auto)]
+
 ghost use Rattle.std.specs.Prelude.{◌≡◌, ◌≤◌, length};
 ghost use Rattle.nameset.specs.Places.{places};
 ghost use Rattle.refusal.specs.Answer.{given};
@@ -16,7 +18,7 @@ use nameset::PLACES;
 use refusal::Refusal;
 
 // Yes; or no, with the length of a word of the first that is not one of the second; or why the call stopped.
-#[derive(Drop)]
+#[derive(Clone, Copy)]
 pub enum Inclusion {
     Yes,
     No(usize),

@@ -1,20 +1,21 @@
 -- The answer of each way through the checks.
 -- Assumes nothing.
 use Prim.Native.Nat.{ℕ, ◌≤◌, ◌<◌}
-use mathlib.Core.Path.{◌≡◌, refl, ap}
+use mathlib.Core.Path.{◌≡◌, ap}
 use mathlib.Core.Bool.{Bool, true, false, not}
 use mathlib.Core.List.{List}
 use lib.ListN.{length}
 use borrow.Author.Tests.{lt-ltb, le-ltb}
 use Rattle.refusal.specs.declared.Refusal.TheVariants.{BadNameCount, NotAModel, BadWord}
-use Rattle.refusal.specs.Answer.{Answer, given, refused, outcome_of, outcome_number}
+use Rattle.refusal.specs.declared.Acceptance.TheVariants.{Refused}
+use Rattle.refusal.specs.Answer.{Answer, given, refused, acceptance}
+use Rattle.refusal.proofs.Decisions.{decides}
 use Rattle.nameset.specs.Places.{places, good_count}
 use Rattle.book.specs.Book.{all_below}
 use Rattle.model.specs.declared.Model.{Model}
 use Rattle.model.specs.Check.{is_model}
 use Rattle.model.specs.Run.{accepts}
-use Rattle.intake_word.specs.declared.Acceptance.TheVariants.{Refused}
-use Rattle.intake_word.specs.Acceptance.{bad_model, longest_word, bad_word, answer_of, acceptance, acceptance_number, acceptance_yes, yes_due, AcceptsWord}
+use Rattle.intake_word.specs.Acceptance.{bad_model, longest_word, bad_word, answer_of, AcceptsWord}
 
 -- ---- the check of a word
 
@@ -28,21 +29,11 @@ short_word n w b l e = rw (le-ltb longest_word (length w) l) (ap not e)
 
 -- ---- each way through the checks
 
-number_law : (a : Answer Bool) → acceptance_number (acceptance a) ≡ outcome_number (outcome_of a)
-unfolding acceptance acceptance_number
-number_law (given true) = refl
-number_law (given false) = refl
-number_law (refused r) = refl
-
-yes_law : (a : Answer Bool) → acceptance_yes (acceptance a) ≡ yes_due a
-unfolding acceptance acceptance_yes
-yes_law (given true) = refl
-yes_law (given false) = refl
-yes_law (refused r) = refl
-
 module _ (n : ℕ) (m : Model) (w : List ℕ) where
   promised : (a : Answer Bool) → answer_of n m w ≡ a → AcceptsWord n m w (acceptance a)
-  promised a e = rw (← e) record { same = refl; number = number_law (answer_of n m w); yes = yes_law (answer_of n m w) }
+  promised a e =
+      let d = decides (answer_of n m w) a e in
+      record { same = d.same; number = d.number; yes = d.yes }
 
   module _ {count : Bool} (e : count ≡ good_count n) where
     pub stops_count : not count ≡ true → AcceptsWord n m w (Refused BadNameCount)

@@ -9,20 +9,20 @@ use borrow.Author.Tests.{ltb-true, ltb-false, lt-ltb, le-ltb, not-false}
 use lib.Dec.{ltb}
 use lib.ListN.{length}
 use Rattle.refusal.specs.declared.Refusal.TheVariants.{BadNameCount, NotAModel, BadWord}
-use Rattle.refusal.specs.Answer.{Answer, given, refused}
+use Rattle.refusal.specs.declared.Acceptance.{Acceptance}
+use Rattle.refusal.specs.declared.Acceptance.TheVariants.{Yes}
+use Rattle.refusal.specs.Answer.{given, acceptance}
 use Rattle.refusal.proofs.Answers.{check_given, given_same}
+use Rattle.refusal.proofs.Decisions.{yes_given}
 use Rattle.nameset.specs.Places.{places, good_count}
 use Rattle.nameset.proofs.Count.{count_bounds, bounds_count}
 use Rattle.book.specs.Book.{all_below}
 use Rattle.model.specs.declared.Model.{Model}
 use Rattle.model.specs.Check.{is_model}
 use Rattle.model.specs.Accept.{Accepts, Names}
-use Rattle.nameset.proofs.Tests.{never}
 use Rattle.model.proofs.ModelLaw.{model_law}
 use Rattle.model.proofs.Acceptance.{accepts_law}
-use Rattle.intake_word.specs.declared.Acceptance.{Acceptance}
-use Rattle.intake_word.specs.declared.Acceptance.TheVariants.{Yes}
-use Rattle.intake_word.specs.Acceptance.{bad_model, longest_word, bad_word, answer_of, acceptance, Passes, AcceptsWord}
+use Rattle.intake_word.specs.Acceptance.{bad_model, longest_word, bad_word, answer_of, Passes, AcceptsWord}
 use Rattle.intake_word.proofs.Words.{names_law, not_below}
 
 -- ---- helpers
@@ -58,13 +58,6 @@ bad_word_lem n w = (λ e. to (ltb longest_word (length w)) refl (all_below n w) 
     from : (longest_word < length w) ⊎ ((x : ℕ) × Memᴰ x w × (n ≤ x)) → (ltb longest_word (length w) || not (all_below n w)) ≡ true
     from (inl l) = rw (lt-ltb longest_word (length w) l)
     from (inr h) = or_right (ltb longest_word (length w)) (not (all_below n w)) (ap not ((not_below n w).1 h))
-
--- a yes is the answer of a call that nothing stopped
-yes_given : (a : Answer Bool) → acceptance a ≡ Yes → a ≡ given true
-unfolding acceptance
-yes_given (given true) e = refl
-yes_given (given false) e = absurd (never (cc))
-yes_given (refused r) e = absurd (never (cc))
 
 -- ---- demand 2, acceptance
 

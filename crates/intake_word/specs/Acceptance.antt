@@ -2,10 +2,11 @@
 -- `word_refusals` and `accepted_exactly` in crates/demands/proofs/Demands.antt say what that is. To be believed are
 -- `Passes`, `longest_word`, `acceptance_number` and `acceptance_yes`.
 -- Assumes nothing.
-use Rattle.std.specs.Prelude.{ℕ, ◌≤◌, ◌<◌, ◌≡◌, Bool, true, false, ◌||◌, not, List, ltb, length}
+use Rattle.std.specs.Prelude.{◌≡◌, ℕ, ◌≤◌, ◌<◌, Bool, ◌||◌, not, List, ltb, length}
 use Rattle.refusal.specs.declared.Refusal.TheVariants.{BadNameCount, NotAModel, BadWord}
-use Rattle.refusal.specs.Table.{stopped_by}
-use Rattle.refusal.specs.Answer.{Answer, given, refused, refuse_if, answer_number}
+use Rattle.refusal.specs.declared.Acceptance.{Acceptance}
+use Rattle.refusal.specs.Answer.{Answer, given, refuse_if, answer_number}
+pub use Rattle.refusal.specs.Answer.{acceptance, acceptance_number, acceptance_yes, yes_due}
 use Rattle.nameset.specs.Places.{places, good_count}
 use Rattle.book.specs.Book.{all_below}
 use Rattle.model.specs.declared.Model.{Model}
@@ -13,8 +14,6 @@ use Rattle.model.specs.Record.{IsModel}
 use Rattle.model.specs.Check.{is_model}
 use Rattle.model.specs.Accept.{Names}
 use Rattle.model.specs.Run.{accepts}
-use Rattle.intake_word.specs.declared.Acceptance.{Acceptance}
-use Rattle.intake_word.specs.declared.Acceptance.TheVariants.{Yes, No, Refused}
 
 -- 10: "no chain over N names", or "a text record of any other shape".
 unfoldable pub bad_model : ℕ → Model → Bool
@@ -33,29 +32,6 @@ bad_word n w = ltb longest_word (length w) || not (all_below n w)
 unfoldable pub answer_of : ℕ → Model → List ℕ → Answer Bool
 answer_of n m w =
     refuse_if (not (good_count n)) BadNameCount (refuse_if (bad_model n m) NotAModel (refuse_if (bad_word n w) BadWord (given (accepts m.chain w))))
-
--- The answer as the code has it.
-unfoldable pub acceptance : Answer Bool → Acceptance
-acceptance (given true) = Yes
-acceptance (given false) = No
-acceptance (refused r) = Refused r
-
--- The number in paper 01's table, 0 for a call that is not refused.
-unfoldable pub acceptance_number : Acceptance → ℕ
-acceptance_number Yes = 0
-acceptance_number No = 0
-acceptance_number (Refused r) = (stopped_by r).number
-
--- The yes or no: a refused call answers no.
-unfoldable pub acceptance_yes : Acceptance → Bool
-acceptance_yes Yes = true
-acceptance_yes No = false
-acceptance_yes (Refused r) = (stopped_by r).yes
-
--- The same of the definition's answer: "a yes or no due is no".
-abbrev pub yes_due : Answer Bool → Bool
-yes_due (given b) = b
-yes_due (refused r) = (stopped_by r).yes
 
 -- Nothing stops the call.
 pub record Passes (n : ℕ) (m : Model) (w : List ℕ) : Type 0 where

@@ -1,19 +1,14 @@
 // The call that says whether a model accepts a word. It has no requirement: it says for every input what it answers.
+#![tactic(auto)]
+
 ghost use Rattle.std.specs.Prelude.{◌≡◌, ◌<◌};
 ghost use Rattle.model.specs.Record.{model_with};
 ghost use Rattle.model.specs.Build.{of_rows};
 ghost use Rattle.intake_word.specs.Acceptance.{bad_word, AcceptsWord};
 
 use model::Model;
+pub use refusal::Acceptance;
 use refusal::Refusal;
-
-// Whether a word is accepted, or why the call stopped.
-#[derive(Drop)]
-pub enum Acceptance {
-    Yes,
-    No,
-    Refused(Refusal),
-}
 
 // The most names that a word may have in a call.
 const LONGEST: usize = 255;

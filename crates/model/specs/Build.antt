@@ -1,5 +1,6 @@
--- A means: a record under construction: factors are appended one after the other. The chain of the levels is built so;
--- `is_placed` in crates/chain_minimal/proofs/Demand.antt says which record that is.
+-- A means, but for `of_rows`: a record under construction, to which factors are appended one after the other. The chain
+-- of the levels is built so; `is_placed` in crates/chain_minimal/proofs/Demand.antt says which record that is. To be
+-- believed is `of_rows`, by which a table of models (U7) has its records.
 -- Assumes nothing.
 use Rattle.std.specs.Prelude.{ℕ, suc, ◌+◌, Bool, cond, List, [], ◌∷◌, set}
 use Rattle.model.specs.declared.Chain.{Chain}

@@ -1,4 +1,6 @@
 // The model record, its chain under construction, and the states of a run through a word.
+#![tactic(auto)]
+
 mod build; // build.rt: the chain under construction
 
 ghost use Rattle.std.specs.Prelude.{◌≡◌, get_or};
@@ -11,7 +13,7 @@ pub const NO_FACTOR: u8 = 255;
 // Paper 01's model record, laid out as C has it. `count` is its F, `factor` has for each name the factor that holds it
 // or 255 for none, and `mode` has the mode of each factor.
 #[repr(C)]
-#[derive(Drop)]
+#[derive(Clone, Copy)]
 pub struct Chain {
     pub count: usize,
     pub factor: [u8; PLACES],
@@ -21,21 +23,21 @@ pub struct Chain {
 // A model: its chain, and 1 where text is allowed, else 0 (paper 02, U5). In C it is one flat record with the text
 // behind the modes.
 #[repr(C)]
-#[derive(Drop)]
+#[derive(Clone, Copy)]
 pub struct Model {
     pub chain: Chain,
     pub text: u8,
 }
 
 // Where a run through a word stands: in which factor, and whether the word has a name of it already.
-#[derive(Drop)]
+#[derive(Clone, Copy)]
 pub struct State {
     pub factor: usize,
     pub taken: bool,
 }
 
 // What a factor does with the next name: it takes the name, it is left, or the word is not accepted.
-#[derive(Drop)]
+#[derive(Clone, Copy)]
 pub enum Turn {
     Take,
     Leave,
@@ -43,7 +45,7 @@ pub enum Turn {
 }
 
 // The state after a name; nowhere if the word is not accepted, whatever follows.
-#[derive(Drop)]
+#[derive(Clone, Copy)]
 pub enum Moved {
     To(State),
     Nowhere,

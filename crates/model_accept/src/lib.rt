@@ -1,4 +1,6 @@
 // Which words a model record accepts, by a run through the word from left to right.
+#![tactic(auto)]
+
 ghost use Rattle.std.specs.Prelude.{◌≡◌};
 ghost use Rattle.model.specs.Build.{of_rows};
 ghost use Rattle.model.specs.Run.{accepts};

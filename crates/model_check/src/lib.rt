@@ -1,4 +1,6 @@
 // Whether a model record is a model: a chain, and a text byte that fits it.
+#![tactic(auto)]
+
 ghost use Rattle.std.specs.Prelude.{◌≡◌, get_or};
 ghost use Rattle.nameset.specs.Places.{places};
 ghost use Rattle.model.specs.Record.{model_with};
@@ -6,7 +8,7 @@ ghost use Rattle.model.specs.Build.{of_rows};
 ghost use Rattle.model.specs.Check.{is_chain, may_have_text, text_fits, is_model};
 
 use model_named::all_named;
-use model_rows::{all_known, all_placed_lem};
+use model_rows::{all_known, all_placed};
 use nameset::PLACES;
 
 // Whether the record of these rows is a chain over n names.
@@ -22,7 +24,7 @@ pub fn rows_are_chain<'a>(n: usize, count: usize, factor: &'a [u8], mode: &'a [u
     if PLACES < count {
         return false;
     }
-    if !all_placed_lem(n, count, factor) {
+    if !all_placed(n, count, factor) {
         return false;
     }
     if !all_named(n, count, factor) {

@@ -1,5 +1,7 @@
 // A word that has a given step of a chain, put into a borrowed buffer. Before the step and behind it the word has one
 // name of each factor that may not be left out. `names` has a name of each factor.
+#![tactic(auto)]
+
 ghost use Rattle.std.specs.Prelude.{◌+◌, ◌-◌, ◌≤◌, length};
 ghost use Rattle.nameset.specs.Places.{places};
 ghost use Rattle.model_inclusion.specs.Inclusion.{longest_counterexample};

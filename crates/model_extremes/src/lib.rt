@@ -1,5 +1,7 @@
 // Of the names of each factor of one record, one that is lowest in another record, and one that is highest there. A
 // name is lower than another if its factor comes earlier; a name that no factor holds is above all others.
+#![tactic(auto)]
+
 ghost use Rattle.std.specs.Prelude.{◌≤◌};
 ghost use Rattle.nameset.specs.Places.{places};
 ghost use Rattle.model_extremes.specs.Extremes.{Lower, Higher, Chosen, AreExtremes};
@@ -11,7 +13,7 @@ use nameset::PLACES;
 const NO_NAME: u8 = 255;
 
 // For each factor one of its lowest names and one of its highest.
-#[derive(Drop)]
+#[derive(Clone, Copy)]
 pub struct Extremes {
     pub low: [u8; PLACES],
     pub high: [u8; PLACES],

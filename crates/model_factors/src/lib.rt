@@ -1,4 +1,6 @@
 // The names of each factor of a record, as rows of words.
+#![tactic(auto)]
+
 ghost use Rattle.std.specs.Prelude.{◌≤◌};
 ghost use Rattle.nameset.specs.Places.{places};
 ghost use Rattle.model_factors.specs.Names.{RowsOf};

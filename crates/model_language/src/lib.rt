@@ -1,1 +1,3 @@
+#![tactic(auto)]
+
 // The language of a chain: definitions and theorems only. Start at proofs/Theorem.antt.

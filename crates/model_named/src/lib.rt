@@ -1,4 +1,6 @@
 // Whether each factor of a record has a name: few factors are looked for one by one, more are gathered in one pass.
+#![tactic(auto)]
+
 ghost use Rattle.std.specs.Prelude.{ℕ, ◌+◌, ◌≤◌, ◌<◌, min, ◌≡◌, true, ◌||◌, eqb, ltb, length, get_or};
 ghost use Rattle.nameset.specs.Places.{places};
 ghost use Rattle.nameset.specs.Set.{capacity, member};

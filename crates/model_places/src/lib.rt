@@ -1,4 +1,6 @@
 // Places of a chain: how far its steps lead from each place, and whether it has the step from one point to another.
+#![tactic(auto)]
+
 ghost use Rattle.std.specs.Prelude.{ℕ, ◌+◌, ◌≤◌, ◌<◌, ◌≡◌, cond, List};
 ghost use Rattle.nameset.specs.Places.{places};
 ghost use Rattle.model.specs.Build.{of_rows};
@@ -12,7 +14,7 @@ use nameset::PLACES;
 pub const LEFT: usize = PLACES + 1;
 
 // A point of a word: its start, a name, its end.
-#[derive(Drop)]
+#[derive(Clone, Copy)]
 pub enum Spot {
     Start,
     Name(u8),

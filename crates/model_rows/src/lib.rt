@@ -1,4 +1,6 @@
 // The conditions on the entries and on the modes of a model record, each by itself.
+#![tactic(auto)]
+
 ghost use Rattle.std.specs.Prelude.{ℕ, ◌≡◌, true, ◌||◌, ltb, leb, length, get_or};
 ghost use Rattle.model.specs.Record.{no_factor};
 ghost use Rattle.nameset.specs.Tests.{every_below};
@@ -30,7 +32,7 @@ fn all_among(count: usize, factor: &[u8], from: usize) -> bool
 
 // Whether each number has an entry that it may have: every number one of the factors or none, and those that are no
 // name's none.
-pub fn all_placed_lem(n: usize, count: usize, factor: &[u8]) -> bool
+pub fn all_placed(n: usize, count: usize, factor: &[u8]) -> bool
     ensures { result ≡ all_placed (length factor.now) n count factor.now }
 {
     if all_among(count, factor, 0) {

@@ -1,4 +1,6 @@
 // One step of a run through a word: what a factor does with the next name, where the run goes, whether it may end.
+#![tactic(auto)]
+
 ghost use Rattle.std.specs.Prelude.{ℕ, ◌≡◌, List};
 ghost use Rattle.model.specs.declared.Moved.TheVariants.{To};
 ghost use Rattle.model.specs.Build.{of_rows};

@@ -1,5 +1,7 @@
 // Whether every word of one chain is a word of another: one pass over the factors of the first; where it is not, a step
 // of the first that the second does not have.
+#![tactic(auto)]
+
 ghost use Rattle.std.specs.Prelude.{◌≤◌, ◌≡◌, not, ◌||◌};
 ghost use Rattle.nameset.specs.Places.{places};
 ghost use Rattle.model.specs.Record.{IsChain};
@@ -17,28 +19,28 @@ use nameset::PLACES;
 
 // Of the points that a step of the first to the next factor may leave, the lowest in the second and the highest.
 // Each is the number of a name, or `PLACES` for the start: points as enums would be packed and unpacked for each factor.
-#[derive(Drop)]
+#[derive(Clone, Copy)]
 struct Frontier {
     low: usize,
     high: usize,
 }
 
 // Of the names of a factor of the first, the lowest in the second and the highest.
-#[derive(Drop)]
+#[derive(Clone, Copy)]
 struct Span {
     low: u8,
     high: u8,
 }
 
 // A factor is passed, or a step into it is not one of the second.
-#[derive(Drop)]
+#[derive(Clone, Copy)]
 enum Passing {
     On(Frontier),
     Stuck(Spot, Spot),
 }
 
 // Every step of the first is one of the second, or this one is not.
-#[derive(Drop)]
+#[derive(Clone, Copy)]
 pub enum Compared {
     Included,
     Apart(Spot, Spot),

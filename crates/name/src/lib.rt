@@ -1,4 +1,6 @@
 // The rule for a name's bytes.
+#![tactic(auto)]
+
 ghost use Rattle.std.specs.Prelude.{◌≡◌};
 ghost use Rattle.name.specs.Class.{class_of, class_table};
 ghost use Rattle.name.specs.Rule.{good_length, good_bytes, is_name};

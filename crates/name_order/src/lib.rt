@@ -1,9 +1,11 @@
 // The order of names.
+#![tactic(auto)]
+
 ghost use Rattle.std.specs.Prelude.{◌≡◌};
 ghost use Rattle.name_order.specs.Order.{order_of, rises};
 
 // How two byte strings stand to each other, compared byte by byte, a proper prefix first.
-#[derive(Drop)]
+#[derive(Clone, Copy)]
 pub enum Order {
     Below,
     Same,

@@ -98,9 +98,9 @@ module _ {X D : Type 0} (own : D → List Val → Fml) (into : X → D) (P : X �
   each_element d pd (x ∷ xs) (u ∷ us) zero p = tells x u p.0
   each_element d pd (x ∷ xs) (u ∷ us) (suc i) p = each_element d pd xs us i p.1
 
-pub sized_element : (xs : List NameSet) (us : List Val) (i : ℕ) → shadow (each NameSet (row the_type).own xs us) → Sized (get_or xs i empty)
+pub sized_element : (xs : List NameSet) (us : List Val) (i : ℕ) → shadow (each NameSet (row the_type).own_val xs us) → Sized (get_or xs i empty)
 sized_element xs us i p =
-    each_element (row the_type).own (λ x. x) Sized (λ x u q. q.1.1.0.1) empty sized_empty xs us i (rw map-id p)
+    each_element (row the_type).own_val (λ x. x) Sized (λ x u q. q.1.1.0.1) empty sized_empty xs us i (rw map-id p)
 
 pub sized_field : (xs : List NameSet) (us : List Val) (i : ℕ) → shadow (each the_field.row.Denot the_field.row.own_val (map the_field.into xs) us) → Sized (get_or xs i empty)
 sized_field = each_element the_field.row.own_val the_field.into Sized (λ x u q. q.1.1.0.1) empty sized_empty

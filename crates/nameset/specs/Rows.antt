@@ -3,7 +3,7 @@
 -- Assumes nothing.
 -- Row a is a set, in most places that of the name a. A row takes one word, since a word has room for a whole set. With a
 -- larger capacity a row takes several: then the definitions of this file change, with Set.antt.
-use Rattle.std.specs.Prelude.{◌≡◌, ℕ, ◌<◌, List, length, set, replicate, slice_index, slice_set}
+use Rattle.std.specs.Prelude.{◌≡◌, ℕ, ◌<◌, List, length, replicate, slice_index, slice_set}
 use Rattle.nameset.specs.declared.NameSet.{NameSet}
 
 -- How many words keep n rows. The code has it for a row of each place, as `ROWS`.

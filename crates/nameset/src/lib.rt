@@ -1,4 +1,6 @@
 // Sets of name numbers by value, one bit for each number, and rows of machine words that keep such sets.
+#![tactic(auto)]
+
 ghost use Rattle.std.specs.Prelude.{◌≡◌, ◌<◌, ◌≤◌, false, not, ◌&&◌, ◌||◌, ◌==◌, nat_lt};
 ghost use Rattle.nameset.specs.Places.{good_count};
 ghost use Rattle.nameset.specs.Set.{capacity, member, empty, full, below, with, without, union, both, minus};
@@ -25,7 +27,7 @@ pub fn good_count(names: usize) -> bool
 }
 
 // The number i is a member where bit i is 1. Only this crate looks at the bits.
-#[derive(Drop)]
+#[derive(Clone, Copy)]
 pub struct NameSet {
     bits: u64,
 }

@@ -8,7 +8,7 @@ use mathlib.Core.List.{List, [], ◌∷◌, map}
 use native.Mathlib.Omega.{arith}
 use lib.ListN.{get_or}
 use Rattle.refusal.specs.declared.Refusal.{Refusal}
-use Rattle.refusal.specs.declared.Refusal.TheVariants.{BookTooLong, BytesMissing, BadNameCount, BadName, NameNotAbove, NumberNotBelow, BytesLeftOver, BadParent, NoBlock, NotAModel, BadWord, BufferTooShort, NotADeclaration, UnknownName, NameTwice, BadText, UnusedName}
+use Rattle.refusal.specs.declared.Refusal.TheVariants.{BookTooLong, BytesMissing, BadNameCount, BadName, NameNotAbove, NumberNotBelow, BytesLeftOver, BadParent, NoBlock, NotAModel, BadWord, BufferTooShort, NotADeclaration, UnknownName, NameTwice, BadText, UnusedName, BadDocument, TooDeep}
 use Rattle.refusal.specs.declared.Outcome.{Outcome}
 use Rattle.refusal.specs.declared.Outcome.TheVariants.{Done, Refused}
 use Rattle.refusal.specs.Table.{number_of}
@@ -34,6 +34,8 @@ rows =
     ∷ NameTwice
     ∷ BadText
     ∷ UnusedName
+    ∷ BadDocument
+    ∷ TooDeep
     ∷ []
 
 -- the outcome that a number tells
@@ -60,6 +62,8 @@ row_of UnknownName = refl
 row_of NameTwice = refl
 row_of BadText = refl
 row_of UnusedName = refl
+row_of BadDocument = refl
+row_of TooDeep = refl
 
 pub refused_alike : (r q : Refusal) → Refused r ≡ Refused q → r ≡ q
 refused_alike r q e = cc

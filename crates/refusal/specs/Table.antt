@@ -3,7 +3,7 @@
 -- Assumes nothing.
 use Rattle.std.specs.Prelude.{ℕ, Bool, false, ◌||◌, List, [], ◌∷◌, eqb}
 use Rattle.refusal.specs.declared.Refusal.{Refusal}
-use Rattle.refusal.specs.declared.Refusal.TheVariants.{BookTooLong, BytesMissing, BadNameCount, BadName, NameNotAbove, NumberNotBelow, BytesLeftOver, BadParent, NoBlock, NotAModel, BadWord, BufferTooShort, NotADeclaration, UnknownName, NameTwice, BadText, UnusedName}
+use Rattle.refusal.specs.declared.Refusal.TheVariants.{BookTooLong, BytesMissing, BadNameCount, BadName, NameNotAbove, NumberNotBelow, BytesLeftOver, BadParent, NoBlock, NotAModel, BadWord, BufferTooShort, NotADeclaration, UnknownName, NameTwice, BadText, UnusedName, BadDocument, TooDeep}
 
 -- The number that the papers give it.
 abbrev pub number_of : Refusal → ℕ
@@ -24,6 +24,8 @@ number_of UnknownName = 14
 number_of NameTwice = 15
 number_of BadText = 16
 number_of UnusedName = 17
+number_of BadDocument = 18
+number_of TooDeep = 19
 
 -- The numbers of the refusals that concern the book: 1 to 7, 16, 17.
 abbrev pub book_numbers : List ℕ

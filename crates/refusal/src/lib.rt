@@ -1,11 +1,13 @@
 // Why a call stopped, and how a call ended.
+#![tactic(auto)]
+
 ghost use Rattle.std.specs.Prelude.{◌≡◌};
 ghost use Rattle.refusal.specs.Table.{number_of};
 ghost use Rattle.refusal.specs.Answer.{outcome_number};
 
 // One variant for each number of papers 01 and 02, by rising number. The comments are the refusals' texts:
 // tests/refusals_check.py compares every other place that has a number, a name or a text with this list.
-#[derive(Drop)]
+#[derive(Clone, Copy)]
 pub enum Refusal {
     // 1: the book has more than 60,000 bytes.
     BookTooLong,
@@ -41,12 +43,24 @@ pub enum Refusal {
     BadText,
     // 17: a name in the book is neither a parent nor a child in any block.
     UnusedName,
+    // 18: the document has an odd length, a pair with a bad kind or number, or pairs that do not form one root element.
+    BadDocument,
+    // 19: the document opens an element at depth 33.
+    TooDeep,
 }
 
 // How a call ended, where its answer's values stand beside it.
-#[derive(Drop)]
+#[derive(Clone, Copy)]
 pub enum Outcome {
     Done,
+    Refused(Refusal),
+}
+
+// The answer of a call for a yes or no, or why it stopped.
+#[derive(Clone, Copy)]
+pub enum Acceptance {
+    Yes,
+    No,
     Refused(Refusal),
 }
 
@@ -72,6 +86,8 @@ pub fn number(refusal: Refusal) -> u8
         Refusal::NameTwice => 15,
         Refusal::BadText => 16,
         Refusal::UnusedName => 17,
+        Refusal::BadDocument => 18,
+        Refusal::TooDeep => 19,
     }
 }
 

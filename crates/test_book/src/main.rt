@@ -2,6 +2,8 @@
 // length in three bytes, the low one first. The line has the label, the refusal's number (0 for none), N, M, the number
 // of the name that is the text (or -), and each block as its parent, its text byte and the number of its children, with
 // colons between them.
+#![tactic(auto)]
+
 ghost use Rattle.std.specs.Prelude.{◌≤◌, length};
 ghost use Rattle.book.specs.Book.{longest_book};
 ghost use Rattle.book.specs.Access.{LaidOut};
@@ -10,73 +12,72 @@ use book::{Found, HEAD_SIZE, Layout, TEXT_AT};
 use book_blocks::{BlockStep, block_at};
 use book_bytes::wide;
 use refusal::Outcome;
+use std::io;
 
-fn print_found(found: Found) {
+fn print_found(rt: &impl Print, found: Found) -> io::Result<()> {
     match found {
-        Found::At(i) => test_lines::print_number(i),
-        Found::Nothing => test_lines::print(b"-"),
+        Found::At(i) => test_lines::print_number(rt, i),
+        Found::Nothing => test_lines::print(rt, b"-"),
     }
 }
 
 // Each block's parent, text byte and number of children.
-fn print_blocks(bytes: &[u8], layout: Layout)
+fn print_blocks(rt: &impl Print, bytes: &[u8], layout: Layout) -> io::Result<()>
     requires { length bytes.now ≤ longest_book }
 {
     let mut at = layout.body;
-    let mut left = layout.blocks;
-    while 0 < left {
+    for _ in 0..layout.blocks {
         match block_at(bytes, layout.names, at) {
             BlockStep::Block(size) => {
-                print_block(wide(bytes[at]), wide(bytes[at + TEXT_AT]), size);
+                print_block(rt, wide(bytes[at]), wide(bytes[at + TEXT_AT]), size)?;
                 at = at + HEAD_SIZE + size;
             }
             BlockStep::Stopped(_) => {
-                return;
+                return Ok(());
             }
         }
-        left -= 1;
     }
+    Ok(())
 }
 
-fn print_block(parent: usize, text: usize, children: usize) {
-    test_lines::print(b" ");
-    test_lines::print_number(parent);
-    test_lines::print(b":");
-    test_lines::print_number(text);
-    test_lines::print(b":");
-    test_lines::print_number(children);
+fn print_block(rt: &impl Print, parent: usize, text: usize, children: usize) -> io::Result<()> {
+    print!(rt; " {parent}:{text}:{children}")
 }
 
-fn print_head(label: &[u8], refusal: u8, names: usize, blocks: usize) {
-    test_lines::print(label);
-    test_lines::print(b": ");
-    test_lines::print_field(refusal as usize);
-    test_lines::print_field(names);
-    test_lines::print_number(blocks);
+fn print_head(
+    rt: &impl Print,
+    label: &[u8],
+    refusal: u8,
+    names: usize,
+    blocks: usize,
+) -> io::Result<()> {
+    test_lines::print(rt, label)?;
+    print!(rt; ": {refusal} {names} {blocks}")
 }
 
-fn print_case(label: &[u8], bytes: &[u8], text: &[u8]) {
+fn print_case(rt: &impl Print, label: &[u8], bytes: &[u8], text: &[u8]) -> io::Result<()> {
     let reading = book_reading::take_book(bytes);
     let outcome = reading.outcome;
     let layout = reading.layout;
     print_head(
+        rt,
         label,
         refusal::outcome_number(outcome),
         layout.names,
         layout.blocks,
-    );
+    )?;
     if let Outcome::Done = outcome {
-        print_rest(bytes, layout, text);
+        print_rest(rt, bytes, layout, text)?;
     }
-    test_lines::print(b"\n");
+    println!(rt)
 }
 
-fn print_rest(bytes: &[u8], layout: Layout, text: &[u8])
+fn print_rest(rt: &impl Print, bytes: &[u8], layout: Layout, text: &[u8]) -> io::Result<()>
     requires { LaidOut bytes.now layout }
 {
-    test_lines::print(b" ");
-    print_found(book_access::find_name(bytes, layout, text));
-    print_blocks(bytes, layout);
+    print!(rt; " ")?;
+    print_found(rt, book_access::find_name(bytes, layout, text))?;
+    print_blocks(rt, bytes, layout)
 }
 
 // Where the field that begins at a place ends, or the stream's length where it is cut short.
@@ -110,26 +111,27 @@ fn field(stream: &[u8], at: usize, end: usize) -> &[u8]
     &stream[from..end]
 }
 
-fn run(stream: &[u8]) {
+fn run(rt: &impl Print, stream: &[u8]) -> io::Result<()> {
     let mut at = 0;
     while at < stream.len() {
         let label = field_end(stream, at);
         let bytes = field_end(stream, label);
         let text = field_end(stream, bytes);
         print_case(
+            rt,
             field(stream, at, label),
             field(stream, label, bytes),
             field(stream, bytes, text),
-        );
+        )?;
         if text <= at {
-            return;
+            return Ok(());
         }
         at = text;
     }
+    Ok(())
 }
 
-fn main() {
-    let mut buffer = [0u8; 262144];
-    let n = io::read_full(0, &mut buffer);
-    run(&buffer[..n]);
+fn main(rt: HostRuntime) -> io::Result<()> {
+    let stream = test_lines::read_input(&rt)?;
+    run(&rt, &stream)
 }

@@ -7,26 +7,28 @@
 // where none may stand, or where one is missing; tabs and carriage returns in these places; bytes that are no white
 // space; bytes behind `>`; `#PCDATA` alone and with names; other marks behind it, other places of it, and other words
 // like it; the longest declaration, and the same with a name of 33 bytes.
+#![tactic(auto)]
+
+use std::io;
 
 // One line.
-fn tell(text: &[u8]) {
-    test_lines::print_answer(declaration_form::has_form(text));
-    test_lines::print_text(text);
+fn tell(rt: &impl Print, text: &[u8]) -> io::Result<()> {
+    test_lines::print_answer(rt, declaration_form::has_form(text))?;
+    test_lines::print_text(rt, text)
 }
 
-fn tell_lines(text: &[u8]) {
+fn tell_lines(rt: &impl Print, text: &[u8]) -> io::Result<()> {
     let mut i = 0;
     while i < text.len() {
-        tell(test_lines::line_at(text, i));
+        tell(rt, test_lines::line_at(text, i))?;
         i = test_lines::next_line(text, i);
     }
+    Ok(())
 }
 
-fn main() {
-    tell(b"<!ELEMENT a (b,\nc)>");
-    tell(b"<!ELEMENT a (b)>\n");
-    let mut space = io::large_buffer();
-    let got = libc::read(0, &mut space);
-    let n = io::count(got, &space);
-    tell_lines(&space[..n]);
+fn main(rt: HostRuntime) -> io::Result<()> {
+    tell(&rt, b"<!ELEMENT a (b,\nc)>")?;
+    tell(&rt, b"<!ELEMENT a (b)>\n")?;
+    let text = test_lines::read_input(&rt)?;
+    tell_lines(&rt, &text)
 }

@@ -3,7 +3,10 @@
 // of output has the refusal's number, the parent's number, the count of factors, the text byte, the factor of each of
 // the five names, the mode of each of the first five factors, and the text between `[` and `]`.
 // `tests/reading_cases.py` has the texts and what is due of each.
+#![tactic(auto)]
+
 use declaration_record::Declaration;
+use std::io;
 
 // How many names the book has.
 const NAMES: usize = 5;
@@ -36,27 +39,26 @@ fn unused_book() -> [u8; 24] {
 }
 
 // One line.
-fn tell(read: Declaration, text: &[u8]) {
-    let outcome = read.outcome;
-    test_lines::print_field(refusal::outcome_number(outcome) as usize);
-    test_lines::print_field(read.parent);
-    test_lines::print_field(read.model.chain.count);
-    test_lines::print_field(read.model.text as usize);
-    test_lines::print(b"| ");
-    test_lines::print_row(&read.model.chain.factor, NAMES);
-    test_lines::print(b"| ");
-    test_lines::print_row(&read.model.chain.mode, NAMES);
-    test_lines::print_text(text);
+fn tell(rt: &impl Print, read: Declaration, text: &[u8]) -> io::Result<()> {
+    let number = refusal::outcome_number(read.outcome);
+    let parent = read.parent;
+    let count = read.model.chain.count;
+    let has_text = read.model.text;
+    print!(rt; "{number} {parent} {count} {has_text} | ")?;
+    test_lines::print_row(rt, &read.model.chain.factor, NAMES)?;
+    print!(rt; "| ")?;
+    test_lines::print_row(rt, &read.model.chain.mode, NAMES)?;
+    test_lines::print_text(rt, text)
 }
 
-fn tell_cut(text: &[u8]) {
+fn tell_cut(rt: &impl Print, text: &[u8]) -> io::Result<()> {
     let book = cut_book();
-    tell(declaration_reading::read_declaration(&book, text), text);
+    tell(rt, declaration_reading::read_declaration(&book, text), text)
 }
 
-fn tell_unused(text: &[u8]) {
+fn tell_unused(rt: &impl Print, text: &[u8]) -> io::Result<()> {
     let book = unused_book();
-    tell(declaration_reading::read_declaration(&book, text), text);
+    tell(rt, declaration_reading::read_declaration(&book, text), text)
 }
 
 fn instead(byte: u8, old: u8, new: u8) -> u8 {
@@ -65,36 +67,33 @@ fn instead(byte: u8, old: u8, new: u8) -> u8 {
 
 // One byte for another, wherever it stands.
 fn replace(line: &mut [u8], old: u8, new: u8) {
-    let mut i = 0;
-    while i < line.len() {
-        line[i] = instead(line[i], old, new);
-        i += 1;
+    for byte in line.iter_mut() {
+        *byte = instead(*byte, old, new);
     }
 }
 
 // A line: read with line feeds, printed as it came.
-fn tell_line(line: &mut [u8]) {
+fn tell_line(rt: &impl Print, line: &mut [u8]) -> io::Result<()> {
     let book = small_book();
     replace(line, FEED, b'\n');
     let read = declaration_reading::read_declaration(&book, line);
     replace(line, b'\n', FEED);
-    tell(read, line);
+    tell(rt, read, line)
 }
 
-fn tell_lines(text: &mut [u8]) {
+fn tell_lines(rt: &impl Print, text: &mut [u8]) -> io::Result<()> {
     let mut i = 0;
     while i < text.len() {
         let next = test_lines::next_line(text, i);
-        tell_line(&mut text[i..next - 1]);
+        tell_line(rt, &mut text[i..next - 1])?;
         i = next;
     }
+    Ok(())
 }
 
-fn main() {
-    tell_cut(b"<!ELEMENT a (b)>");
-    tell_unused(b"<!ELEMENT a (b");
-    let mut space = io::large_buffer();
-    let got = libc::read(0, &mut space);
-    let n = io::count(got, &space);
-    tell_lines(&mut space[..n]);
+fn main(rt: HostRuntime) -> io::Result<()> {
+    tell_cut(&rt, b"<!ELEMENT a (b)>")?;
+    tell_unused(&rt, b"<!ELEMENT a (b")?;
+    let mut text = test_lines::read_input(&rt)?;
+    tell_lines(&rt, &mut text)
 }

@@ -1,7 +1,10 @@
 // Declarations written into buffers of many lengths. Each line has the number of the outcome, the length, and the
 // buffer: a dot where nothing was written.
+#![tactic(auto)]
+
 use declaration_writing::Written;
 use model::{Chain, Model};
+use std::io;
 
 // The names a, b and c, and one block: a with the children b and c.
 fn small_book() -> [u8; 15] {
@@ -73,12 +76,10 @@ fn two_factors() -> Chain {
 fn pairs() -> Chain {
     let mut factor = [255u8; 64];
     let mut mode = [0u8; 64];
-    let mut i = 0;
-    while i < 32 {
+    for i in 0..32 {
         factor[i * 2] = i as u8;
         factor[i * 2 + 1] = i as u8;
         mode[i] = 1;
-        i += 1;
     }
     Chain {
         count: 32,
@@ -93,123 +94,121 @@ fn model(chain: Chain, text: u8) -> Model {
 }
 
 // One line: how the call ended, and the whole buffer.
-fn report(written: Written, buffer: &[u8]) {
-    let outcome = written.outcome;
-    test_lines::print_field(refusal::outcome_number(outcome) as usize);
-    test_lines::print_field(written.length);
-    test_lines::print(buffer);
-    test_lines::print(b"\n");
+fn report(rt: &impl Print, written: Written, buffer: &[u8]) -> io::Result<()> {
+    let number = refusal::outcome_number(written.outcome);
+    let length = written.length;
+    print!(rt; "{number} {length} ")?;
+    test_lines::print(rt, buffer)?;
+    println!(rt)
 }
 
-fn in_40(book: &[u8], parent: usize, m: Model) {
+fn in_40(rt: &impl Print, book: &[u8], parent: usize, m: Model) -> io::Result<()> {
     let mut buffer = [b'.'; 40];
     let written = declaration_writing::write_declaration(book, parent, m, &mut buffer);
-    report(written, &buffer);
+    report(rt, written, &buffer)
 }
 
-fn in_17(book: &[u8], parent: usize, m: Model) {
+fn in_17(rt: &impl Print, book: &[u8], parent: usize, m: Model) -> io::Result<()> {
     let mut buffer = [b'.'; 17];
     let written = declaration_writing::write_declaration(book, parent, m, &mut buffer);
-    report(written, &buffer);
+    report(rt, written, &buffer)
 }
 
-fn in_16(book: &[u8], parent: usize, m: Model) {
+fn in_16(rt: &impl Print, book: &[u8], parent: usize, m: Model) -> io::Result<()> {
     let mut buffer = [b'.'; 16];
     let written = declaration_writing::write_declaration(book, parent, m, &mut buffer);
-    report(written, &buffer);
+    report(rt, written, &buffer)
 }
 
-fn in_2252(book: &[u8], parent: usize, m: Model) {
+fn in_2252(rt: &impl Print, book: &[u8], parent: usize, m: Model) -> io::Result<()> {
     let mut buffer = [b'.'; 2252];
     let written = declaration_writing::write_declaration(book, parent, m, &mut buffer);
-    report(written, &buffer);
+    report(rt, written, &buffer)
 }
 
-fn in_2253(book: &[u8], parent: usize, m: Model) {
+fn in_2253(rt: &impl Print, book: &[u8], parent: usize, m: Model) -> io::Result<()> {
     let mut buffer = [b'.'; 2253];
     let written = declaration_writing::write_declaration(book, parent, m, &mut buffer);
-    report(written, &buffer);
+    report(rt, written, &buffer)
 }
 
-fn in_2260(book: &[u8], parent: usize, m: Model) {
+fn in_2260(rt: &impl Print, book: &[u8], parent: usize, m: Model) -> io::Result<()> {
     let mut buffer = [b'.'; 2260];
     let written = declaration_writing::write_declaration(book, parent, m, &mut buffer);
-    report(written, &buffer);
+    report(rt, written, &buffer)
 }
 
 // The declaration fits, or it does not.
-fn written_cases() {
+fn written_cases(rt: &impl Print) -> io::Result<()> {
     let book = small_book();
-    in_40(&book, 0, model(empty(), 0));
-    in_40(&book, 2, model(one_name(1), 0));
-    in_17(&book, 2, model(one_name(1), 0));
+    in_40(rt, &book, 0, model(empty(), 0))?;
+    in_40(rt, &book, 2, model(one_name(1), 0))?;
+    in_17(rt, &book, 2, model(one_name(1), 0))
 }
 
-fn short_cases() {
+fn short_cases(rt: &impl Print) -> io::Result<()> {
     let book = small_book();
-    in_16(&book, 2, model(one_name(1), 0));
-    in_40(&book, 1, model(two_factors(), 0));
+    in_16(rt, &book, 2, model(one_name(1), 0))?;
+    in_40(rt, &book, 1, model(two_factors(), 0))
 }
 
 // Text and no name.
-fn text_cases() {
+fn text_cases(rt: &impl Print) -> io::Result<()> {
     let book = small_book();
-    in_40(&book, 0, model(empty(), 1));
-    in_16(&book, 0, model(empty(), 1));
+    in_40(rt, &book, 0, model(empty(), 1))?;
+    in_16(rt, &book, 0, model(empty(), 1))
 }
 
 // Text among names, and the same names without text.
-fn mixed_cases() {
+fn mixed_cases(rt: &impl Print) -> io::Result<()> {
     let book = small_book();
-    in_40(&book, 2, model(one_name(3), 1));
-    in_40(&book, 2, model(two_names(3), 1));
-    in_40(&book, 2, model(two_names(3), 0));
+    in_40(rt, &book, 2, model(one_name(3), 1))?;
+    in_40(rt, &book, 2, model(two_names(3), 1))?;
+    in_40(rt, &book, 2, model(two_names(3), 0))
 }
 
 // Text beside two factors, beside a factor without a star, and a text byte of 2.
-fn bad_text_cases() {
+fn bad_text_cases(rt: &impl Print) -> io::Result<()> {
     let book = small_book();
-    in_40(&book, 1, model(two_factors(), 1));
-    in_40(&book, 2, model(two_names(2), 1));
-    in_40(&book, 2, model(two_names(3), 2));
+    in_40(rt, &book, 1, model(two_factors(), 1))?;
+    in_40(rt, &book, 2, model(two_names(2), 1))?;
+    in_40(rt, &book, 2, model(two_names(3), 2))
 }
 
 // 8 before 10, 10 before 12.
-fn parent_cases() {
+fn parent_cases(rt: &impl Print) -> io::Result<()> {
     let book = small_book();
-    in_40(&book, 3, model(two_factors(), 0));
-    in_40(&book, 256, model(two_factors(), 0));
-    in_16(&book, 3, model(pairs(), 0));
+    in_40(rt, &book, 3, model(two_factors(), 0))?;
+    in_40(rt, &book, 256, model(two_factors(), 0))?;
+    in_16(rt, &book, 3, model(pairs(), 0))
 }
 
-fn record_cases() {
+fn record_cases(rt: &impl Print) -> io::Result<()> {
     let book = small_book();
-    in_16(&book, 0, model(pairs(), 0));
-    in_16(&book, 0, model(empty(), 2));
+    in_16(rt, &book, 0, model(pairs(), 0))?;
+    in_16(rt, &book, 0, model(empty(), 2))
 }
 
 // The book is checked first.
-fn book_cases() {
+fn book_cases(rt: &impl Print) -> io::Result<()> {
     let cut = cut_book();
-    in_16(&cut, 3, model(pairs(), 0));
+    in_16(rt, &cut, 3, model(pairs(), 0))?;
     let unused = unused_book();
-    in_16(&unused, 3, model(pairs(), 0));
+    in_16(rt, &unused, 3, model(pairs(), 0))
 }
 
 // The longest declaration, in a buffer that is one byte short, one that it fills, and a longer one.
-fn main() {
-    written_cases();
-    short_cases();
-    text_cases();
-    mixed_cases();
-    bad_text_cases();
-    parent_cases();
-    record_cases();
-    book_cases();
-    let mut space = io::buffer();
-    let got = libc::read(0, &mut space);
-    let n = io::count(got, &space);
-    in_2252(&space[..n], 63, model(pairs(), 0));
-    in_2253(&space[..n], 63, model(pairs(), 0));
-    in_2260(&space[..n], 63, model(pairs(), 0));
+fn main(rt: HostRuntime) -> io::Result<()> {
+    written_cases(&rt)?;
+    short_cases(&rt)?;
+    text_cases(&rt)?;
+    mixed_cases(&rt)?;
+    bad_text_cases(&rt)?;
+    parent_cases(&rt)?;
+    record_cases(&rt)?;
+    book_cases(&rt)?;
+    let book = test_lines::read_input(&rt)?;
+    in_2252(&rt, &book, 63, model(pairs(), 0))?;
+    in_2253(&rt, &book, 63, model(pairs(), 0))?;
+    in_2260(&rt, &book, 63, model(pairs(), 0))
 }

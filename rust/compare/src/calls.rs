@@ -1,6 +1,8 @@
 //! The calls that are compared, the answers that are due of each, and who answers them.
 
 use second::calls::MOST_COUNTEREXAMPLE;
+use second::document::{self, Element};
+use second::models::{records, ROW};
 use second::record::{Record, EMPTY};
 use second::within::counterexample;
 use std::fmt::Write as _;
@@ -14,6 +16,9 @@ pub trait Calls {
     fn write_from_sample(&mut self, book: &[u8], parent: usize, buffer: &mut [u8]) -> (u8, usize);
     fn write_dtd(&mut self, book: &[u8], buffer: &mut [u8]) -> (u8, usize);
     fn read_declaration(&mut self, book: &[u8], text: &[u8]) -> (u8, usize, Record);
+    fn accepts_document(&mut self, names: usize, models: &[u8], document: &[u8]) -> (u8, bool);
+    fn put_model(&mut self, names: usize, parent: usize, record: &Record, models: &mut [u8]) -> u8;
+    fn fill_models(&mut self, book: &[u8], models: &mut [u8]) -> (u8, usize);
     /// What the program prints; None where no program is compared.
     fn dtd(&mut self, book: &[u8]) -> Option<Vec<u8>>;
     /// Whether the calls other than the program's are there.
@@ -71,6 +76,18 @@ impl Calls for Second {
         (number, parent, record)
     }
 
+    fn accepts_document(&mut self, names: usize, models: &[u8], document: &[u8]) -> (u8, bool) {
+        or(second::calls::accepts_document(names, models, document), false)
+    }
+
+    fn put_model(&mut self, names: usize, parent: usize, record: &Record, models: &mut [u8]) -> u8 {
+        or(second::calls::put_model(names, parent, record, models), ()).0
+    }
+
+    fn fill_models(&mut self, book: &[u8], models: &mut [u8]) -> (u8, usize) {
+        or(second::calls::fill_models(book, models), 0)
+    }
+
     fn dtd(&mut self, book: &[u8]) -> Option<Vec<u8>> {
         Some(second::calls::dtd(book))
     }
@@ -99,6 +116,9 @@ pub enum Call {
     WriteFromSample { book: Vec<u8>, parent: usize, buffer: Vec<u8> },
     WriteDtd { book: Vec<u8>, buffer: Vec<u8> },
     ReadDeclaration { book: Vec<u8>, text: Vec<u8> },
+    AcceptsDocument { names: usize, models: Vec<u8>, document: Vec<u8> },
+    PutModel { names: usize, parent: usize, record: Record, buffer: Vec<u8> },
+    FillModels { book: Vec<u8>, buffer: Vec<u8> },
     Dtd { book: Vec<u8> },
 }
 
@@ -109,6 +129,7 @@ pub enum Answer {
     Verdict(u8, bool),
     Inclusion(u8, bool, usize, Vec<u8>),
     Written(u8, usize, Vec<u8>),
+    Put(u8, Vec<u8>),
     Read(u8, usize, Record),
     Printed(Vec<u8>),
     /// Nobody answers this call here.
@@ -149,6 +170,18 @@ impl Call {
                 let (number, parent, record) = calls.read_declaration(book, text);
                 Answer::Read(number, parent, record)
             }
+            Call::AcceptsDocument { names, models, document } => {
+                let (number, yes) = calls.accepts_document(*names, models, document);
+                Answer::Verdict(number, yes)
+            }
+            Call::PutModel { names, parent, record, buffer } => {
+                let (number, after) = lent(buffer, |bytes| calls.put_model(*names, *parent, record, bytes));
+                Answer::Put(number, after)
+            }
+            Call::FillModels { book, buffer } => {
+                let ((number, length), after) = lent(buffer, |bytes| calls.fill_models(book, bytes));
+                Answer::Written(number, length, after)
+            }
             Call::Dtd { book } => calls.dtd(book).map_or(Answer::Nobody, Answer::Printed),
         }
     }
@@ -162,6 +195,9 @@ impl Call {
             Call::WriteFromSample { .. } => "write_from_sample",
             Call::WriteDtd { .. } => "write_dtd",
             Call::ReadDeclaration { .. } => "read_declaration",
+            Call::AcceptsDocument { .. } => "accepts_document",
+            Call::PutModel { .. } => "put_model",
+            Call::FillModels { .. } => "fill_models",
             Call::Dtd { .. } => "dtd",
         }
     }
@@ -192,13 +228,22 @@ impl Call {
         let kind = answer.kind();
         let of_text = |fits: bool| if fits { "-text" } else { "" };
         let more = match (self, &kind[..]) {
-            (Call::AcceptsWord { names, record, .. }, "10") => of_text(record.is_chain(*names)),
+            (Call::AcceptsWord { names, record, .. } | Call::PutModel { names, record, .. }, "10") => {
+                of_text(record.is_chain(*names))
+            }
+            (Call::PutModel { record, .. }, "0") => of_text(record.text == 1),
             (Call::AcceptsWord { record, .. }, "yes" | "no") => of_text(record.text == 1),
             (Call::WriteDeclaration { book, record, .. }, "10") => {
                 of_text(second::book::read(book).is_ok_and(|book| record.is_chain(book.names.len())))
             }
             (Call::Within { first, second, .. }, "yes" | "no" | "empty") => of_text(first.text + second.text > 0),
             (Call::Within { names, first, second, .. }, "10") => bad_of_two(*names, first, second),
+            (Call::AcceptsDocument { names, models, document }, "yes" | "no") => verdict_on(*names, models, document),
+            (Call::AcceptsDocument { names, models, .. }, "10") => {
+                of_text(records(*names, models).iter().flatten().all(|record| record.is_chain(*names)))
+            }
+            (Call::AcceptsDocument { document, .. }, "18") if document.len() % 2 == 1 => "-odd",
+            (Call::FillModels { .. }, "0") => rows_in(answer),
             (Call::Within { names, first, second, .. }, "12") => counterexample(*names, first, second).map_or("-yes", |_| "-no"),
             _ => "",
         };
@@ -243,6 +288,19 @@ impl Call {
                 bytes("text", text);
                 let _ = writeln!(out, "text: {}", String::from_utf8_lossy(text));
             }
+            Call::AcceptsDocument { names, models, document } => {
+                bytes("models", models);
+                bytes("document", document);
+                let _ = writeln!(out, "names: {names}");
+            }
+            Call::PutModel { names, parent, record, buffer } => {
+                bytes("models", buffer);
+                let _ = writeln!(out, "names: {names}\nparent: {parent}\nrecord: {record:?}");
+            }
+            Call::FillModels { book, buffer } => {
+                bytes("book", book);
+                bytes("models", buffer);
+            }
             Call::Dtd { book } => bytes("book", book),
         }
         out
@@ -257,6 +315,47 @@ fn bad_of_two(names: usize, first: &Record, second: &Record) -> &'static str {
         [(true, _), (false, false)] => "-second",
         [(true, _), (false, true)] => "-second-text",
         _ => "-both",
+    }
+}
+
+/// All elements of a document, the root first.
+fn elements(root: &Element) -> Vec<&Element> {
+    [root].into_iter().chain(root.children.iter().flat_map(elements)).collect()
+}
+
+/// What a verdict rests on. Of a yes: whether a word is longer than a word call takes, or text is there. Of a no: whether only
+/// models are missing, or only words or only text are wrong.
+fn verdict_on(names: usize, table: &[u8], bytes: &[u8]) -> &'static str {
+    let models = records(names, table);
+    let root = document::read(names, bytes).expect("the document has a verdict");
+    let all = elements(&root);
+    let with_model = |one: &&Element| models[one.name as usize].map(|model| (model, one.word(), one.text));
+    let known: Vec<(Record, Vec<u8>, bool)> = all.iter().filter_map(with_model).collect();
+    let missing = known.len() < all.len();
+    let word = known.iter().any(|(model, word, _)| !model.accepts(word));
+    let text = known.iter().any(|(model, _, text)| *text && model.text == 0);
+    let longest = known.iter().map(|(_, word, _)| word.len()).max();
+    match (missing, word, text) {
+        (false, false, false) if longest > Some(second::calls::MOST_WORD) => "-long",
+        (false, false, false) if all.iter().any(|one| one.text) => "-text",
+        (false, false, false) => "",
+        (true, false, false) => "-model",
+        (false, true, false) => "-word",
+        (false, false, true) => "-text",
+        _ => "-several",
+    }
+}
+
+/// Whether every name has a model in a table that was filled, or some have none; with `-text` one of them allows text.
+fn rows_in(answer: &Answer) -> &'static str {
+    let Answer::Written(_, length, after) = answer else { return "" };
+    let models = records(length / ROW, after);
+    let text = models.iter().flatten().any(|model| model.text == 1);
+    match (models.iter().all(Option::is_some), text) {
+        (true, false) => "-all",
+        (true, true) => "-all-text",
+        (false, false) => "-some",
+        (false, true) => "-some-text",
     }
 }
 
@@ -293,6 +392,7 @@ impl Answer {
             | Answer::Verdict(n, _)
             | Answer::Inclusion(n, ..)
             | Answer::Written(n, ..)
+            | Answer::Put(n, _)
             | Answer::Read(n, ..) => n.to_string(),
             Answer::Printed(out) => match out.strip_prefix(b"refused ") {
                 Some(number) => String::from_utf8_lossy(number).trim().to_string(),
@@ -311,6 +411,7 @@ impl Answer {
                     String::from_utf8_lossy(buffer)
                 )
             }
+            Answer::Put(number, buffer) => format!("number {number}, models then {}", hex(buffer)),
             Answer::Inclusion(number, yes, length, buffer) => {
                 format!("number {number}, {}, length {length}, buffer then {}", if *yes { "yes" } else { "no" }, hex(buffer))
             }

@@ -3,7 +3,7 @@
 use crate::calls::{Answer, Call};
 use crate::chance::Chance;
 use crate::make::*;
-use crate::{dtds, forms, pairs, symbols, unused};
+use crate::{documents, dtds, forms, pairs, symbols, unused};
 use second::book::{bytes_of, Block};
 use second::record::{Record, EMPTY};
 
@@ -43,6 +43,13 @@ pub const KINDS: &[Kind] = &[
     Kind { name: "small", cases: 1000, fixed: false, make: small },
     Kind { name: "dtds", cases: 400, fixed: false, make: dtds::calls },
     Kind { name: "large", cases: 12, fixed: false, make: large },
+    Kind { name: "faults", cases: 1, fixed: true, make: documents::faults },
+    Kind { name: "depths", cases: 1, fixed: true, make: documents::depths },
+    Kind { name: "tables", cases: 1, fixed: true, make: documents::tables },
+    Kind { name: "lengths", cases: 1, fixed: true, make: documents::lengths },
+    Kind { name: "documents", cases: 4000, fixed: false, make: documents::by_chance },
+    Kind { name: "models", cases: 600, fixed: false, make: documents::models },
+    Kind { name: "bytes", cases: documents::PAIR_KINDS, fixed: true, make: documents::every_pair },
     Kind { name: "symbols", cases: symbols::CASES, fixed: true, make: symbols::calls },
     Kind { name: "within", cases: 6000, fixed: false, make: pairs::by_chance },
     Kind { name: "pairs", cases: pairs::CHAINS, fixed: true, make: pairs::all_pairs },
@@ -130,6 +137,7 @@ fn large(c: &mut Chance, case: u64) -> Vec<Due> {
         calls_of_parent(c, &parts, &book, parent, &mut calls);
     }
     calls.extend(dtds::calls_of_buffers(c, &book));
+    calls.push(Call::FillModels { book: book.clone(), buffer: documents::rows_buffer(c, &book) });
     calls.push(Call::Dtd { book: book.clone() });
     let mut longer = book.clone();
     longer.extend(vec![0; 60_001 - size]);
@@ -138,6 +146,7 @@ fn large(c: &mut Chance, case: u64) -> Vec<Due> {
     for book in [longer, bad, parts.bytes()] {
         calls.push(Call::ModelOfParent { book: book.clone(), parent: 0 });
         calls.push(Call::WriteDtd { book: book.clone(), buffer: buffer(c, dtds::LONGEST) });
+        calls.push(Call::FillModels { book: book.clone(), buffer: documents::rows_buffer(c, &book) });
         calls.push(Call::Dtd { book });
     }
     undue(calls)
@@ -152,6 +161,7 @@ fn calls_of_book(c: &mut Chance, book: &[u8], parent: usize) -> Vec<Call> {
         Call::WriteDeclaration { book: book(), parent, record: EMPTY, buffer: buffer(c, 60) },
         Call::WriteDtd { book: book(), buffer: buffer(c, 40) },
         Call::ReadDeclaration { book: book(), text: b"<!ELEMENT a EMPTY>".to_vec() },
+        Call::FillModels { book: book(), buffer: documents::rows_buffer(c, &book()) },
     ]
 }
 
@@ -391,9 +401,11 @@ fn limit_books() -> Books {
 pub fn refused(call: Call, number: u8) -> Due {
     let due = match &call {
         Call::ModelOfParent { .. } => Answer::Model(number, EMPTY),
-        Call::WriteFromSample { buffer, .. } | Call::WriteDeclaration { buffer, .. } | Call::WriteDtd { buffer, .. } => {
-            Answer::Written(number, 0, buffer.clone())
-        }
+        Call::WriteFromSample { buffer, .. }
+        | Call::WriteDeclaration { buffer, .. }
+        | Call::WriteDtd { buffer, .. }
+        | Call::FillModels { buffer, .. } => Answer::Written(number, 0, buffer.clone()),
+        Call::AcceptsDocument { .. } => Answer::Verdict(number, false),
         Call::Dtd { .. } => Answer::Printed(format!("refused {number}\n").into_bytes()),
         _ => Answer::Read(number, 0, EMPTY),
     };

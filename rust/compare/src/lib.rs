@@ -1,9 +1,11 @@
 //! Compares the proved library and program with the second implementation: many cases by chance, each given by a seed, a kind and
-//! a number, the cases that the papers write out, every short model of a declaration, and every pair of chains over three names.
+//! a number, the cases that the papers write out, every short model of a declaration, every pair of chains over three names, and
+//! every fault at every pair of small documents.
 
 pub mod calls;
 pub mod cases;
 pub mod chance;
+pub mod documents;
 pub mod dtds;
 pub mod forms;
 pub mod make;
@@ -36,6 +38,9 @@ const DUE: &[(&str, &str)] = &[
     ("write_from_sample", "0 text mixed 1 2 3 4 5 6 7 16 17 8 9 12"),
     ("write_dtd", "0 text mixed 1 2 3 4 5 6 7 16 17 12"),
     ("read_declaration", "0 text mixed 1 2 3 4 5 6 7 16 17 13 14 15"),
+    ("accepts_document", "yes yes-text yes-long no-model no-word no-text no-several 1 3 10 10-text 18-odd 18 19"),
+    ("put_model", "0 0-text 3 8 10 10-text 12"),
+    ("fill_models", "0-all 0-all-text 0-some 0-some-text 1 2 3 4 5 6 7 16 17 12"),
     ("dtd", "0 text mixed 1 2 3 4 5 6 7 16 17"),
 ];
 

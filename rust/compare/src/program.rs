@@ -81,6 +81,18 @@ mod library {
             (number, parent, back(model))
         }
 
+        fn accepts_document(&mut self, names: usize, models: &[u8], document: &[u8]) -> (u8, bool) {
+            raw::accepts_document(names, models, document)
+        }
+
+        fn put_model(&mut self, names: usize, parent: usize, record: &Record, models: &mut [u8]) -> u8 {
+            raw::put_model(names, parent, to(record), models)
+        }
+
+        fn fill_models(&mut self, book: &[u8], models: &mut [u8]) -> (u8, usize) {
+            raw::fill_models(book, models)
+        }
+
         fn dtd(&mut self, book: &[u8]) -> Option<Vec<u8>> {
             self.dtd.as_ref().map(|program| printed(program, book))
         }
@@ -115,6 +127,18 @@ impl Calls for Proved {
     }
 
     fn read_declaration(&mut self, _: &[u8], _: &[u8]) -> (u8, usize, Record) {
+        unreachable!()
+    }
+
+    fn accepts_document(&mut self, _: usize, _: &[u8], _: &[u8]) -> (u8, bool) {
+        unreachable!()
+    }
+
+    fn put_model(&mut self, _: usize, _: usize, _: &Record, _: &mut [u8]) -> u8 {
+        unreachable!()
+    }
+
+    fn fill_models(&mut self, _: &[u8], _: &mut [u8]) -> (u8, usize) {
         unreachable!()
     }
 

@@ -3,6 +3,7 @@
 use crate::calls::Call;
 use crate::cases::{calls_of_limit, edge_parents, refused, Books, Due};
 use crate::chance::Chance;
+use crate::documents;
 use crate::make::*;
 use second::book::{bytes_of, Block, MOST_BYTES};
 use second::record::{Record, EMPTY};
@@ -116,6 +117,7 @@ fn faulty_calls(word: &[u8]) -> Vec<(Call, u8)> {
         (write(2, Record { text: 2, ..EMPTY }, 99), 10),
         (write(2, EMPTY, 19), 12),
         (Call::WriteDtd { book: book(), buffer: vec![7; 16] }, 12),
+        (Call::FillModels { book: book(), buffer: vec![7; 392] }, 12),
         (read(b""), 13),
         (read(b"<!ELEMENT n02 (n01,)>"), 13),
         (read(b"<!ELEMENT x EMPTY>"), 14),
@@ -151,6 +153,7 @@ fn calls_of_any(c: &mut Chance, names: &[Vec<u8>], book: &[u8]) -> Vec<Call> {
         calls.push(Call::WriteDeclaration { book: book(), parent, record, buffer: buffer(c, size) });
         calls.push(Call::WriteDtd { book: book(), buffer: buffer(c, size) });
     }
+    calls.push(Call::FillModels { book: book(), buffer: documents::rows_buffer(c, &book()) });
     calls.extend([text, damaged].map(|text| Call::ReadDeclaration { book: book(), text }));
     calls
 }

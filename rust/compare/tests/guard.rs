@@ -59,6 +59,20 @@ impl Calls for Beside {
         Second.read_declaration(book, text)
     }
 
+    fn accepts_document(&mut self, names: usize, models: &[u8], document: &[u8]) -> (u8, bool) {
+        Second.accepts_document(names, models, document)
+    }
+
+    fn put_model(&mut self, names: usize, parent: usize, record: &Record, models: &mut [u8]) -> u8 {
+        self.change(models);
+        Second.put_model(names, parent, record, models)
+    }
+
+    fn fill_models(&mut self, book: &[u8], models: &mut [u8]) -> (u8, usize) {
+        self.change(models);
+        Second.fill_models(book, models)
+    }
+
     fn dtd(&mut self, book: &[u8]) -> Option<Vec<u8>> {
         Second.dtd(book)
     }
@@ -71,7 +85,7 @@ fn of(name: &str) -> &'static [Kind] {
 
 #[test]
 fn bytes_beside_a_buffer() {
-    for kind in ["writing", "small", "dtds", "within"] {
+    for kind in ["writing", "small", "dtds", "models", "tables", "within"] {
         assert!(run_kinds(of(kind), SEED, 1, &mut Second, &mut Reached::default()).is_ok(), "{kind}");
         for mut beside in [Beside::Before(1), Beside::Before(64), Beside::Behind(0), Beside::Behind(63)] {
             assert!(run_kinds(of(kind), SEED, 1, &mut beside, &mut Reached::default()).is_err(), "{kind}");

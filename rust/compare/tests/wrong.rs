@@ -1,7 +1,11 @@
 //! The comparison finds wrong programs: the traps and worthless versions of paper 01, answers that are wrong at one limit,
 //! readers that take less or more than request U1 of paper 02 allows, DTDs that are not those of request U2, answers on two
-//! records that are not those of request U4, text that is not that of request U5, and unused names that are not those
-//! of request U6. Each is the second implementation with one fault.
+//! records that are not those of request U4, text that is not that of request U5, unused names that are not those of
+//! request U6, and documents and tables of models that are not those of request U7. Each is the second implementation
+//! with one fault.
+
+#[path = "wrong/documents.rs"]
+mod documents;
 
 use compare::calls::{Calls, Second};
 use compare::cases::{Kind, KINDS};
@@ -149,6 +153,99 @@ faults! {
     TextOfFirstUnchecked,
     TextOfSecondUnchecked,
     TextCompared,
+    // Of documents: depth,
+    Depth33Taken,
+    Depth32Refused,
+    DepthUnchecked,
+    TooDeepIsBad,
+    // pairs that are taken,
+    KindThreeTaken,
+    NumberEqualToNTaken,
+    NumberOfTextTaken,
+    CloseUnlikeOpenTaken,
+    CloseOfNothingTaken,
+    TextBeforeRootTaken,
+    TextBehindRootTaken,
+    SecondRootTaken,
+    NoRootTaken,
+    OpenLeftTaken,
+    OddLengthTaken,
+    // the order of the checks,
+    TooDeepBeforeBad,
+    TooDeepBehindAll,
+    OddBehindPairs,
+    OddBeforeModels,
+    PairsBeforeModels,
+    CountBeforeLength,
+    LongerDocumentTaken,
+    LongestDocumentRefused,
+    NamesOfDocumentCut,
+    RefusedDocumentYes,
+    // its table,
+    ModelsUnchecked,
+    FirstModelAloneChecked,
+    LastModelUnchecked,
+    UsedModelsAloneChecked,
+    TextOfRowUnchecked,
+    RowsOver64Names,
+    RowsFromNOnChecked,
+    CutRowTaken,
+    EmptyTableRefused,
+    ShortTableRefused,
+    FirstByteOneAlone,
+    FirstByteNotLookedAt,
+    FirstByteHalved,
+    MissingModelPasses,
+    MissingModelRefused,
+    // and the verdict.
+    AlwaysValid,
+    NeverValid,
+    RootAloneLookedAt,
+    RootNotLookedAt,
+    LeavesNotLookedAt,
+    Depth32NotLookedAt,
+    WordCutAt255,
+    LongWordIsWrong,
+    WordBackward,
+    LastChildNotLookedAt,
+    EndOfWordNotLookedAt,
+    WordLostBehindGrandchild,
+    TextIsChild,
+    TextAllowedEverywhere,
+    TextNeverAllowed,
+    TextOfRootNotLookedAt,
+    TextBesideChildrenAllowed,
+    TextByModelOfParent,
+    // Of a table of models: one record put,
+    PutIntoNextRow,
+    PutFrom130,
+    PutOneByteLess,
+    PutByteBehind,
+    PutFirstByteIsCount,
+    PutTextLost,
+    PutModesFirst,
+    PutBehindNamesTaken,
+    PutUnchecked,
+    PutTextUnchecked,
+    PutNeedsAllRows,
+    PutExactRefused,
+    PutParentBeforeCount,
+    PutRecordBeforeParent,
+    PutTableBeforeRecord,
+    PutNamesCut,
+    PutParentCut,
+    PutWhereRefused,
+    // and all of a book.
+    FillKeepsOldRow,
+    FillFirstByteAlone,
+    FillNoBlockIsEmpty,
+    FillTextLost,
+    FillLastNameLeftOut,
+    FillExactRefused,
+    FillTableBeforeBook,
+    FillWhereRefused,
+    FillBytesBehind,
+    FillLengthIsCount,
     // Of the writer.
     OneByteShortTaken,
     ExactRefused,
@@ -522,6 +619,18 @@ impl Calls for Wrong {
             },
             _ => (self.number(book, number), parent, record),
         }
+    }
+
+    fn accepts_document(&mut self, names: usize, models: &[u8], document: &[u8]) -> (u8, bool) {
+        self.judge(names, models, document)
+    }
+
+    fn put_model(&mut self, names: usize, parent: usize, record: &Record, models: &mut [u8]) -> u8 {
+        self.put_record(names, parent, record, models)
+    }
+
+    fn fill_models(&mut self, book: &[u8], models: &mut [u8]) -> (u8, usize) {
+        self.fill(book, models)
     }
 
     fn dtd(&mut self, book: &[u8]) -> Option<Vec<u8>> {
@@ -1047,7 +1156,7 @@ fn faults(from: Fault, to: Fault) -> impl Iterator<Item = Fault> {
 
 #[test]
 fn every_fault_is_found() {
-    // Those of two records have a test of their own.
+    // Those of two records, of documents and of tables of models have tests of their own.
     for fault in faults(FAULTS[0], EmptyWordNotLookedAt).chain(faults(OneByteShortTaken, None)) {
         // Without the first two kinds, which have samples, texts and unused names written out: chance has to find it.
         found(fault, &KINDS[2..]);
@@ -1077,11 +1186,41 @@ fn every_fault_of_the_whole_dtd_is_found_by_its_own_kind() {
 
 #[test]
 fn every_fault_of_two_records_is_found_by_chance_and_by_small_chains() {
-    for fault in faults(EmptyWordNotLookedAt, OneByteShortTaken) {
+    for fault in faults(EmptyWordNotLookedAt, Depth33Taken) {
         found(fault, kind("within"));
     }
     for fault in faults(EmptyWordNotLookedAt, FirstUnchecked) {
         found(fault, kind("pairs"));
+    }
+}
+
+/// Some kind of these names finds the fault.
+fn found_by_one_of(fault: Fault, names: &[&str]) {
+    let finds = |name: &&&str| run_kinds(kind(name), SEED, 1, &mut Wrong(fault, 0), &mut Reached::default()).is_err();
+    let name = names.iter().find(finds).unwrap_or_else(|| panic!("{fault:?} is not found"));
+    found(fault, kind(name));
+}
+
+#[test]
+fn every_fault_of_documents_is_found_in_small_ones_and_by_chance() {
+    // What only a document of about 60,000 bytes shows.
+    let not_by_chance = [LongerDocumentTaken, LongestDocumentRefused, CountBeforeLength];
+    for fault in faults(Depth33Taken, PutIntoNextRow) {
+        found_by_one_of(fault, &["faults", "depths", "tables", "lengths"]);
+        if !not_by_chance.contains(&fault) {
+            found(fault, kind("documents"));
+        }
+    }
+}
+
+#[test]
+fn every_fault_of_a_table_of_models_is_found() {
+    for fault in faults(PutIntoNextRow, FillKeepsOldRow) {
+        found(fault, kind("tables"));
+        found(fault, kind("models"));
+    }
+    for fault in faults(FillKeepsOldRow, OneByteShortTaken) {
+        found(fault, kind("models"));
     }
 }
 

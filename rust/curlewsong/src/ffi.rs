@@ -72,4 +72,13 @@ extern "C" {
     ) -> Written;
     pub fn curlewsong_write_dtd(book: *const u8, book_length: usize, buffer: *mut u8, buffer_length: usize) -> Written;
     pub fn curlewsong_read_declaration(book: *const u8, book_length: usize, text: *const u8, text_length: usize) -> Read;
+    pub fn curlewsong_accepts_document(
+        names: usize,
+        models: *const u8,
+        models_length: usize,
+        document: *const u8,
+        document_length: usize,
+    ) -> Verdict;
+    pub fn curlewsong_put_model(names: usize, parent: usize, model: Model, models: *mut u8, models_length: usize) -> u8;
+    pub fn curlewsong_fill_models(book: *const u8, book_length: usize, models: *mut u8, models_length: usize) -> Written;
 }

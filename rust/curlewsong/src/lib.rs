@@ -20,6 +20,16 @@ pub const LONGEST_DTD: usize = 144_256;
 /// The most names of the word that shows that a model is not within another: a buffer needs this many places.
 pub const LONGEST_COUNTEREXAMPLE: usize = 65;
 
+/// The bytes of a row in a table of models: a byte that is 0 where there is no model, the count, the text byte, the factors and
+/// the modes.
+pub const MODEL_ROW: usize = 3 + 2 * PLACES;
+
+/// The bytes of a table of models with a row for each of 64 names, the most that are ever looked at or written.
+pub const LONGEST_MODELS: usize = 64 * MODEL_ROW;
+
+/// The most bytes of a document.
+pub const LONGEST_DOCUMENT: usize = 60_000;
+
 /// The model that accepts the empty word alone and allows no text; also what a refused call has in the place of a model.
 pub const EMPTY: Model = Model { count: 0, factor: [NONE; PLACES], mode: [0; PLACES], text: 0 };
 
@@ -47,6 +57,8 @@ impl std::fmt::Display for Refusal {
             15 => "the model in the text has a name twice",
             16 => "a text byte in the book is above 1",
             17 => "a name in the book is neither a parent nor a child in any block",
+            18 => "the document has an odd length, a pair with a bad kind or number, or pairs that do not form one root element",
+            19 => "the document opens an element at depth 33",
             _ => "no refusal of this table",
         };
         write!(f, "refused {}: {reason}", self.0)
@@ -116,6 +128,31 @@ pub fn read_declaration(book: &[u8], text: &[u8]) -> Result<(usize, Model), Refu
     answer(a.0, (a.1, a.2))
 }
 
+/// Whether a document over so many names is valid by the models of a table: every element has a model there, its children in
+/// order are a word of it, of any length, and text stands only where the model allows it.
+///
+/// The document is byte pairs, a kind and a number: 0 opens the element of that name, 1 closes it, and 2 is text, with number 0.
+/// It has at most `LONGEST_DOCUMENT` bytes, and its elements are at most 32 deep, the root being at depth 1. The table has a row
+/// of `MODEL_ROW` bytes for each name. A name whose row is not whole, or begins with 0, has no model.
+pub fn accepts_document(names: usize, models: &[u8], document: &[u8]) -> Result<bool, Refusal> {
+    let a = raw::accepts_document(names, models, document);
+    answer(a.0, a.1)
+}
+
+/// Puts the model of a parent into its row of a table, with 1 as its first byte. The table needs `MODEL_ROW * (parent + 1)` bytes
+/// or more, and all other bytes keep their values. A new table is all zeros: no name has a model.
+pub fn put_model(names: usize, parent: usize, model: Model, models: &mut [u8]) -> Result<(), Refusal> {
+    answer(raw::put_model(names, parent, model, models), ())
+}
+
+/// Writes the rows of all names of a book into the front of a table, each with the model from its blocks or without one, and
+/// answers their length, `MODEL_ROW` for each name. A table of `LONGEST_MODELS` bytes is never too short; the bytes behind the
+/// rows keep their values.
+pub fn fill_models(book: &[u8], models: &mut [u8]) -> Result<usize, Refusal> {
+    let a = raw::fill_models(book, models);
+    answer(a.0, a.1)
+}
+
 /// The same calls with the refusal's number and the values beside it, whatever the number is: for comparisons.
 pub mod raw {
     use super::ffi;
@@ -162,5 +199,20 @@ pub mod raw {
     pub fn read_declaration(book: &[u8], text: &[u8]) -> (u8, usize, Model) {
         let a = unsafe { ffi::curlewsong_read_declaration(book.as_ptr(), book.len(), text.as_ptr(), text.len()) };
         (a.refusal, a.parent, a.model)
+    }
+
+    pub fn accepts_document(names: usize, models: &[u8], document: &[u8]) -> (u8, bool) {
+        let a =
+            unsafe { ffi::curlewsong_accepts_document(names, models.as_ptr(), models.len(), document.as_ptr(), document.len()) };
+        (a.refusal, a.yes)
+    }
+
+    pub fn put_model(names: usize, parent: usize, model: Model, models: &mut [u8]) -> u8 {
+        unsafe { ffi::curlewsong_put_model(names, parent, model, models.as_mut_ptr(), models.len()) }
+    }
+
+    pub fn fill_models(book: &[u8], models: &mut [u8]) -> (u8, usize) {
+        let a = unsafe { ffi::curlewsong_fill_models(book.as_ptr(), book.len(), models.as_mut_ptr(), models.len()) };
+        (a.refusal, a.length)
     }
 }

@@ -168,6 +168,7 @@ fn refused_by_every_call(book: &[u8], number: u8) {
             assert_eq!(raw::write_declaration(book, parent, EMPTY, &mut buffer), (number, 0));
             assert_eq!(raw::write_declaration(book, parent, bad, &mut buffer), (number, 0));
             assert_eq!(raw::write_dtd(book, &mut buffer), (number, 0));
+            assert_eq!(raw::fill_models(book, &mut buffer), (number, 0));
             assert_eq!(buffer, vec![7; size]);
         }
     }
@@ -265,8 +266,112 @@ fn records_with_text() {
     }
 }
 
+/// The byte pairs of a document: a capital letter opens the element of that name, a small one closes it, and `#` is text.
+fn document(signs: &str) -> Vec<u8> {
+    let pair = |sign: u8| match sign {
+        b'#' => [2, 0],
+        b'A'..=b'Z' => [0, sign - b'A'],
+        _ => [1, sign - b'a'],
+    };
+    signs.bytes().flat_map(pair).collect()
+}
+
+#[test]
+fn documents_by_the_models_of_a_book() {
+    // a (#PCDATA|b|c)*, b (#PCDATA), c EMPTY.
+    let mut models = [7; LONGEST_MODELS];
+    assert_eq!(fill_models(TEXT_BOOK, &mut models), Ok(3 * MODEL_ROW));
+    for (signs, yes) in
+        [("A#CcB#b#a", true), ("B##b", true), ("Cc", true), ("C#c", false), ("ABCcba", false), ("AAaa", false), ("CBbc", false)]
+    {
+        assert_eq!(accepts_document(3, &models, &document(signs)), Ok(yes), "{signs}");
+    }
+    // Without the last byte of its row, or with 0 in front of it, c has no model.
+    let good = document("ABbCca");
+    assert_eq!(accepts_document(3, &models, &good), Ok(true));
+    assert_eq!(accepts_document(3, &models[..3 * MODEL_ROW - 1], &good), Ok(false));
+    assert_eq!(accepts_document(3, &models[..3 * MODEL_ROW - 1], &document("ABba")), Ok(true));
+    models[2 * MODEL_ROW] = 0;
+    assert_eq!(accepts_document(3, &models, &good), Ok(false));
+    assert_eq!(put_model(3, 2, EMPTY, &mut models), Ok(()));
+    assert_eq!(accepts_document(3, &models, &good), Ok(true));
+    assert_eq!(accepts_document(3, &[], &good), Ok(false));
+}
+
+#[test]
+fn documents_that_are_refused() {
+    let mut models = vec![0; 2 * MODEL_ROW];
+    put_model(2, 0, chain(&[(&[0, 1], 3)]), &mut models).unwrap();
+    put_model(2, 1, EMPTY, &mut models).unwrap();
+    for signs in ["", "#", "a", "A", "AB", "Ab", "ABab", "Aa#", "AaAa", "Aaa", "ACca", "#Aa"] {
+        assert_eq!(raw::accepts_document(2, &models, &document(signs)), (18, false), "{signs}");
+    }
+    for pairs in [&[0, 0, 1][..], &[3, 0], &[0, 0, 2, 1, 1, 0], &[0, 0, 255, 0, 1, 0]] {
+        assert_eq!(raw::accepts_document(2, &models, pairs), (18, false), "{pairs:?}");
+    }
+    let nested = |depth: usize| document(&("A".repeat(depth) + &"a".repeat(depth)));
+    assert_eq!(accepts_document(2, &models, &nested(32)), Ok(true));
+    assert_eq!(raw::accepts_document(2, &models, &nested(33)), (19, false));
+    assert_eq!(accepts_document(2, &models, &[&nested(32)[..64], &[0, 2]].concat()), Err(Refusal(18)));
+    // A word of 14,999 names; then one byte and two more, which is seen before the count of names.
+    let longest = document(&format!("A{}a", "Bb".repeat(14_999)));
+    assert_eq!(longest.len(), LONGEST_DOCUMENT);
+    assert_eq!(accepts_document(2, &models, &longest), Ok(true));
+    for more in 1..3 {
+        assert_eq!(raw::accepts_document(0, &models, &[&longest[..], &vec![0; more]].concat()), (1, false));
+    }
+    assert_eq!(accepts_document(2, &models, &longest[1..]), Err(Refusal(18)));
+    // The count, then each record.
+    for names in [0, 65, 256 + 2, usize::MAX] {
+        assert_eq!(raw::accepts_document(names, &models, &[9]), (3, false));
+    }
+    for (at, byte) in [(1, 2), (MODEL_ROW + 2, 2), (MODEL_ROW + 5, 0), (MODEL_ROW + 67, 1)] {
+        let mut bad = models.clone();
+        bad[at] = byte;
+        assert_eq!(raw::accepts_document(2, &bad, &[9]), (10, false), "{at}");
+        bad[at / MODEL_ROW * MODEL_ROW] = 0;
+        assert_eq!(accepts_document(2, &bad, &[9]), Err(Refusal(18)), "{at}");
+    }
+}
+
+#[test]
+fn models_in_a_table() {
+    let mixed = Model { text: 1, ..chain(&[(&[0, 2], 3)]) };
+    let bad = Model { count: 1, ..EMPTY };
+    for parent in 0..3 {
+        let mut models = [7; 3 * MODEL_ROW];
+        for (names, of, model, number) in
+            [(0, 9, bad, 3), (65, 0, mixed, 3), (3, 3, bad, 8), (3, parent, bad, 10), (2, 0, mixed, 10)]
+        {
+            assert_eq!(raw::put_model(names, of, model, &mut models[..9]), number);
+        }
+        assert_eq!(put_model(3, usize::MAX, mixed, &mut models), Err(Refusal(8)));
+        let (from, to) = (parent * MODEL_ROW, (parent + 1) * MODEL_ROW);
+        assert_eq!(put_model(3, parent, mixed, &mut models[..to - 1]), Err(Refusal(12)));
+        assert_eq!(models, [7; 3 * MODEL_ROW]);
+        assert_eq!(put_model(3, parent, mixed, &mut models[..to]), Ok(()));
+        let row = [&[1, 1, 1][..], &mixed.factor, &mixed.mode].concat();
+        assert_eq!(models[from..to], row);
+        assert!(models[..from].iter().chain(&models[to..]).all(|&b| b == 7));
+    }
+    // The names a and c of this book have blocks, b has none.
+    let rows = 3 * MODEL_ROW;
+    let mut models = [7; LONGEST_MODELS];
+    assert_eq!(fill_models(TWO_PARENTS, &mut models[..rows - 1]), Err(Refusal(12)));
+    assert_eq!(raw::fill_models(&TWO_PARENTS[1..], &mut models), (3, 0));
+    assert_eq!(models, [7; LONGEST_MODELS]);
+    assert_eq!(raw::fill_models(TWO_PARENTS, &mut models[..rows]), (0, rows));
+    let mut put = [7; LONGEST_MODELS];
+    put[MODEL_ROW..2 * MODEL_ROW].fill(0);
+    for parent in [0, 2] {
+        put_model(3, parent, model_of_parent(TWO_PARENTS, parent).unwrap(), &mut put).unwrap();
+    }
+    assert_eq!(models, put);
+}
+
 #[test]
 fn reasons() {
+    assert_eq!(Refusal(19).to_string(), "refused 19: the document opens an element at depth 33");
     assert_eq!(Refusal(17).to_string(), "refused 17: a name in the book is neither a parent nor a child in any block");
     assert_eq!(Refusal(16).to_string(), "refused 16: a text byte in the book is above 1");
     assert_eq!(Refusal(9).to_string(), "refused 9: no block in the book has the parent whose model is wanted from the sample");

@@ -1,4 +1,5 @@
 //! bench [--program PROGRAM]..
+//! bench --documents
 //! bench --books FOLDER
 //! bench --list
 //! bench --once FIGURE WHO KIND N
@@ -6,19 +7,24 @@
 //! Times on books near 60,000 bytes, each the least and the median of many runs in one process after a warm-up: the whole DTD
 //! of a book, all its declarations a parent at a time, the model of one parent, a word accepted or not (one as long as the call
 //! allows, and its first three names), a declaration written and read. Then times on pairs of models: whether one is within the
-//! other. The plain code is timed, for the whole DTD also the program that rescans for each parent, for the words also acceptance
-//! that copies the record for each name, and with the feature `library` the static library, all on the same inputs. Output
-//! buffers are lent as they are and not cleared between runs. Behind the times are tables of them in Markdown.
+//! other. Then times on documents of 60,000 bytes, judged by tables of models. The plain code is timed, for the whole DTD also
+//! the program that rescans for each parent, for the words also acceptance that copies the record for each name, with the
+//! feature `library` the static library, and with the feature `libxml2` libxml2's validation of the same documents as XML, all
+//! on the same inputs. Output buffers are lent as they are and not cleared between runs. Neither is it timed how libxml2 parses
+//! a document and its DTD, nor how the pairs of a document are made. Behind the times are tables of them in Markdown.
 //!
 //! --program times whole programs from start to end, a book on standard input; the table has the first beside each other one.
+//! --documents times the documents alone.
 //! --books writes the books into a folder, as files KIND.book.
-//! --list prints what is timed: lines of figure, who and kind, with tabs between. A kind is one of books or of pairs.
+//! --list prints what is timed on books and pairs: lines of figure, who and kind, with tabs between. A kind is one of these.
 //! --once makes N calls of one of these and prints nothing: for a count of instructions (tools/instructions.py).
 
 use plain::books::{timed_parent, KINDS};
+use plain::documents::{self, Document};
 use plain::inclusion::LONGEST_COUNTEREXAMPLE;
 use plain::pairs::{self, Pairs};
 use std::collections::BTreeMap;
+use std::fmt::Display;
 use std::hint::black_box;
 use std::io::Write;
 use std::path::Path;
@@ -35,6 +41,7 @@ const READ: &str = "declaration read";
 const PROGRAM: &str = "whole program";
 const WITHIN: &str = "within: yes";
 const NOT_WITHIN: &str = "within: no";
+const JUDGED: &str = "a document judged";
 
 /// The figures of a book in the order of the tables' columns.
 const FIGURES: &[&str] = &[WHOLE, ONE_AT_A_TIME, MODEL, WORD, SHORT, WRITTEN, READ];
@@ -177,6 +184,66 @@ fn works_on_pairs(pairs: &Pairs) -> Vec<Work<'_>> {
     plain_works_on_pairs(pairs).into_iter().chain(library_works_on_pairs(pairs)).collect()
 }
 
+/// What is timed on a document: its table of models and its bytes.
+struct Judged {
+    table: Vec<u8>,
+    bytes: Vec<u8>,
+}
+
+fn plain_works_on_document(judged: &Judged) -> Vec<Work<'_>> {
+    let Judged { table, bytes } = judged;
+    vec![work(JUDGED, "plain", move || plain::accepts_document(64, black_box(table), black_box(bytes)))]
+}
+
+#[cfg(feature = "library")]
+fn library_works_on_document(Judged { table, bytes }: &Judged, yes: bool) -> Vec<Work<'_>> {
+    assert_eq!(curlewsong::accepts_document(64, table, bytes), Ok(yes));
+    vec![work(JUDGED, "library", move || curlewsong::accepts_document(64, black_box(table), black_box(bytes)))]
+}
+
+#[cfg(not(feature = "library"))]
+fn library_works_on_document(_: &Judged, _: bool) -> Vec<Work<'_>> {
+    vec![]
+}
+
+#[cfg(feature = "libxml2")]
+fn libxml2_works_on_document(document: &Document, yes: bool) -> Vec<Work<'static>> {
+    let mut parsed = plain::libxml2::Parsed::new(&document.xml(), &document.dtd());
+    assert_eq!(parsed.is_valid(), yes);
+    vec![work(JUDGED, "libxml2", move || parsed.is_valid())]
+}
+
+#[cfg(not(feature = "libxml2"))]
+fn libxml2_works_on_document(_: &Document, _: bool) -> Vec<Work<'static>> {
+    vec![]
+}
+
+/// Times all documents, and gives a row for each with its answer, in nanoseconds for each pair.
+fn times_of_documents() -> Vec<(String, Times)> {
+    let mut rows = Vec::new();
+    for (kind, make, yes) in documents::KINDS {
+        let document = make();
+        let judged = Judged { table: document.table(), bytes: document.pairs.concat() };
+        let answer = if *yes { "yes" } else { "no" };
+        println!("{kind}: {} bytes, the answer is {answer}", judged.bytes.len());
+        let works = plain_works_on_document(&judged).into_iter().chain(library_works_on_document(&judged, *yes));
+        let times = times_of(works.chain(libxml2_works_on_document(&document, *yes)));
+        let for_pair = |time: f64| time * 1000.0 / documents::PAIRS as f64;
+        rows.push((format!("{kind}: {answer}"), times.into_iter().map(|(whose, time)| (whose, for_pair(time))).collect()));
+    }
+    rows
+}
+
+/// The table of documents, where plain is not alone.
+fn table_of_documents(rows: &[(String, Times)]) {
+    let columns = match (cfg!(feature = "library"), cfg!(feature = "libxml2")) {
+        (_, true) => beside(JUDGED, "libxml2", ""),
+        (true, false) => beside(JUDGED, "plain", "").split_off(1),
+        _ => return,
+    };
+    table("Whole documents, in nanoseconds a pair:", "document", &columns, rows);
+}
+
 /// A work that is timed: how often it is called in one run, and the times of the runs so far.
 struct Timed<'a> {
     work: Work<'a>,
@@ -254,7 +321,7 @@ struct Column<'a> {
 }
 
 impl Column<'_> {
-    /// Two times in microseconds, with at least three digits each, and their ratio.
+    /// Two times, with at least three digits each, and their ratio.
     fn cell(&self, times: &Times) -> String {
         let [first, second] = [self.first, self.second].map(|who| times[&(self.figure, who.to_string())]);
         let digits = |time: f64| match time {
@@ -267,7 +334,7 @@ impl Column<'_> {
     }
 }
 
-fn table(title: &str, input: &str, columns: &[Column], rows: &[(&str, Times)]) {
+fn table(title: &str, input: &str, columns: &[Column], rows: &[(impl Display, Times)]) {
     let heads: Vec<&str> = columns.iter().map(|column| &column.head[..]).collect();
     println!("\n{title}\n\n| {input} | {} |\n|---|{}", heads.join(" | "), "---|".repeat(columns.len()));
     for (kind, times) in rows {
@@ -318,10 +385,12 @@ fn time_all(programs: &[String]) {
         println!("{}", kind.name);
         rows_of_pairs.push((kind.name, times_of(works_on_pairs(&kind.pairs()).into_iter())));
     }
+    let rows_of_documents = times_of_documents();
     tables(programs, &rows);
     if cfg!(feature = "library") {
         table("One model within another, library / plain:", "models", &beside_plain(&[WITHIN, NOT_WITHIN]), &rows_of_pairs);
     }
+    table_of_documents(&rows_of_documents);
 }
 
 fn list() {
@@ -368,7 +437,7 @@ fn write_books(folder: &str) {
 
 fn usage(why: &str) -> ! {
     eprintln!("bench: {why}");
-    eprintln!("usage: bench [--program PROGRAM].. | --books FOLDER | --list | --once FIGURE WHO KIND N");
+    eprintln!("usage: bench [--program PROGRAM].. | --documents | --books FOLDER | --list | --once FIGURE WHO KIND N");
     exit(2)
 }
 
@@ -376,6 +445,7 @@ fn main() {
     let arguments: Vec<String> = std::env::args().skip(1).collect();
     let arguments: Vec<&str> = arguments.iter().map(|argument| &argument[..]).collect();
     match &arguments[..] {
+        ["--documents"] => table_of_documents(&times_of_documents()),
         ["--books", folder] => write_books(folder),
         ["--list"] => list(),
         ["--once", figure, who, kind, calls] => once(figure, who, kind, calls),

@@ -6,13 +6,18 @@ pub mod books;
 #[path = "../../../docs/src/by_value.rs"]
 pub mod by_value;
 pub mod declaration;
+pub mod document;
+pub mod documents;
 pub mod inclusion;
+#[cfg(feature = "libxml2")]
+pub mod libxml2;
 pub mod pairs;
 /// The program that rescans for each parent, for the benchmark; its `main` is not used here.
 #[allow(dead_code)]
 #[path = "../../../docs/src/rescan.rs"]
 pub mod rescan;
 
+pub use document::{accepts_document, fill_models, put_model};
 pub use inclusion::within;
 
 pub const PLACES: usize = 64;

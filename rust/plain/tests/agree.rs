@@ -57,6 +57,18 @@ impl Calls for Plain {
         (number, parent, back(model))
     }
 
+    fn accepts_document(&mut self, names: usize, models: &[u8], document: &[u8]) -> (u8, bool) {
+        or(plain::accepts_document(names, models, document), false)
+    }
+
+    fn put_model(&mut self, names: usize, parent: usize, record: &Record, models: &mut [u8]) -> u8 {
+        or(plain::put_model(names, parent, &to(record), models), ()).0
+    }
+
+    fn fill_models(&mut self, book: &[u8], models: &mut [u8]) -> (u8, usize) {
+        or(plain::fill_models(book, models), 0)
+    }
+
     /// In one pass, and with a scan for each parent: both print the same.
     fn dtd(&mut self, book: &[u8]) -> Option<Vec<u8>> {
         let out = plain::dtd(book);
@@ -104,6 +116,21 @@ fn pairs_of_the_benchmark() {
         assert_eq!((number, yes), (0, false), "{}", kind.name);
         let word = &buffer[..length];
         assert!(first.accepts(word) && !other.accepts(word), "{}: {word:?}", kind.name);
+    }
+}
+
+#[test]
+fn documents_of_the_benchmark() {
+    for (kind, make, yes) in plain::documents::KINDS {
+        let document = make();
+        let (table, bytes) = (document.table(), document.pairs.concat());
+        assert_eq!(bytes.len(), 60_000, "{kind}");
+        assert_eq!(Plain.accepts_document(64, &table, &bytes), (0, *yes), "{kind}");
+        assert_eq!(Second.accepts_document(64, &table, &bytes), (0, *yes), "{kind}");
+        // Texts side by side would be one for libxml2.
+        assert!(!document.pairs.windows(2).any(|two| two == [[2, 0]; 2]), "{kind}");
+        #[cfg(feature = "libxml2")]
+        assert_eq!(plain::libxml2::Parsed::new(&document.xml(), &document.dtd()).is_valid(), *yes, "{kind}");
     }
 }
 

@@ -1,8 +1,9 @@
 //! The calls open to the outside, each with its checks in the order of paper 01's table, and the program.
 
 use crate::book::{self, Book};
+use crate::models::{self, ROW};
 use crate::record::Record;
-use crate::{chain, declaration, within::counterexample, Refusal};
+use crate::{chain, declaration, document, within::counterexample, Refusal};
 
 /// The most names of a word in the acceptance call.
 pub const MOST_WORD: usize = 255;
@@ -108,6 +109,41 @@ fn lines(book: &Book) -> Vec<u8> {
 pub fn write_dtd(bytes: &[u8], buffer: &mut [u8]) -> Result<usize, Refusal> {
     let book = book::read(bytes)?;
     put(&lines(&book), buffer)
+}
+
+/// Whether a document over n names is as the models of a table say: 1, 3, 10, 18, 19.
+pub fn accepts_document(n: usize, table: &[u8], document: &[u8]) -> Result<bool, Refusal> {
+    if document.len() > document::MOST_BYTES {
+        return Err(1);
+    }
+    book::check_names(n)?;
+    let models = models::records(n, table);
+    if models.iter().flatten().any(|record| !record.is_model(n)) {
+        return Err(10);
+    }
+    Ok(document::read(n, document)?.is_valid(&models))
+}
+
+/// Puts a record over n names into a table, as the model of a parent: 3, 8, 10, 12.
+pub fn put_model(n: usize, parent: usize, record: &Record, table: &mut [u8]) -> Result<(), Refusal> {
+    book::check_names(n)?;
+    if parent >= n {
+        return Err(8);
+    }
+    if !record.is_model(n) {
+        return Err(10);
+    }
+    let row = table.get_mut(ROW * parent..ROW * (parent + 1)).ok_or(12u8)?;
+    row.copy_from_slice(&models::row_of(record));
+    Ok(())
+}
+
+/// The length of the rows of a book's names, written into a table, each with the model of its blocks if it has any: 1 to 7, 16,
+/// 17, 12.
+pub fn fill_models(bytes: &[u8], table: &mut [u8]) -> Result<usize, Refusal> {
+    let book = book::read(bytes)?;
+    let row = |name| model_in(&book, name).map_or(vec![0; ROW], |record| models::row_of(&record));
+    put(&(0..book.names.len() as u8).flat_map(row).collect::<Vec<u8>>(), table)
 }
 
 /// What the program prints of a book.

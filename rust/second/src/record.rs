@@ -72,15 +72,13 @@ impl Record {
         for i in 0..self.count {
             let mut next = vec![false; word.len() + 1];
             for from in (0..=word.len()).filter(|&from| ends[from]) {
-                for to in from..=word.len() {
-                    let part = &word[from..to];
-                    if !part.iter().all(|&x| self.factor[x as usize] as usize == i) {
-                        break;
-                    }
-                    next[to] |= match self.mode[i] {
-                        0 => part.len() == 1,
-                        1 => part.len() <= 1,
-                        2 => !part.is_empty(),
+                // No part is longer than the names of the factor that stand side by side from here on.
+                let most = word[from..].iter().take_while(|&&x| self.factor[x as usize] as usize == i).count();
+                for size in 0..=most {
+                    next[from + size] |= match self.mode[i] {
+                        0 => size == 1,
+                        1 => size <= 1,
+                        2 => size >= 1,
                         3 => true,
                         _ => false,
                     };

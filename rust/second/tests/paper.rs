@@ -1,10 +1,11 @@
 //! Every line under the samples of paper 01, its traps, its example and its limits; the texts of request U1, the whole
-//! DTD of request U2, the two records of request U4, the fields with text of request U5 and the unused names of request
-//! U6 of paper 02.
+//! DTD of request U2, the two records of request U4, the fields with text of request U5, the unused names of request U6
+//! and the whole documents of request U7 of paper 02.
 
 use second::book::{self, bytes_of, Block};
 use second::calls::*;
 use second::declaration::written;
+use second::models::{row_of, ROW};
 use second::record::{Record, EMPTY, NONE};
 
 /// Words in letters: a is 0. `-` is the empty word.
@@ -1014,4 +1015,378 @@ fn the_sample_feed() {
     let book = std::fs::read(format!("{folder}feed.book")).unwrap();
     let due = std::fs::read(format!("{folder}feed.dtd")).unwrap();
     assert_eq!(dtd(&book), due);
+}
+
+/// The byte pairs of a document: a capital letter opens the element of that name, a small one closes it, and `#` is text.
+fn document(signs: &str) -> Vec<u8> {
+    let pair = |sign: u8| match sign {
+        b'#' => [2, 0],
+        b'A'..=b'Z' => [0, sign - b'A'],
+        _ => [1, sign - b'a'],
+    };
+    signs.bytes().flat_map(pair).collect()
+}
+
+/// The table of these names with their models; the others of n names have none.
+fn table(n: usize, models: &[(char, Record)]) -> Vec<u8> {
+    let mut table = vec![0; ROW * n];
+    for (name, record) in models {
+        put_model(n, *name as usize - 'a' as usize, record, &mut table).unwrap();
+    }
+    table
+}
+
+/// Models of four names: a (b+,c?), b text alone, c (#PCDATA|b|c)*, and d EMPTY.
+fn four_models() -> Vec<u8> {
+    let a = chain(&[("b", 2), ("c", 1)]);
+    table(4, &[('a', a), ('b', Record::with_text(vec![])), ('c', Record::with_text(word("bc"))), ('d', EMPTY)])
+}
+
+#[test]
+fn documents_with_their_verdicts() {
+    for (signs, yes) in [
+        // Children in order are a word of the model.
+        ("ABba", true),
+        ("ABbBba", true),
+        ("ABbCca", true),
+        ("Aa", false),
+        ("ACca", false),
+        ("ACcBba", false),
+        ("ABbCcCca", false),
+        ("ABbDda", false),
+        // Every element, not the root alone.
+        ("ABbCBbCcca", true),
+        ("ABDdba", false),
+        ("ABbCCAacca", false),
+        ("ABbCCABbacca", false),
+        ("CCCBbcBbcc", true),
+        ("CCCDdcBbcc", false),
+        // Any name may be the root.
+        ("Bb", true),
+        ("Dd", true),
+        ("DBbd", false),
+        // Text stands only where it is allowed, however often, and is no child.
+        ("AB#ba", true),
+        ("AB##ba", true),
+        ("ABbC#B#b#C#c#ca", true),
+        ("A#Bba", false),
+        ("ABb#a", false),
+        ("ABb#Bba", false),
+        ("D#d", false),
+        ("B#b", true),
+    ] {
+        assert_eq!(accepts_document(4, &four_models(), &document(signs)), Ok(yes), "{signs}");
+    }
+}
+
+#[test]
+fn every_element_has_a_model() {
+    let good = document("ABbCBbcDda");
+    let all = [('a', chain(&[("bcd", 3)])), ('b', EMPTY), ('c', chain(&[("b", 0)])), ('d', EMPTY), ('e', EMPTY)];
+    assert_eq!(accepts_document(5, &table(5, &all), &good), Ok(true));
+    // A name that no element has needs no model; every other does, and without one the answer is no.
+    for missing in 0..5 {
+        let some: Vec<_> = all.iter().copied().filter(|(name, _)| *name as usize - 'a' as usize != missing).collect();
+        assert_eq!(accepts_document(5, &table(5, &some), &good), Ok(missing == 4), "without model {missing}");
+        // A refusal comes before that no.
+        assert_eq!(accepts_document(5, &table(5, &some), &document("ABbCBbcDd")), Err(18));
+    }
+    assert_eq!(accepts_document(5, &[], &good), Ok(false));
+}
+
+#[test]
+fn words_of_any_length() {
+    let models = table(3, &[('a', chain(&[("b", 2), ("c", 0)])), ('b', EMPTY), ('c', EMPTY)]);
+    // With the root 60,000 bytes are 29,998 pairs of children.
+    for size in [1, 2, 255, 256, 257, 511, 14_998] {
+        let children = "Bb".repeat(size);
+        assert_eq!(accepts_document(3, &models, &document(&format!("A{children}Cca"))), Ok(true), "{size}");
+        assert_eq!(accepts_document(3, &models, &document(&format!("A{children}a"))), Ok(false), "{size}");
+        assert_eq!(accepts_document(3, &models, &document(&format!("ACc{children}a"))), Ok(false), "{size}");
+    }
+}
+
+/// Elements in each other, so many, all of name a.
+fn nested(depth: usize) -> String {
+    "A".repeat(depth) + &"a".repeat(depth)
+}
+
+#[test]
+fn depths() {
+    let models = table(2, &[('a', chain(&[("ab", 3)])), ('b', EMPTY)]);
+    for depth in [1, 2, 31, 32] {
+        assert_eq!(accepts_document(2, &models, &document(&nested(depth))), Ok(true), "{depth}");
+    }
+    for depth in [33, 34, 100, 15_000] {
+        assert_eq!(accepts_document(2, &models, &document(&nested(depth))), Err(19), "{depth}");
+    }
+    let (opens, closes) = ("A".repeat(31), "a".repeat(31));
+    let inside = |signs: &str| accepts_document(2, &models, &document(&format!("{opens}{signs}{closes}")));
+    // Many elements at depth 32, and one at depth 33 in the last of them.
+    assert_eq!(inside("BbBbAaBb"), Ok(true));
+    assert_eq!(inside("BbBbAaBBbb"), Err(19));
+    assert_eq!(inside("BbAB"), Err(19));
+    // 18 in a pair before it, and at the same pair.
+    assert_eq!(inside("BaBBbb"), Err(18));
+    assert_eq!(inside("BCcb"), Err(18));
+    assert_eq!(inside("BBCcbb"), Err(19));
+    // Not at the end: what is behind the pair is not looked at.
+    let depth_33 = document(&"A".repeat(33));
+    for behind in [&[][..], &[3, 0], &[0, 2], &[2, 1], &[1, 1]] {
+        assert_eq!(accepts_document(2, &models, &[&depth_33, behind].concat()), Err(19));
+    }
+}
+
+#[test]
+fn what_is_no_document() {
+    // Good over two names, so that each fault is the only one.
+    let models = table(2, &[('a', Record::with_text(word("ab"))), ('b', Record::with_text(word("ab")))]);
+    let refused = |pairs: &[u8], number: u8| assert_eq!(accepts_document(2, &models, pairs), Err(number), "{pairs:?}");
+    assert_eq!(accepts_document(2, &models, &document("A#BAa#ba")), Ok(true));
+    // An odd length, before any pair.
+    for odd in [&[0][..], &[3], &[0, 0, 1], &[3, 0, 1], &[0, 0, 1, 0, 0], &[0, 0, 1, 0, 255]] {
+        refused(odd, 18);
+    }
+    refused(&[&document(&"A".repeat(33))[..], &[1]].concat(), 18);
+    // A kind above 2.
+    for kind in [3, 4, 128, 255] {
+        refused(&[kind, 0], 18);
+        refused(&[0, 0, kind, 0, 1, 0], 18);
+    }
+    // A number not below N, of any kind.
+    for number in [2, 3, 64, 255] {
+        for kind in [0, 1, 2] {
+            refused(&[0, 0, kind, number, 1, 0], 18);
+            refused(&[kind, number], 18);
+        }
+    }
+    // Text with a number other than 0, though it is below N.
+    refused(&[0, 0, 2, 1, 1, 0], 18);
+    // A close unlike its open, or with none open.
+    for signs in ["Ab", "ABab", "ABbb", "ABbab", "a", "b", "Aaa", "ABbaa"] {
+        refused(&document(signs), 18);
+    }
+    // Text outside the root, no root, a second root, an open left.
+    for signs in ["#", "#Aa", "Aa#", "ABba##", "", "AaAa", "AaBb", "ABbaA", "A", "AB", "ABb", "A#", "ABAaBb"] {
+        refused(&document(signs), 18);
+    }
+}
+
+#[test]
+fn the_first_fault_counts() {
+    let models = table(2, &[('a', chain(&[("a", 3)])), ('b', EMPTY)]);
+    let (opens, close) = ("A".repeat(32), document("a"));
+    let at_33 = document(&format!("{opens}A"));
+    // At one pair 18 goes before 19.
+    for (pair, number) in [([0, 0], 19), ([0, 1], 19), ([0, 2], 18), ([0, 255], 18), ([3, 0], 18), ([1, 1], 18), ([2, 1], 18)] {
+        let pairs = [&document(&opens)[..], &pair, &close].concat();
+        assert_eq!(accepts_document(2, &models, &pairs), Err(number), "{pair:?}");
+    }
+    // A fault of 18 in front of that pair or behind it.
+    assert_eq!(accepts_document(2, &models, &[&[1, 0][..], &at_33].concat()), Err(18));
+    assert_eq!(accepts_document(2, &models, &[&document("A")[..], &[9, 9], &at_33].concat()), Err(18));
+    assert_eq!(accepts_document(2, &models, &[&at_33[..], &[9, 9]].concat()), Err(19));
+    // A document that is not valid is refused all the same.
+    assert_eq!(accepts_document(2, &models, &document("ABbBba")), Ok(false));
+    assert_eq!(accepts_document(2, &models, &document("ABbBbaA")), Err(18));
+}
+
+#[test]
+fn the_order_of_the_checks_of_a_document() {
+    let bad = Record { count: 1, ..EMPTY };
+    let bad_row = row_of(&bad);
+    let good = document("Aa");
+    let (longest, odd_longer) = (vec![9; 60_000], vec![9; 60_001]);
+    // 1, then 3, then 10, then 18; the length decides before all else, and an odd one below it comes behind 10.
+    for names in [0, 1, 64, 65, usize::MAX] {
+        for models in [&bad_row[..], &[]] {
+            assert_eq!(accepts_document(names, models, &odd_longer), Err(1));
+            assert_eq!(accepts_document(names, models, &[0; 60_002]), Err(1));
+        }
+    }
+    for names in [0, 65, 256, 257, usize::MAX] {
+        for document in [&longest[..], &longest[1..], &good] {
+            assert_eq!(accepts_document(names, &bad_row, document), Err(3));
+        }
+    }
+    for document in [&longest[..], &longest[1..], &good] {
+        assert_eq!(accepts_document(1, &bad_row, document), Err(10));
+    }
+    for document in [&longest[..], &longest[1..]] {
+        assert_eq!(accepts_document(1, &row_of(&EMPTY), document), Err(18));
+    }
+    assert_eq!(accepts_document(1, &row_of(&EMPTY), &good), Ok(true));
+    let all = table(64, &[('a', EMPTY)]);
+    assert_eq!(accepts_document(64, &all, &good), Ok(true));
+    assert_eq!(accepts_document(65, &all, &good), Err(3));
+}
+
+#[test]
+fn a_document_of_the_most_bytes() {
+    let models = table(2, &[('a', chain(&[("b", 3)])), ('b', EMPTY)]);
+    let pairs = document(&format!("A{}a", "Bb".repeat(14_999)));
+    assert_eq!(pairs.len(), 60_000);
+    assert_eq!(accepts_document(2, &models, &pairs), Ok(true));
+    assert_eq!(accepts_document(2, &models, &pairs[..59_999]), Err(18));
+    assert_eq!(accepts_document(2, &models, &pairs[..59_998]), Err(18));
+    for behind in [&[1][..], &[1, 0]] {
+        assert_eq!(accepts_document(2, &models, &[&pairs, behind].concat()), Err(1));
+    }
+}
+
+/// A record over three names that is no model in one way each: F, a factor, a mode, the text byte.
+fn no_models() -> Vec<Record> {
+    let good = chain(&[("a", 2), ("bc", 3)]);
+    let (mut far, mut empty, mut marked, mut behind) = (good, good, good, good);
+    far.factor[3] = 0;
+    empty.factor[0] = NONE;
+    marked.mode[1] = 4;
+    behind.mode[2] = 1;
+    let mut all = vec![far, empty, marked, behind];
+    for count in [1, 3, 64, 65, 255] {
+        all.push(Record { count, ..good });
+    }
+    for text in [1, 2, 255] {
+        all.push(Record { text, ..good });
+    }
+    all
+}
+
+#[test]
+fn ten_by_rising_name() {
+    let good = chain(&[("abc", 3)]);
+    for bad in no_models() {
+        for name in 0..3 {
+            let mut models = table(3, &[('a', good), ('b', good), ('c', good)]);
+            models[ROW * name..ROW * (name + 1)].copy_from_slice(&row_of(&bad));
+            // Also where no element has the name.
+            assert_eq!(accepts_document(3, &models, &document("Aa")), Err(10), "{name}: {bad:?}");
+            assert_eq!(accepts_document(3, &models, &[9]), Err(10), "{name}: {bad:?}");
+            // The record is not looked at where its row is not whole, where byte 0 is 0, and from N on.
+            let cut = &models[..ROW * (name + 1) - 1];
+            assert_eq!(accepts_document(3, cut, &document("Aa")), Ok(name > 0), "{name}: {bad:?}");
+            let behind = [&row_of(&EMPTY), &vec![0; ROW * name][..], &row_of(&bad)].concat();
+            assert_eq!(accepts_document(1 + name, &behind, &document("Aa")), Ok(true), "{name}: {bad:?}");
+            models[ROW * name] = 0;
+            assert_eq!(accepts_document(3, &models, &document("Aa")), Ok(name > 0), "{name}: {bad:?}");
+        }
+    }
+}
+
+#[test]
+fn rows_of_a_table() {
+    let models = table(2, &[('a', chain(&[("b", 0)])), ('b', EMPTY)]);
+    let good = document("ABba");
+    // A name whose row is not whole has no model.
+    for size in 0..=2 * ROW {
+        assert_eq!(accepts_document(2, &models[..size], &good), Ok(size == 2 * ROW), "{size}");
+        assert_eq!(accepts_document(2, &models[..size], &document("A")), Err(18), "{size}");
+    }
+    // Bytes behind the rows, and those of a row without a model, are not looked at.
+    assert_eq!(accepts_document(2, &[&models[..], &[255; 300]].concat(), &good), Ok(true));
+    let mut without = models.clone();
+    without[ROW..].fill(255);
+    without[ROW] = 0;
+    assert_eq!(accepts_document(2, &without, &good), Ok(false));
+    // Any other first byte says that there is one.
+    for first in 1..=255 {
+        let mut marked = models.clone();
+        (marked[0], marked[ROW]) = (first, 255 - first / 2);
+        assert_eq!(accepts_document(2, &marked, &good), Ok(true), "{first}");
+    }
+}
+
+#[test]
+fn a_model_put_into_a_table() {
+    let record = Record { text: 1, ..chain(&[("ac", 3)]) };
+    assert_eq!(row_of(&record).len(), 131);
+    assert_eq!(row_of(&record)[..7], [1, 1, 1, 0, 255, 0, 255]);
+    assert_eq!(row_of(&record)[66..69], [255, 3, 0]);
+    let before: Vec<u8> = (0..400u32).map(|i| (i % 251) as u8).collect();
+    for parent in 0..3 {
+        let mut after = before.clone();
+        assert_eq!(put_model(3, parent, &record, &mut after), Ok(()));
+        let (from, to) = (131 * parent, 131 * (parent + 1));
+        assert_eq!(after, [&before[..from], &row_of(&record), &before[to..]].concat());
+        // The table needs the row whole, and no more.
+        for (size, answer) in [(0, Err(12)), (to - 1, Err(12)), (to, Ok(())), (to + 1, Ok(()))] {
+            let mut table = before[..size].to_vec();
+            assert_eq!(put_model(3, parent, &record, &mut table), answer, "{parent}, {size}");
+            assert_eq!(table == before[..size], answer.is_err());
+        }
+    }
+}
+
+#[test]
+fn refusals_of_a_model_put() {
+    let (good, bad) = (chain(&[("abc", 3)]), Record { count: 1, ..EMPTY });
+    let mut cases = vec![];
+    for names in [0, 65, 256 + 3, usize::MAX] {
+        cases.extend([(names, 0, good, 400, 3), (names, 3, bad, 0, 3), (names, usize::MAX, good, 400, 3)]);
+    }
+    for parent in [3, 4, 63, 64, 256, usize::MAX / ROW, usize::MAX] {
+        cases.extend([(3, parent, good, 400, 8), (3, parent, bad, 0, 8)]);
+    }
+    for bad in no_models() {
+        cases.extend([(3, 2, bad, 400, 10), (3, 2, bad, 0, 10)]);
+    }
+    cases.extend([(2, 1, good, 400, 10), (3, 2, good, 392, 12), (64, 63, good, 64 * 131 - 1, 12)]);
+    for (names, parent, record, size, number) in cases {
+        let mut table = vec![7; size];
+        assert_eq!(put_model(names, parent, &record, &mut table), Err(number), "{names} {parent} {record:?}");
+        assert!(table.iter().all(|b| *b == 7));
+    }
+    assert_eq!(put_model(64, 63, &good, &mut vec![7; 64 * 131]), Ok(()));
+}
+
+#[test]
+fn a_table_filled_from_a_book() {
+    // a has text and a child, b has no block, c no child.
+    let names: Vec<Vec<u8>> = [b"a", b"b", b"c"].map(|name| name.to_vec()).into();
+    let book = bytes_of(&names, &[block(0, "#b"), block(2, "-")]);
+    let rows = [row_of(&Record::with_text(vec![1])), vec![0; 131], row_of(&EMPTY)].concat();
+    assert_eq!(rows.len(), 393);
+    for size in [0, 1, 131, 392, 393, 394, 64 * 131] {
+        let mut table = vec![7; size];
+        let answer = fill_models(&book, &mut table);
+        if size < 393 {
+            assert_eq!((answer, table), (Err(12), vec![7; size]));
+        } else {
+            assert_eq!((answer, &table[..393]), (Ok(393), &rows[..]));
+            assert!(table[393..].iter().all(|b| *b == 7));
+        }
+    }
+    // The book's refusals come first.
+    for (bad, number) in [(&book[..book.len() - 1], 2), (&[&book[..], &[0]].concat(), 7), (&bytes_of(&names, &[]), 17)] {
+        for size in [0, 393] {
+            let mut table = vec![7; size];
+            assert_eq!((fill_models(bad, &mut table), table), (Err(number), vec![7; size]));
+        }
+    }
+}
+
+#[test]
+fn a_feed_judged_by_its_own_models() {
+    let book = letters("abk, #-, ab");
+    let mut models = vec![9; 64 * 131];
+    assert_eq!(fill_models(&book, &mut models), Ok(13 * 131));
+    for parent in 0..13 {
+        let row = &models[131 * parent..131 * (parent + 1)];
+        match model_of_parent(&book, parent) {
+            Ok(record) => assert_eq!(row, row_of(&record)),
+            Err(number) => assert_eq!((number, row), (9, &[0; 131][..])),
+        }
+    }
+    for parent in 0..11 {
+        put_model(13, parent, &EMPTY, &mut models).unwrap();
+    }
+    // p is name 12, mixed with a, b and k; l is name 11 with a to k.
+    let p = |inside: &str| [&[0, 12], &document(inside)[..], &[1, 12]].concat();
+    assert_eq!(accepts_document(13, &models, &p("Bb#Kk")), Ok(true));
+    assert_eq!(accepts_document(13, &models, &p("BbCc")), Ok(false));
+    assert_eq!(accepts_document(13, &models, &document("LAaBbCcDdEeFfGgHhIiJjKkl")), Ok(true));
+    assert_eq!(accepts_document(13, &models, &document("LAaBbCcDdEeFfGgHhIiJjl")), Ok(false));
+    // Byte 0 of its row takes a model out.
+    models[131 * 10] = 0;
+    assert_eq!(accepts_document(13, &models, &p("Bb#Kk")), Ok(false));
 }

@@ -41,71 +41,66 @@ module _ (s : List ℕ) (l : Layout) (laid : LaidOut s l) (text : List ℕ) wher
   above : (i : ℕ) → i < l.names → order_of (get_or (names_in s) i []) text ≡ Above → (k : ℕ) → i ≤ k → k < l.names → order_of (get_or (names_in s) k []) text ≡ Above
   above i h e k m j = upper (names_in s) (names_rising s l laid) text i (among i h) e k m (among k j)
 
-abbrev invariant-loop : tie.invariant-loop
+abbrev invariant-loop : tie.invariant-loop-low
 invariant-loop bytes text offsets low₀ high₀ low high =
     (high ≤ high₀)
     × ((k : ℕ) → k < low → order_of (get_or (names_in bytes) k []) text ≡ Below)
     × ((k : ℕ) → high ≤ k → k < high₀ → order_of (get_or (names_in bytes) k []) text ≡ Above)
 
-abbrev decreases-loop : tie.decreases-loop
+abbrev decreases-loop : tie.decreases-loop-low
 decreases-loop bytes text offsets low₀ high₀ low high = high - low
 
 -- the middle, where it was compared
-abbrev middle : tie.After-compare-at-place invariant-loop decreases-loop → ℕ
-middle c = let l = c.before.before.loop in l.low + (l.high - l.low) / 2
+abbrev middle : tie.After-compare_at_place invariant-loop decreases-loop → ℕ
+middle c = let l = c.loop-low in l.low + (l.high - l.low) / 2
 
-among_names : (c : tie.After-compare-at-place invariant-loop decreases-loop) → let w = c.before.before.before.before.before.before in middle c < w.args.layout.names
+among_names : (c : tie.After-compare_at_place invariant-loop decreases-loop) → let w = c.before.before.before.before.before.before in middle c < w.args.layout.names
 among_names c = omega arith
 
 -- and what that tells of the name with this number
-middle_told : (c : tie.After-compare-at-place invariant-loop decreases-loop) (p : Order) → c.compare-at-place.result ≡ p →
-    let w = c.before.before.before.before.before.before in order_of (get_or (names_in w.args.bytes.now) (middle c) []) w.args.text.now ≡ p
+middle_told : (c : tie.After-compare_at_place invariant-loop decreases-loop) (p : Order) → c.compare_at_place.result ≡ p →
+    order_of (get_or (names_in c.args.bytes.now) (middle c) []) c.args.text.now ≡ p
 middle_told c p e =
-    let w = c.before.before.before.before.before.before in
-    told _ _ w.requires _ _ (among_names c) _ p c.compare-at-place.ensures e
+    told _ _ c.requires _ _ (among_names c) _ p c.compare_at_place.ensures e
 
-loop-holds : tie.Need-loop-init invariant-loop decreases-loop
+loop-holds : tie.Need-loop-low-init invariant-loop decreases-loop
 loop-holds c = (omega arith, λ k h. absurd (omega arith), λ k h l. absurd (omega arith))
 
-mul_at : tie.Need-overflow-mul-at invariant-loop decreases-loop
-mul_at c = omega (arith, few_names _ _ c.before.before.before.before.before.requires)
+mul_at : tie.Need-offset_bounds-offsets-middle invariant-loop decreases-loop
+mul_at c = omega (arith, few_names _ _ c.requires)
 
-array-read-at : tie.Need-array-read-at invariant-loop decreases-loop
-array-read-at c = omega (arith, few_names _ _ c.before.before.before.before.before.requires)
+array-read-at : tie.Need-bounds-offsets-middle invariant-loop decreases-loop
+array-read-at c = omega (arith, few_names _ _ c.requires)
 
-compare-at-place-requires : tie.Need-compare-at-place-requires invariant-loop decreases-loop
+compare-at-place-requires : tie.Need-compare_at_place-requires invariant-loop decreases-loop
 compare-at-place-requires c κs =
-    let w = c.before.before.before.before.before in
-    let h : c.before.loop.low + (c.before.loop.high - c.before.loop.low) / 2 < w.args.layout.names = omega arith in
-    let t = name_laid _ _ w.requires _ h in
+    let h : c.loop-low.low + (c.loop-low.high - c.loop-low.low) / 2 < c.args.layout.names = omega arith in
+    let t = name_laid _ _ c.requires _ h in
     (t.size, t.whole)
 
-enum_told : tie.Need-enum-told invariant-loop decreases-loop
+enum_told : tie.Need-enum_told-1 invariant-loop decreases-loop
 enum_told c = search rules
 
-loop-again : tie.Need-loop-preserved invariant-loop decreases-loop
+loop-again : tie.Need-loop-low-preserved-in-Below invariant-loop decreases-loop
 loop-again c =
-    let b = c.before.before in
-    let i = b.before.before.loop.invariant in
-    (i.0, below _ _ b.before.before.before.before.before.before.requires _ _ (among_names b) (middle_told b _ c.enum_told.given.1), i.2)
+    let i = c.loop-low.invariant in
+    (i.0, below _ _ c.requires _ _ (among_names c.before) (middle_told c.before _ c.in-Below.is), i.2)
 
-returns : tie.Need-returns invariant-loop decreases-loop
+returns : tie.Need-returns-in-Same invariant-loop decreases-loop
 returns c =
-    let b = c.before.before in
-    hit _ _ b.before.before.before.before.before.before.requires _ _ (among_names b) (middle_told b _ c.enum-told2.given.1)
+    hit _ _ c.requires _ _ (among_names c.before) (middle_told c.before _ c.in-Same.is)
 
-loop-again-2 : tie.Need-loop-preserved-2 invariant-loop decreases-loop
-loop-again-2 c =
-    let b = c.before.before in (
-      omega arith,
-      b.before.before.loop.invariant.1,
-      above _ _ b.before.before.before.before.before.before.requires _ _ (among_names b) (middle_told b _ c.enum-told3.given.1),
-    )
+loop-again-2 : tie.Need-loop-low-preserved invariant-loop decreases-loop
+loop-again-2 c = (
+  omega arith,
+  c.loop-low.invariant.1,
+  above _ _ c.requires _ _ (among_names c.before) (middle_told c.before _ c.in-Above.is),
+)
 
-returns-2 : tie.Need-returns-2 invariant-loop decreases-loop
+returns-2 : tie.Need-returns invariant-loop decreases-loop
 returns-2 c =
-    let i = c.before.loop.invariant in
-    miss _ _ c.before.before.before.before.before.requires _ _ _ c.loop-test.false i.1 i.2
+    let i = c.loop-low.invariant in
+    miss _ _ c.requires _ _ _ c.loop-low-test.false i.1 i.2
 
 pub find_name_spec : {M : Type 1} → statement M
 find_name_spec =

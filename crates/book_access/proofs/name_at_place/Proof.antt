@@ -13,7 +13,7 @@ sized : (s : List ℕ) (at size n : ℕ) → size ≡ n → take (at + 1 + size 
 sized s at size n e = let d : at + 1 + size - (at + 1) ≡ n = omega arith in rw d
 
 returns : tie.Need-returns
-returns c = c.part.ensures ∙ sized _ _ _ _ c.before.wide.ensures.0
+returns c = c.part.ensures ∙ sized _ _ _ _ c.wide.ensures.0
 
 pub name_at_place_spec : {M : Type 1} → statement M
 name_at_place_spec =

@@ -93,54 +93,38 @@ module _ (s : List ℕ) (n at : ℕ) where
                   let k : length word ≡ size = ap length (sym same_word) ∙ length-take-le size (drop (at + head_size) s) enough in
                   rw (headed, children, ← e₃, h, k)
 
-returns : tie.Need-returns
-returns c = no_parent _ _ _ c.if1.true
+returns : tie.Need-returns-then-bytes-at
+returns c = no_parent _ _ _ c.if-bytes-at.true
 
-returns-2 : tie.Need-returns-2
-returns-2 c = bad_parent_lem _ _ _ c.before.before.before.if1.false _ c.before.wide.ensures.0 c.if2.true
+returns-2 : tie.Need-returns-then-n-wide
+returns-2 c = bad_parent_lem _ _ _ c.if-bytes-at.false _ c.wide.ensures.0 c.if-n-wide.true
 
-returns-3 : tie.Need-returns-3
+returns-3 : tie.Need-returns-then-bytes-text
 returns-3 c =
-    let p = c.before.before in
-    no_text _ _ _ p.before.before.if1.false _ p.wide.ensures.0 c.before.if2.false c.if3.true
+    no_text _ _ _ c.if-bytes-at.false _ c.wide.ensures.0 c.if-n-wide.false c.if-bytes-text.true
 
-returns-4 : tie.Need-returns-4
+returns-4 : tie.Need-returns-then-bytes-text-gt1
 returns-4 c =
-    let t = c.before.before in
-    let p = t.before.before in
-    bad_text _ _ _ p.before.before.if1.false _ p.wide.ensures.0 t.before.if2.false t.if3.false c.if4.true
+    bad_text _ _ _ c.if-bytes-at.false _ c.wide.ensures.0 c.if-n-wide.false c.if-bytes-text.false c.if-bytes-text-gt1.true
 
-returns-5 : tie.Need-returns-5
+returns-5 : tie.Need-returns-then-bytes-count
 returns-5 c =
-    let t = c.before.before.before in
-    let p = t.before.before in
-    no_size _ _ _ p.before.before.if1.false _ p.wide.ensures.0 t.before.if2.false t.if3.false c.before.if4.false c.if5.true
+    no_size _ _ _ c.if-bytes-at.false _ c.wide.ensures.0 c.if-n-wide.false c.if-bytes-text.false c.if-bytes-text-gt1.false c.if-bytes-count.true
 
-returns-6 : tie.Need-returns-6
+returns-6 : tie.Need-returns-then-bytes-from
 returns-6 c =
-    let k = c.before in
-    let t = k.before.before.before.before.before in
-    let p = t.before.before in
-    short _ _ _ p.before.before.if1.false _ p.wide.ensures.0 t.before.if2.false t.if3.false k.before.before.before.if4.false
-    k.before.before.if5.false _ k.wide2.ensures.0 c.if6.true
+    short _ _ _ c.if-bytes-at.false _ c.wide.ensures.0 c.if-n-wide.false c.if-bytes-text.false c.if-bytes-text-gt1.false
+    c.if-bytes-count.false _ c.wide-size.ensures.0 c.if-bytes-from.true
 
-returns-7 : tie.Need-returns-7
+returns-7 : tie.Need-returns-then-all_below
 returns-7 c =
-    let a = c.before in
-    let k = a.before.before.before in
-    let t = k.before.before.before.before.before in
-    let p = t.before.before in
-    whole _ _ _ p.before.before.if1.false _ p.wide.ensures.0 t.before.if2.false t.if3.false k.before.before.before.if4.false
-    k.before.before.if5.false _ k.wide2.ensures.0 a.before.before.if6.false _ a.before.part.ensures _ a.all_below_lem.ensures c.if7.true
+    whole _ _ _ c.if-bytes-at.false _ c.wide.ensures.0 c.if-n-wide.false c.if-bytes-text.false c.if-bytes-text-gt1.false
+    c.if-bytes-count.false _ c.wide-size.ensures.0 c.if-bytes-from.false _ c.part.ensures _ c.all_below.ensures c.if-all_below.true
 
-returns-8 : tie.Need-returns-8
+returns-8 : tie.Need-returns-else-all_below
 returns-8 c =
-    let a = c.before in
-    let k = a.before.before.before in
-    let t = k.before.before.before.before.before in
-    let p = t.before.before in
-    bad_child _ _ _ p.before.before.if1.false _ p.wide.ensures.0 t.before.if2.false t.if3.false k.before.before.before.if4.false
-    k.before.before.if5.false _ k.wide2.ensures.0 a.before.before.if6.false _ a.before.part.ensures _ a.all_below_lem.ensures c.if7.false
+    bad_child _ _ _ c.if-bytes-at.false _ c.wide.ensures.0 c.if-n-wide.false c.if-bytes-text.false c.if-bytes-text-gt1.false
+    c.if-bytes-count.false _ c.wide-size.ensures.0 c.if-bytes-from.false _ c.part.ensures _ c.all_below.ensures c.if-all_below.false
 
 pub block_at_spec : {M : Type 1} → statement M
 block_at_spec =

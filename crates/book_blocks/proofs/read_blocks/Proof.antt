@@ -8,62 +8,52 @@ use Rattle.book_blocks.proofs.Walk.{Walk, walk_none, walk_done, walk_run, walk_s
 use Rattle.book_blocks.proofs.read_blocks.Statement.{statement}
 use Rattle.book_blocks.proofs.read_blocks.Tie as tie
 
-abbrev invariant-loop : tie.invariant-loop
+abbrev invariant-loop : tie.invariant-loop-left
 invariant-loop bytes n m from left₀ at₀ unused₀ left at unused = Walk bytes n m from (below n) left at unused
 
-abbrev decreases-loop : tie.decreases-loop
+abbrev decreases-loop : tie.decreases-loop-left
 decreases-loop bytes n m from left₀ at₀ unused₀ left at unused = left
 
-below-requires : tie.Need-below-requires invariant-loop decreases-loop
-below-requires c κs = let pre = c.before.requires in (omega (arith, pre.2), omega (arith, pre.3))
+below-requires : tie.Need-below-unused-requires invariant-loop decreases-loop
+below-requires c κs = let pre = c.requires in (omega (arith, pre.2), omega (arith, pre.3))
 
-loop-holds : tie.Need-loop-init invariant-loop decreases-loop
-loop-holds c = walk_none _ _ _ _ _ _ c.before.before.requires.0 c.below.ensures.same
+loop-holds : tie.Need-loop-left-init invariant-loop decreases-loop
+loop-holds c = walk_none _ _ _ _ _ _ c.requires.0 c.below-unused.ensures.same
 
-read-run-requires : tie.Need-read-run-requires invariant-loop decreases-loop
+read-run-requires : tie.Need-read_run-end-requires invariant-loop decreases-loop
 read-run-requires c κs =
-    let l = c.before.before.before in
-    (l.loop.invariant.within, l.before.before.before.requires.1)
+    (c.loop-left.invariant.within, c.requires.1)
 
-returns : tie.Need-returns invariant-loop decreases-loop
+returns : tie.Need-returns-then-empty invariant-loop decreases-loop
 returns c =
-    let r = c.before in
-    let e = r.before.before in
-    walk_run _ _ _ _ _ _ _ _ e.before.before.loop.invariant _ e.is-empty.ensures.same c.if1.true _ r.before.in-turn.ensures _ r.read-run.ensures
+    walk_run _ _ _ _ _ _ _ _ c.loop-left.invariant _ c.is_empty-empty.ensures.same c.if-empty.true _ c.in_turn.ensures _ c.read_run-end.ensures
 
 -- the block that was read where the set was not empty
-placed : (c : tie.After-known-told invariant-loop decreases-loop) →
-    let l = c.before.before.before.before.before.before.before.before in
-    let a = l.before.before.before.args in
-    RunRead a.n a.bytes.now l.loop.at c.before.end.given.0.0
+placed : (c : tie.In-End invariant-loop decreases-loop) →
+    let a = c.args in
+    RunRead a.n a.bytes.now c.loop-left.at c.in-End.next
 placed c =
-    let e = c.before.before.before in
-    let r = e.before in
-    run_read _ _ _ _ _ (run_of_one _ _ _ _ _ _ _ _ r.read-run.ensures r.before.in-turn.ensures e.if1.false) _ _ c.before.end.given.1
+    run_read _ _ _ _ _ (run_of_one _ _ _ _ _ _ _ _ c.read_run-end.ensures c.in_turn.ensures c.if-empty.false) _ _ c.in-End.is
 
-without-block-requires : tie.Need-without-block-requires invariant-loop decreases-loop
+without-block-requires : tie.Need-without_block-unused-requires invariant-loop decreases-loop
 without-block-requires c κs =
-    let pre = c.before.before.before.before.before.before.before.before.before.before.before.requires in
+    let pre = c.requires in
     run_small _ _ _ _ (placed c) pre.1 pre.3
 
-sub_without_block_2 : tie.Need-overflow-sub-without-block-2 invariant-loop decreases-loop
+sub_without_block_2 : tie.Need-overflow_sub-next-in-End invariant-loop decreases-loop
 sub_without_block_2 c = let b = (placed c).behind in omega (arith, b)
 
-returns-2 : tie.Need-returns-2 invariant-loop decreases-loop
+returns-2 : tie.Need-returns-in-Stopped invariant-loop decreases-loop
 returns-2 c =
-    let e = c.before.before.before in
-    let r = e.before in
-    let i = r.before.before.before in
-    walk_stopped _ _ _ _ _ _ _ _ i.before.loop.invariant i.loop-test.true _
-    (run_stopped _ _ _ _ _ (run_of_one _ _ _ _ _ _ _ _ r.read-run.ensures r.before.in-turn.ensures e.if1.false) _ c.before.end2.given.1)
+    walk_stopped _ _ _ _ _ _ _ _ c.loop-left.invariant c.loop-left-test.true _
+    (run_stopped _ _ _ _ _ (run_of_one _ _ _ _ _ _ _ _ c.read_run-end.ensures c.in_turn.ensures c.if-empty.false) _ c.in-Stopped.is)
 
-loop-again : tie.Need-loop-preserved invariant-loop decreases-loop
+loop-again : tie.Need-loop-left-preserved invariant-loop decreases-loop
 loop-again c =
-    let i = c.before.before.before.before.before.before.before.before in
-    walk_next _ _ _ _ _ _ _ _ i.before.loop.invariant i.loop-test.true _ (placed c.before) _ c.without-block.ensures
+    walk_next _ _ _ _ _ _ _ _ c.loop-left.invariant c.loop-left-test.true _ (placed c.before) _ c.without_block-unused.ensures
 
-returns-3 : tie.Need-returns-3 invariant-loop decreases-loop
-returns-3 c = walk_done _ _ _ _ _ _ _ _ c.before.loop.invariant c.loop-test.false
+returns-3 : tie.Need-returns invariant-loop decreases-loop
+returns-3 c = walk_done _ _ _ _ _ _ _ _ c.loop-left.invariant c.loop-left-test.false
 
 pub read_blocks_spec : {M : Type 1} → statement M
 read_blocks_spec =

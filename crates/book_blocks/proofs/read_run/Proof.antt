@@ -11,39 +11,35 @@ use Rattle.book_blocks.proofs.Walk.{Walk, walk_none, walk_done, walk_stopped, wa
 use Rattle.book_blocks.proofs.read_run.Statement.{statement}
 use Rattle.book_blocks.proofs.read_run.Tie as tie
 
-abbrev invariant-loop : tie.invariant-loop
+abbrev invariant-loop : tie.invariant-loop-more
 invariant-loop bytes n m from more₀ at₀ more at = Walk bytes n m from empty more at empty
 
-abbrev decreases-loop : tie.decreases-loop
+abbrev decreases-loop : tie.decreases-loop-more
 decreases-loop bytes n m from more₀ at₀ more at = more
 
 -- what is known where a block was read
-placed : (c : tie.After-known-told invariant-loop decreases-loop) →
-    let l = c.before.before.before.before.before in
-    let a = l.before.before.args in
-    BlockRead a.n a.bytes.now l.loop.at c.before.size.given.0.0
-placed c = block_read _ _ _ _ (sym c.before.before.before.block_at.ensures ∙ c.before.size.given.1)
+placed : (c : tie.In-Block invariant-loop decreases-loop) →
+    let a = c.args in
+    BlockRead a.n a.bytes.now c.loop-more.at c.in-Block.size
+placed c = block_read _ _ _ _ (sym c.block_at.ensures ∙ c.in-Block.is)
 
-loop-holds : tie.Need-loop-init invariant-loop decreases-loop
-loop-holds c = walk_none _ _ _ _ empty _ c.before.requires.0 refl
+loop-holds : tie.Need-loop-more-init invariant-loop decreases-loop
+loop-holds c = walk_none _ _ _ _ empty _ c.requires.0 refl
 
-add_at_2 : tie.Need-overflow-add-at-2 invariant-loop decreases-loop
+add_at_2 : tie.Need-overflow_add-at-in-Block invariant-loop decreases-loop
 add_at_2 c = let t = placed c in omega (arith, t.fits)
 
-returns : tie.Need-returns invariant-loop decreases-loop
+returns : tie.Need-returns-in-Stopped invariant-loop decreases-loop
 returns c =
-    let b = c.before.before.before in
-    walk_stopped _ _ _ _ _ _ _ _ b.before.before.loop.invariant b.before.loop-test.true _ (block_stopped _ _ (sym b.block_at.ensures ∙ c.before.refusal.given.1))
+    walk_stopped _ _ _ _ _ _ _ _ c.loop-more.invariant c.loop-more-test.true _ (block_stopped _ _ (sym c.block_at.ensures ∙ c.in-Stopped.is))
 
-loop-again : tie.Need-loop-preserved invariant-loop decreases-loop
+loop-again : tie.Need-loop-more-preserved invariant-loop decreases-loop
 loop-again c =
-    let b = c.before.before.before in
-    walk_more _ _ _ _ _ _ _ _ b.before.before.loop.invariant b.before.loop-test.true _ (placed c) _ (sym (block_empty _))
+    walk_more _ _ _ _ _ _ _ _ c.loop-more.invariant c.loop-more-test.true _ (placed c) _ (sym (block_empty _))
 
-returns-2 : tie.Need-returns-2 invariant-loop decreases-loop
+returns-2 : tie.Need-returns invariant-loop decreases-loop
 returns-2 c =
-    let l = c.before.before in
-    ap (End l.loop.at) c.empty.ensures.same ∙ walk_done _ _ _ _ _ _ _ _ l.loop.invariant c.before.loop-test.false
+    ap (End c.loop-more.at) c.empty.ensures.same ∙ walk_done _ _ _ _ _ _ _ _ c.loop-more.invariant c.loop-more-test.false
 
 pub read_run_spec : {M : Type 1} → statement M
 read_run_spec =

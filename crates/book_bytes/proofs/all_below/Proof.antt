@@ -31,7 +31,7 @@ judged : (n : ℕ) (s : List ℕ) (top : ℕ) → 0 < n → top ≡ largest s �
 judged n s top h e = ap (λ (x : ℕ). ltb x n) e ∙ below n s h
 
 returns : tie.Need-returns
-returns c = judged _ _ _ c.before.before.before.requires (c.wide.ensures.0 ∙ c.before.largest-from.ensures)
+returns c = judged _ _ _ c.requires (c.wide.ensures.0 ∙ c.largest_from.ensures)
 
 pub all_below_spec : {M : Type 1} → statement M
 all_below_spec = tie.close (tie.spec (λ c κs. search rules) (λ c κs. search rules) returns)

@@ -28,14 +28,14 @@ module _ (before name : List ℕ) (good : Bool) (e : good ≡ good_bytes name) w
     unfolding judged_name name_step
     read l = rw (← e, h, ← k, l)
 
-returns : tie.Need-returns
-returns c = read _ _ _ c.before.before.before.good-bytes.ensures c.before.before.if1.true _ c.before.rises.ensures c.if2.true
+returns : tie.Need-returns-then-rises
+returns c = read _ _ _ c.good_bytes.ensures c.if-good_bytes.true _ c.rises.ensures c.if-rises.true
 
-returns-2 : tie.Need-returns-2
-returns-2 c = not_above _ _ _ c.before.before.before.good-bytes.ensures c.before.before.if1.true _ c.before.rises.ensures c.if2.false
+returns-2 : tie.Need-returns-else-rises
+returns-2 c = not_above _ _ _ c.good_bytes.ensures c.if-good_bytes.true _ c.rises.ensures c.if-rises.false
 
-returns-3 : tie.Need-returns-3
-returns-3 c = bad _ _ _ c.before.good-bytes.ensures c.if1.false
+returns-3 : tie.Need-returns-else-good_bytes
+returns-3 c = bad _ _ _ c.good_bytes.ensures c.if-good_bytes.false
 
 pub judge_spec : {M : Type 1} → statement M
 judge_spec = tie.close (tie.spec (λ c κs. search rules) (λ c κs. search rules) returns returns-2 returns-3)

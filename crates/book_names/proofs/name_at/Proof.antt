@@ -56,23 +56,21 @@ module _ (before s : List ℕ) (at : ℕ) where
           rw (drop-cons s at 0 h, ← e, ← g, k, n, length-drop (at + 1) s, le-ltb (length s - (at + 1)) size l, q, d)
           (any_rest (not (good_bytes (take size (drop (at + 1) s)))) (not (rises before (take size (drop (at + 1) s)))) (take size (drop (at + 1) s)) _ _)
 
-returns : tie.Need-returns
-returns c = no_size _ _ _ c.if1.true
+returns : tie.Need-returns-then-bytes-at
+returns c = no_size _ _ _ c.if-bytes-at.true
 
-returns-2 : tie.Need-returns-2
+returns-2 : tie.Need-returns-then-bytes-from
 returns-2 c =
-    let w = c.before.before in
-    short _ _ _ w.before.before.before.if1.false _ w.before.wide.ensures.0 _ w.good_length.ensures c.before.if2.true c.if3.true
+    short _ _ _ c.if-bytes-at.false _ c.wide-size.ensures.0 _ c.good_length.ensures c.if-good_length.true c.if-bytes-from.true
 
-returns-3 : tie.Need-returns-3
+returns-3 : tie.Need-returns-else-bytes-from
 returns-3 c =
-    let w = c.before.before.before.before in
     c.judge.ensures
-    ∙ whole _ _ _ w.before.before.before.if1.false _ w.before.wide.ensures.0 _ w.good_length.ensures c.before.before.before.if2.true
-    c.before.before.if3.false _ c.before.part.ensures
+    ∙ whole _ _ _ c.if-bytes-at.false _ c.wide-size.ensures.0 _ c.good_length.ensures c.if-good_length.true
+    c.if-bytes-from.false _ c.part.ensures
 
-returns-4 : tie.Need-returns-4
-returns-4 c = bad_size _ _ _ c.before.before.before.before.if1.false _ c.before.before.wide.ensures.0 _ c.before.good_length.ensures c.if2.false
+returns-4 : tie.Need-returns-else-good_length
+returns-4 c = bad_size _ _ _ c.if-bytes-at.false _ c.wide-size.ensures.0 _ c.good_length.ensures c.if-good_length.false
 
 pub name_at_spec : {M : Type 1} → statement M
 name_at_spec =

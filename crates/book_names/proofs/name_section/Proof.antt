@@ -30,23 +30,21 @@ module _ (s : List ℕ) (h : count_size ≤ length s) (n : ℕ) (e : n ≡ count
   unfolding name_section
   counted k = rw (count_given s 0 h, ← e, ← g, k)
 
-returns : tie.Need-returns
-returns c = c.no_names.ensures ∙ missing _ c.before.if1.true
+returns : tie.Need-returns-then-bytes-lt-COUNT_SIZE
+returns c = c.no_names.ensures ∙ missing _ c.if-bytes-lt-COUNT_SIZE.true
 
-read-names-requires : tie.Need-read-names-requires
-read-names-requires c κs = (omega arith, omega arith, (count_bounds _ (sym c.before.good-count.ensures ∙ c.if2.true)).1)
+read-names-requires : tie.Need-read_names-requires
+read-names-requires c κs = (omega arith, omega arith, (count_bounds _ (sym c.good_count.ensures ∙ c.if-good_count.true)).1)
 
-returns-2 : tie.Need-returns-2
+returns-2 : tie.Need-returns-then-good_count
 returns-2 c =
-    let w = c.before.before in
     c.read_names.ensures
-    ∙ counted _ w.before.before.if1.false _ w.before.count_at.ensures.0 _ w.good-count.ensures c.before.if2.true
+    ∙ counted _ c.if-bytes-lt-COUNT_SIZE.false _ c.count_at-n.ensures.0 _ c.good_count.ensures c.if-good_count.true
 
-returns-3 : tie.Need-returns-3
+returns-3 : tie.Need-returns-else-good_count
 returns-3 c =
-    let w = c.before.before in
-    c.no-names2.ensures
-    ∙ bad_count _ w.before.before.if1.false _ w.before.count_at.ensures.0 _ w.good-count.ensures c.before.if2.false
+    c.no_names-else-good_count.ensures
+    ∙ bad_count _ c.if-bytes-lt-COUNT_SIZE.false _ c.count_at-n.ensures.0 _ c.good_count.ensures c.if-good_count.false
 
 pub name_section_spec : {M : Type 1} → statement M
 name_section_spec =

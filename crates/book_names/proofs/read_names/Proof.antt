@@ -74,49 +74,45 @@ module _ (table : List ℕ) (i from at n : ℕ) (before s : List ℕ) (h : i < n
       let d : at + 1 + size - (at + 1) ≡ size = omega arith in
       rw (← b, k, t.read, d, t.value, t.rest, ← t.size) (one_more table i at t.name.value (names_of (n - (i + 1)) t.name.value t.name.rest))
 
-abbrev invariant-loop : tie.invariant-loop
+abbrev invariant-loop : tie.invariant-loop-i
 invariant-loop bytes n offsets₀ from₀ at₀ i₀ offsets from at i =
     (from ≤ at) × (at ≤ length bytes) × (i ≤ n)
     × (name_table (names_of n [] (drop count_size bytes)) ≡ onwards offsets i at (names_of (n - i) (take (at - from) (drop from bytes)) (drop at bytes)))
 
-abbrev decreases-loop : tie.decreases-loop
+abbrev decreases-loop : tie.decreases-loop-i
 decreases-loop bytes n offsets₀ from₀ at₀ i₀ offsets from at i = n - i
 
 -- what is known where a name was read
-named : (c : tie.After-known-told invariant-loop decreases-loop) →
-    let p = c.before.before.before.before in
-    let l = p.before.before in
-    NameRead p.part.result.now l.before.before.args.bytes.now l.loop.at c.before.size.given.0.0
-named c = name_read _ _ _ _ (sym c.before.before.before.name-at.ensures ∙ c.before.size.given.1)
+named : (c : tie.In-Name invariant-loop decreases-loop) →
+    NameRead c.part.result.now c.args.bytes.now c.loop-i.at c.in-Name.size
+named c = name_read _ _ _ _ (sym c.name_at.ensures ∙ c.in-Name.is)
 
-loop-holds : tie.Need-loop-init invariant-loop decreases-loop
+loop-holds : tie.Need-loop-i-init invariant-loop decreases-loop
 unfolding no_offsets
-loop-holds c = (omega arith, omega arith, omega arith, begin _ c.before.args.bytes.now)
+loop-holds c = (omega arith, omega arith, omega arith, begin _ c.args.bytes.now)
 
-add_at : tie.Need-overflow-add-at invariant-loop decreases-loop
+add_at : tie.Need-overflow_add-at invariant-loop decreases-loop
 add_at c = let t = named c in omega (arith, t.fits)
 
-returns : tie.Need-returns invariant-loop decreases-loop
+returns : tie.Need-returns-in-Stopped invariant-loop decreases-loop
 returns c =
-    let b = c.before.before.before.before in
     c.no_names.ensures
-    ∙ sym (b.before.before.before.loop.invariant.3
-    ∙ stop _ _ _ _ _ _ _ b.before.before.loop-test.true b.before.part.ensures _
-    (name_stopped _ _ (sym b.name-at.ensures ∙ c.before.before.refusal.given.1)))
+    ∙ sym (c.loop-i.invariant.3
+    ∙ stop _ _ _ _ _ _ _ c.loop-i-test.true c.part.ensures _
+    (name_stopped _ _ (sym c.name_at.ensures ∙ c.in-Stopped.is)))
 
-loop-again : tie.Need-loop-preserved invariant-loop decreases-loop
+loop-again : tie.Need-loop-i-preserved invariant-loop decreases-loop
 loop-again c =
-    let b = c.before.before.before in
     let t = named c in (
       omega arith,
       t.fits,
       omega arith,
-      b.before.before.before.loop.invariant.3 ∙ next _ _ _ _ _ _ _ b.before.before.loop-test.true b.before.part.ensures _ t,
+      c.loop-i.invariant.3 ∙ next _ _ _ _ _ _ _ c.loop-i-test.true c.part.ensures _ t,
     )
 
-returns-2 : tie.Need-returns-2 invariant-loop decreases-loop
+returns-2 : tie.Need-returns invariant-loop decreases-loop
 returns-2 c =
-    sym (c.before.loop.invariant.3 ∙ done _ _ _ _ _ _ c.loop-test.false (omega arith))
+    sym (c.loop-i.invariant.3 ∙ done _ _ _ _ _ _ c.loop-i-test.false (omega arith))
 
 pub read_names_spec : {M : Type 1} → statement M
 read_names_spec =

@@ -37,21 +37,19 @@ module _ (size : ℕ) (l : Layout) (x : BlocksEnd) where
   unfolding closing
   stops r e = rw e
 
-returns : tie.Need-returns
-returns c = c.refused.ensures ∙ left_over _ _ _ _ _ c.before.before.before.blocks2.given.1 c.before.if1.true
+returns : tie.Need-returns-then-at-bytes
+returns c = c.refused.ensures ∙ left_over _ _ _ _ _ c.in-End.is c.if-at-bytes.true
 
-returns-2 : tie.Need-returns-2
+returns-2 : tie.Need-returns-then-is_empty
 returns-2 c =
-    let i = c.before in
-    ends_well _ _ _ _ _ i.before.before.before.blocks2.given.1 i.before.if1.false _ i.is-empty.ensures.same c.if2.true
+    ends_well _ _ _ _ _ c.in-End.is c.if-at-bytes.false _ c.is_empty.ensures.same c.if-is_empty.true
 
-returns-3 : tie.Need-returns-3
+returns-3 : tie.Need-returns-else-is_empty
 returns-3 c =
-    let i = c.before.before in
-    c.refused2.ensures ∙ name_left _ _ _ _ _ i.before.before.before.blocks2.given.1 i.before.if1.false _ i.is-empty.ensures.same c.before.if2.false
+    c.refused-else-is_empty.ensures ∙ name_left _ _ _ _ _ c.in-End.is c.if-at-bytes.false _ c.is_empty.ensures.same c.if-is_empty.false
 
-returns-4 : tie.Need-returns-4
-returns-4 c = c.refused3.ensures ∙ stops _ _ _ _ c.before.before.blocks3.given.1
+returns-4 : tie.Need-returns-in-Stopped
+returns-4 c = c.refused-in-Stopped.ensures ∙ stops _ _ _ _ c.in-Stopped.is
 
 pub close_book_spec : {M : Type 1} → statement M
 close_book_spec =

@@ -58,30 +58,24 @@ module _ (s : List ℕ) (h : length s ≤ longest_book) (t : NameTable) (e : t �
           (λ i. record { outcome = Done; layout = record { names = named.many i; offsets = named.placed i; body = named.end i + count_size; blocks = em i } })
           ∙ sym (ap opening_of head_is)
 
-returns : tie.Need-returns
-returns c = c.refused.ensures ∙ too_long _ c.before.if1.true
+returns : tie.Need-returns-then-bytes-gt-LONGEST
+returns c = c.refused.ensures ∙ too_long _ c.if-bytes-gt-LONGEST.true
 
-returns-2 : tie.Need-returns-2
+returns-2 : tie.Need-returns-in-Refused
 returns-2 c =
-    let n = c.before.before.before.before in
-    c.refused2.ensures ∙ no_names_lem _ n.before.if1.false _ n.name-section.ensures _ c.before.before.outcome.given.1
+    c.refused-in-Refused.ensures ∙ no_names_lem _ c.if-bytes-gt-LONGEST.false _ c.name_section-table.ensures _ c.in-Refused.is
 
-sub_if2 : tie.Need-overflow-sub-if2
+sub_if2 : tie.Need-overflow_sub-bytes
 sub_if2 c =
-    let n = c.before.before in
-    (table_told _ _ n.name-section.ensures c.enum_told.given.1).fits
+    (table_told _ _ c.name_section-table.ensures c.in_default.is).fits
 
-returns-3 : tie.Need-returns-3
+returns-3 : tie.Need-returns-then-bytes-end-lt-COUNT_SIZE
 returns-3 c =
-    let p = c.before.before in
-    let n = p.before.before in
-    c.refused3.ensures ∙ no_count _ n.before.if1.false _ n.name-section.ensures p.enum_told.given.1 c.before.if2.true
+    c.refused-then-bytes-end-lt-COUNT_SIZE.ensures ∙ no_count _ c.if-bytes-gt-LONGEST.false _ c.name_section-table.ensures c.in_default.is c.if-bytes-end-lt-COUNT_SIZE.true
 
-returns-4 : tie.Need-returns-4
+returns-4 : tie.Need-returns
 returns-4 c =
-    let p = c.before.before.before in
-    let n = p.before.before in
-    counted _ n.before.if1.false _ n.name-section.ensures p.enum_told.given.1 c.before.before.if2.false _ c.count_at.ensures.0
+    counted _ c.if-bytes-gt-LONGEST.false _ c.name_section-table.ensures c.in_default.is c.if-bytes-end-lt-COUNT_SIZE.false _ c.count_at.ensures.0
 
 pub open_book_spec : {M : Type 1} → statement M
 open_book_spec =

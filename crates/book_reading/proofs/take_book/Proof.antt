@@ -6,22 +6,19 @@ use Rattle.book_reading.proofs.Closing.{no_head, within, short, some, few, close
 use Rattle.book_reading.proofs.take_book.Statement.{statement}
 use Rattle.book_reading.proofs.take_book.Tie as tie
 
-returns : tie.Need-returns
+returns : tie.Need-returns-in-Refused
 returns c =
-    let o = c.before.before.before.before in
-    c.refused.ensures ∙ no_head _ _ o.open-book.ensures _ c.before.before.outcome.given.1
+    c.refused.ensures ∙ no_head _ _ c.open_book-opened.ensures _ c.in-Refused.is
 
-read-blocks-requires : tie.Need-read-blocks-requires
+read-blocks-requires : tie.Need-read_blocks-blocks-requires
 read-blocks-requires c κs =
-    let o = c.before.before.before in
-    let done = c.before.enum_told.given.1 in
-    let e = o.open-book.ensures in
+    let done = c.in_default.is in
+    let e = c.open_book-opened.ensures in
     (within _ _ e done, short _ _ e done, some _ _ e done, few _ _ e done)
 
-returns-2 : tie.Need-returns-2
+returns-2 : tie.Need-returns
 returns-2 c =
-    let o = c.before.before.before.before.before in
-    c.close-book.ensures ∙ closed_book _ _ o.open-book.ensures c.before.before.before.enum_told.given.1 _ c.before.read-blocks.ensures
+    c.close_book.ensures ∙ closed_book _ _ c.open_book-opened.ensures c.in_default.is _ c.read_blocks-blocks.ensures
 
 pub take_book_spec : {M : Type 1} → statement M
 take_book_spec =

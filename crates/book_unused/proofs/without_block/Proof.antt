@@ -35,19 +35,15 @@ parent_small bytes at size h = h
 
 without-requires : tie.Need-without-requires
 without-requires c κs =
-    let f = c.before.before.before in
-    omega (arith, c.wide.ensures.0, parent_small _ _ f.args.size f.requires.2)
+    omega (arith, c.wide.ensures.0, parent_small _ _ c.args.size c.requires.2)
 
-without-word-requires : tie.Need-without-word-requires
+without-word-requires : tie.Need-without_word-requires
 without-word-requires c κs =
-    let f = c.before.before.before.before.before in
-    all_below_lem _ f.args.at f.args.size _ c.part.ensures f.requires.3
+    all_below_lem _ c.args.at c.args.size _ c.part.ensures c.requires.3
 
 returns : tie.Need-returns
 returns c =
-    let p = c.before in
-    let w = p.before in
-    taken_out _ _ _ _ p.part.ensures _ _ _ w.before.wide.ensures.0 w.without.ensures.same _ c.without-word.ensures
+    taken_out _ _ _ _ c.part.ensures _ _ _ c.wide.ensures.0 c.without.ensures.same _ c.without_word.ensures
 
 pub without_block_spec : {M : Type 1} → statement M
 without_block_spec =

@@ -15,10 +15,10 @@ use Rattle.book_unused.specs.Unused.{without_word}
 use Rattle.book_unused.proofs.without_word.Statement.{statement}
 use Rattle.book_unused.proofs.without_word.Tie as tie
 
-abbrev invariant-loop : tie.invariant-loop
+abbrev invariant-loop : tie.invariant-loop-i
 invariant-loop word left₀ i₀ left i = without_word left₀ word ≡ without_word left (drop i word)
 
-abbrev decreases-loop : tie.decreases-loop
+abbrev decreases-loop : tie.decreases-loop-i
 decreases-loop word left₀ i₀ left i = length word - i
 
 -- a number taken out
@@ -32,19 +32,17 @@ ended : (whole left : NameSet) (w : List ℕ) (i : ℕ) → without_word whole w
 unfolding without_word
 ended whole left w i inv h = sym (inv ∙ rw (drop_of_length-le w h))
 
-without-requires : tie.Need-without-requires invariant-loop decreases-loop
+without-requires : tie.Need-without-left-requires invariant-loop decreases-loop
 without-requires c κs =
-    let l = c.before.before.before in
-    let h = child_below places _ l.before.before.requires l.loop.i c.before.before.loop-test.true in
+    let h = child_below places _ c.requires c.loop-i.i c.loop-i-test.true in
     omega (arith, c.wide.ensures.0, h)
 
-loop-again : tie.Need-loop-preserved invariant-loop decreases-loop
+loop-again : tie.Need-loop-i-preserved invariant-loop decreases-loop
 loop-again c =
-    let l = c.before.before.before.before in
-    again _ _ _ _ _ _ l.loop.invariant c.before.before.before.loop-test.true c.before.wide.ensures.0 c.without.ensures.same
+    again _ _ _ _ _ _ c.loop-i.invariant c.loop-i-test.true c.wide.ensures.0 c.without-left.ensures.same
 
 returns : tie.Need-returns invariant-loop decreases-loop
-returns c = ended _ _ _ _ c.before.loop.invariant c.loop-test.false
+returns c = ended _ _ _ _ c.loop-i.invariant c.loop-i-test.false
 
 pub without_word_spec : {M : Type 1} → statement M
 without_word_spec =

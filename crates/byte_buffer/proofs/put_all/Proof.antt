@@ -9,20 +9,20 @@ use borrow.Author.Rules.{rules}
 use Rattle.byte_buffer.proofs.put_all.Statement.{statement}
 use Rattle.byte_buffer.proofs.put_all.Tie as tie
 
-abbrev invariant-loop : tie.invariant-loop
+abbrev invariant-loop : tie.invariant-loop-i
 invariant-loop buffer₀ at bytes i₀ buffer i = (i ≤ length bytes) × (buffer ≡ sofar buffer₀ at bytes i) × (length buffer ≡ length buffer₀)
 
-abbrev decreases-loop : tie.decreases-loop
+abbrev decreases-loop : tie.decreases-loop-i
 decreases-loop buffer₀ at bytes i₀ buffer i = length bytes - i
 
-loop-holds : tie.Need-loop-init invariant-loop decreases-loop
+loop-holds : tie.Need-loop-i-init invariant-loop decreases-loop
 loop-holds c = (omega arith, sofar_none _ _ _, refl)
 
-loop-again : tie.Need-loop-preserved invariant-loop decreases-loop
-loop-again c = (omega arith, sofar_more _ _ _ _ _ c.before.before.loop.invariant.1 c.before.loop-test.true, simp length-set c.before.before.loop.invariant.2)
+loop-again : tie.Need-loop-i-preserved invariant-loop decreases-loop
+loop-again c = (omega arith, sofar_more _ _ _ _ _ c.loop-i.invariant.1 c.loop-i-test.true, simp length-set c.loop-i.invariant.2)
 
 returns : tie.Need-returns invariant-loop decreases-loop
-returns c = sofar_all _ _ _ _ _ c.before.loop.invariant.1 c.before.loop.invariant.2 c.before.loop.invariant.0 c.loop-test.false
+returns c = sofar_all _ _ _ _ _ c.loop-i.invariant.1 c.loop-i.invariant.2 c.loop-i.invariant.0 c.loop-i-test.false
 
 pub put_all_spec : {M : Type 1} → statement M
 put_all_spec =

@@ -4,10 +4,10 @@ use borrow.Author.Rules.{rules}
 use Rattle.byte_row.proofs.larger.Statement.{statement}
 use Rattle.byte_row.proofs.larger.Tie as tie
 
-returns : tie.Need-returns
+returns : tie.Need-returns-then-a-b
 returns c = search rules
 
-returns-2 : tie.Need-returns-2
+returns-2 : tie.Need-returns-else-a-b
 returns-2 c = search rules
 
 pub larger_spec : {M : Type 1} → statement M

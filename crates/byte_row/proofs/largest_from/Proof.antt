@@ -27,21 +27,21 @@ done : (s : List ℕ) (i top : ℕ) → length s ≤ i → max top (left s i) �
 unfolding left largest
 done s i top h = rw (drop_of_length-le s h) (omega arith)
 
-abbrev invariant-loop : tie.invariant-loop
+abbrev invariant-loop : tie.invariant-loop-i
 invariant-loop row from top₀ i₀ top i = largest (drop from row) ≡ max top (left row i)
 
-abbrev decreases-loop : tie.decreases-loop
+abbrev decreases-loop : tie.decreases-loop-i
 decreases-loop row from top₀ i₀ top i = length row - i
 
-loop-holds : tie.Need-loop-init invariant-loop decreases-loop
+loop-holds : tie.Need-loop-i-init invariant-loop decreases-loop
 loop-holds c = begin _ _
 
-loop-again : tie.Need-loop-preserved invariant-loop decreases-loop
+loop-again : tie.Need-loop-i-preserved invariant-loop decreases-loop
 loop-again c =
-    c.before.before.before.loop.invariant ∙ next _ _ _ _ (omega arith) c.larger.ensures
+    c.loop-i.invariant ∙ next _ _ _ _ (omega arith) c.larger-top.ensures
 
 returns : tie.Need-returns invariant-loop decreases-loop
-returns c = sym (c.before.loop.invariant ∙ done _ _ _ c.loop-test.false)
+returns c = sym (c.loop-i.invariant ∙ done _ _ _ c.loop-i-test.false)
 
 pub largest_from_spec : {M : Type 1} → statement M
 largest_from_spec =

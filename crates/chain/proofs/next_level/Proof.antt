@@ -1,9 +1,9 @@
 -- `next_level` meets its contract.
 -- Assumes nothing.
+use Rattle.std.proofs.Common.{ap, not}
 use mathlib.Core.Path.{sym, ◌∙◌}
 use native.Mathlib.Omega.{arith}
 use borrow.Author.Rules.{rules}
-use borrow.Author.Tests.{not-true}
 use Rattle.nameset.specs.Places.{places}
 use Rattle.nameset.specs.Set.{member}
 use Rattle.nameset.specs.Rows.{IsRows}
@@ -14,41 +14,35 @@ use Rattle.chain.proofs.Sets.{Leaving, leave_none, leave_fewer, leave_more, leav
 use Rattle.chain.proofs.next_level.Statement.{statement}
 use Rattle.chain.proofs.next_level.Tie as tie
 
-abbrev invariant-loop : tie.invariant-loop
+abbrev invariant-loop : tie.invariant-loop-likely
 invariant-loop behind likely level₀ left₀ level left = IsRows places behind × Transitive behind × Leaving behind left₀ level left
 
-abbrev decreases-loop : tie.decreases-loop
+abbrev decreases-loop : tie.decreases-loop-likely
 decreases-loop behind likely level₀ left₀ level left = count_below places (member left)
 
-loop-holds : tie.Need-loop-init invariant-loop decreases-loop
-loop-holds c = let pre = c.before.requires in (pre.0, pre.1, leave_none _ _)
+loop-holds : tie.Need-loop-likely-init invariant-loop decreases-loop
+loop-holds c = let pre = c.requires in (pre.0, pre.1, leave_none _ _)
 
-pick-requires : tie.Need-pick-requires invariant-loop decreases-loop
-pick-requires c κs = let none = c.before in sym none.is-empty.ensures.same ∙ not-true none.is-empty.result c.if1.true
+pick-requires : tie.Need-pick-a-requires invariant-loop decreases-loop
+pick-requires c κs = sym c.is_empty.ensures.same ∙ c.loop-likely-test.true
 
-row-at-requires : tie.Need-row-at-requires invariant-loop decreases-loop
-row-at-requires c κs = omega (arith, c.pick.ensures.0, c.before.before.before.loop.invariant.0)
+row-at-requires : tie.Need-row_at-row-requires invariant-loop decreases-loop
+row-at-requires c κs = omega (arith, c.pick-a.ensures.0, c.loop-likely.invariant.0)
 
-loop-less : tie.Need-loop-smaller invariant-loop decreases-loop
+loop-less : tie.Need-loop-likely-smaller invariant-loop decreases-loop
 loop-less c =
-    let with = c.before in
-    let pick = with.before.before.before in
-    leave_fewer _ _ pick.pick.ensures _ _ c.minus2.ensures.members _ with.with.ensures.members
+    leave_fewer _ _ c.pick-a.ensures _ _ c.minus-left.ensures.members _ c.with.ensures.members
 
-loop-again : tie.Need-loop-preserved invariant-loop decreases-loop
+loop-again : tie.Need-loop-likely-preserved invariant-loop decreases-loop
 loop-again c =
-    let with = c.before in
-    let minus = with.before in
-    let row = minus.before in
-    let pick = row.before in
-    let inv = pick.before.before.before.loop.invariant in (
+    let inv = c.loop-likely.invariant in (
       inv.0,
       inv.1,
-      leave_more _ _ pick.pick.ensures _ _ c.minus2.ensures.members _ with.with.ensures.members _ inv.1 row.row_at.ensures inv.2 _ minus.minus.ensures.members,
+      leave_more _ _ c.pick-a.ensures _ _ c.minus-left.ensures.members _ c.with.ensures.members _ inv.1 c.row_at-row.ensures inv.2 _ c.minus-level.ensures.members,
     )
 
 returns : tie.Need-returns invariant-loop decreases-loop
-returns c = leave_all c.before.before.loop.invariant.2 (turns_done c.before.is-empty.ensures c.if1.false)
+returns c = leave_all c.loop-likely.invariant.2 (turns_done c.is_empty.ensures (ap not c.loop-likely-test.false))
 
 pub next_level_spec : {M : Type 1} → statement M
 next_level_spec =

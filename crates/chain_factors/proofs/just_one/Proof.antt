@@ -5,11 +5,11 @@ use Rattle.chain_factors.proofs.Sets.{one_none, one_some}
 use Rattle.chain_factors.proofs.just_one.Statement.{statement}
 use Rattle.chain_factors.proofs.just_one.Tie as tie
 
-returns : tie.Need-returns
-returns c = one_none _ _ c.before.is-empty.ensures c.if1.true
+returns : tie.Need-returns-then-is_empty
+returns c = one_none _ _ c.is_empty.ensures c.if-is_empty.true
 
-returns-2 : tie.Need-returns-2
-returns-2 c = one_some _ _ _ _ (search rules) c.before.before.before.is-empty.ensures c.before.before.if1.false c.before.rest.ensures c.is-empty2.ensures
+returns-2 : tie.Need-returns-else-is_empty
+returns-2 c = one_some _ _ _ _ (search rules) c.is_empty.ensures c.if-is_empty.false c.rest.ensures c.is_empty-else-is_empty.ensures
 
 pub just_one_spec : {M : Type 1} → statement M
 just_one_spec =

@@ -5,11 +5,11 @@ use Rattle.chain_factors.proofs.Sets.{factors_groups, factors_singles}
 use Rattle.chain_factors.proofs.one_factor.Statement.{statement}
 use Rattle.chain_factors.proofs.one_factor.Tie as tie
 
-returns : tie.Need-returns
-returns c = factors_groups _ _ _ _ c.before.before.is-empty.ensures c.before.if1.true c.just_one.ensures
+returns : tie.Need-returns-then-is_empty
+returns c = factors_groups _ _ _ _ c.is_empty.ensures c.if-is_empty.true c.just_one.ensures
 
-returns-2 : tie.Need-returns-2
-returns-2 c = factors_singles _ _ _ _ c.before.before.is-empty.ensures c.before.if1.false c.is-empty2.ensures
+returns-2 : tie.Need-returns-else-is_empty
+returns-2 c = factors_singles _ _ _ _ c.is_empty.ensures c.if-is_empty.false c.is_empty-else-is_empty.ensures
 
 pub one_factor_spec : {M : Type 1} → statement M
 one_factor_spec =

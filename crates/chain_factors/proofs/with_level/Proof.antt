@@ -6,23 +6,19 @@ use Rattle.chain_factors.proofs.Factors.{level_any, level_groups, level_both}
 use Rattle.chain_factors.proofs.with_level.Statement.{statement}
 use Rattle.chain_factors.proofs.with_level.Tie as tie
 
-with-any-requires : tie.Need-with-any-requires
-with-any-requires c κs = level_any _ _ _ c.before.before.before.before.before.requires.0
+with-any-requires : tie.Need-with_any-first-requires
+with-any-requires c κs = level_any _ _ _ c.requires.0
 
-with-groups-requires : tie.Need-with-groups-requires
+with-groups-requires : tie.Need-with_groups-requires
 with-groups-requires c κs =
-    let any = c.before in
-    (level_groups _ _ _ _ _ any.with-any.ensures any.before.before.before.before.before.before.requires.0, search rules, search rules)
+    (level_groups _ _ _ _ _ c.with_any-first.ensures c.requires.0, search rules, search rules)
 
 returns : tie.Need-returns
 returns c =
-    let any = c.before.before in
-    let fixed = any.before.before in
-    let one = fixed.before in
-    let args = one.before.before.before.args in
-    level_both args.m any.with-any.result c.with-groups.result args.singles args.leaders (holds_in args.reach.now args.behind.now) args.skipped
-    one.one_factor.result fixed.is_fixed.result any.before.mode.result c.before.mode2.result
-    one.one_factor.ensures fixed.is_fixed.ensures any.before.mode.ensures c.before.mode2.ensures any.with-any.ensures c.with-groups.ensures
+    let args = c.args in
+    level_both args.m c.with_any-first.result c.with_groups.result args.singles args.leaders (holds_in args.reach.now args.behind.now) args.skipped
+    c.one_factor.result c.is_fixed-fixed.result c.mode.result c.mode-2.result
+    c.one_factor.ensures c.is_fixed-fixed.ensures c.mode.ensures c.mode-2.ensures c.with_any-first.ensures c.with_groups.ensures
 
 pub with_level_spec : {M : Type 1} → statement M
 with_level_spec =

@@ -1,5 +1,6 @@
 -- `put_each` meets its contract.
 -- Assumes nothing.
+use Rattle.std.proofs.Common.{ap, not}
 use native.Mathlib.Omega.{arith}
 use borrow.Author.Rules.{rules}
 use Rattle.nameset.specs.Set.{size}
@@ -8,35 +9,30 @@ use Rattle.chain_groups.proofs.Groups.{Putting, put_none, put_more, put_all}
 use Rattle.chain_groups.proofs.put_each.Statement.{statement}
 use Rattle.chain_groups.proofs.put_each.Tie as tie
 
-abbrev invariant-loop : tie.invariant-loop
+abbrev invariant-loop : tie.invariant-loop-set
 invariant-loop rows₀ set left₀ rows left = Putting rows₀ rows left₀ set left
 
-abbrev decreases-loop : tie.decreases-loop
+abbrev decreases-loop : tie.decreases-loop-set
 decreases-loop rows₀ set left₀ rows left = size left
 
-loop-holds : tie.Need-loop-init invariant-loop decreases-loop
+loop-holds : tie.Need-loop-set-init invariant-loop decreases-loop
 loop-holds c = put_none _ _ _ (search rules)
 
-put-row-requires : tie.Need-put-row-requires invariant-loop decreases-loop
+put-row-requires : tie.Need-put_row-requires invariant-loop decreases-loop
 put-row-requires c κs =
-    let first = c.before in
-    let turn = first.before in
-    let found = turn_first turn.before.is-empty.ensures turn.if1.true first.first.ensures in
-    omega (arith, found.0, turn.before.before.loop.invariant.size)
+    let found = turn_first c.is_empty.ensures (ap not c.loop-set-test.true) c.first-a.ensures in
+    omega (arith, found.0, c.loop-set.invariant.size)
 
-loop-less : tie.Need-loop-smaller invariant-loop decreases-loop
-loop-less c = let turn = c.before.before.before.before.before.before in turn_fewer turn.before.is-empty.ensures turn.if1.true c.rest.ensures
+loop-less : tie.Need-loop-set-smaller invariant-loop decreases-loop
+loop-less c = turn_fewer c.is_empty.ensures (ap not c.loop-set-test.true) c.rest-left.ensures
 
-loop-again : tie.Need-loop-preserved invariant-loop decreases-loop
+loop-again : tie.Need-loop-set-preserved invariant-loop decreases-loop
 loop-again c =
-    let put = c.before.before.before in
-    let first = put.before.before in
-    let turn = first.before in
-    let found = turn_first turn.before.is-empty.ensures turn.if1.true first.first.ensures in
-    put_more turn.before.before.loop.invariant found _ _ put.put-row.ensures.0 (turn_rest first.first.ensures c.rest.ensures)
+    let found = turn_first c.is_empty.ensures (ap not c.loop-set-test.true) c.first-a.ensures in
+    put_more c.loop-set.invariant found _ _ c.put_row.ensures.0 (turn_rest c.first-a.ensures c.rest-left.ensures)
 
 returns : tie.Need-returns invariant-loop decreases-loop
-returns c = put_all c.before.before.loop.invariant (turns_done c.before.is-empty.ensures c.if1.false)
+returns c = put_all c.loop-set.invariant (turns_done c.is_empty.ensures (ap not c.loop-set-test.false))
 
 pub put_each_spec : {M : Type 1} → statement M
 put_each_spec =

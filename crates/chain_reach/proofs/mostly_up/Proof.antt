@@ -8,14 +8,14 @@ use Rattle.nameset.specs.Rows.{IsRows}
 use Rattle.chain_reach.proofs.mostly_up.Statement.{statement}
 use Rattle.chain_reach.proofs.mostly_up.Tie as tie
 
-abbrev invariant-loop : tie.invariant-loop
+abbrev invariant-loop : tie.invariant-loop-a
 invariant-loop follows n up₀ a₀ up a = (up ≤ a) × (a ≤ n) × (n ≤ places) × IsRows places follows
 
-abbrev decreases-loop : tie.decreases-loop
+abbrev decreases-loop : tie.decreases-loop-a
 decreases-loop follows n up₀ a₀ up a = n - a
 
-loop-again : tie.Need-loop-preserved invariant-loop decreases-loop
-loop-again c = let inv = c.before.before.before.before.loop.invariant in (omega (arith, c.one-if.ensures), omega arith, inv.2, inv.3)
+loop-again : tie.Need-loop-a-preserved invariant-loop decreases-loop
+loop-again c = let inv = c.loop-a.invariant in (omega (arith, c.one_if-up.ensures), omega arith, inv.2, inv.3)
 
 pub mostly_up_spec : {M : Type 1} → statement M
 mostly_up_spec =

@@ -9,41 +9,36 @@ use Rattle.chain_reach.proofs.Closing.{Closing, close_none, close_more, reached_
 use Rattle.chain_reach.proofs.reach_rows.Statement.{statement}
 use Rattle.chain_reach.proofs.reach_rows.Tie as tie
 
-abbrev invariant-loop : tie.invariant-loop
+abbrev invariant-loop : tie.invariant-loop-i
 invariant-loop follows n down rows₀ closed₀ i₀ rows closed i = (i ≤ n) × (n ≤ places) × IsRows places follows × Closing follows rows down n i
 
-abbrev decreases-loop : tie.decreases-loop
+abbrev decreases-loop : tie.decreases-loop-i
 decreases-loop follows n down rows₀ closed₀ i₀ rows closed i = n - i
 
-loop-holds : tie.Need-loop-init invariant-loop decreases-loop
+loop-holds : tie.Need-loop-i-init invariant-loop decreases-loop
 unfolding no_rows
 loop-holds c = (omega arith, search rules, search rules, close_none _ _ _)
 
-reach-of-requires : tie.Need-reach-of-requires invariant-loop decreases-loop
+reach-of-requires : tie.Need-reach_of-row-requires invariant-loop decreases-loop
 reach-of-requires c κs =
-    let turn = c.before in
-    let inv = turn.before.before.loop.invariant in
-    (omega (arith, turn.in-turn.ensures.1, inv.1), inv.2, inv.3.closed)
+    let inv = c.loop-i.invariant in
+    (omega (arith, c.in_turn-a.ensures.1, inv.1), inv.2, inv.3.closed)
 
-with-requires : tie.Need-with-requires invariant-loop decreases-loop
+with-requires : tie.Need-with-closed-requires invariant-loop decreases-loop
 with-requires c κs =
-    let turn = c.before.before.before.before.before in
-    omega (arith, turn.in-turn.ensures.1, turn.before.before.loop.invariant.1)
+    omega (arith, c.in_turn-a.ensures.1, c.loop-i.invariant.1)
 
-loop-again : tie.Need-loop-preserved invariant-loop decreases-loop
+loop-again : tie.Need-loop-i-preserved invariant-loop decreases-loop
 loop-again c =
-    let put = c.before.before in
-    let reach = put.before.before in
-    let turn = reach.before.before in
-    let inv = turn.before.before.loop.invariant in (
+    let inv = c.loop-i.invariant in (
       omega arith,
       inv.1,
       inv.2,
-      close_more inv.3 _ (omega (arith, turn.in-turn.ensures.1, inv.1)) turn.in-turn.ensures.0 _ reach.reach_of.ensures _ put.put-row.ensures.0,
+      close_more inv.3 _ (omega (arith, c.in_turn-a.ensures.1, inv.1)) c.in_turn-a.ensures.0 _ c.reach_of-row.ensures _ c.put_row.ensures.0,
     )
 
 returns : tie.Need-returns invariant-loop decreases-loop
-returns c = reached_all c.before.loop.invariant.3 (omega arith)
+returns c = reached_all c.loop-i.invariant.3 (omega arith)
 
 pub reach_rows_spec : {M : Type 1} → statement M
 reach_rows_spec =

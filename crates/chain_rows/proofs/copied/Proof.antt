@@ -10,24 +10,23 @@ use Rattle.chain_rows.proofs.Laws.{row_is, Filled, fill_more, copy_none, copy_al
 use Rattle.chain_rows.proofs.copied.Statement.{statement}
 use Rattle.chain_rows.proofs.copied.Tie as tie
 
-abbrev invariant-loop : tie.invariant-loop
+abbrev invariant-loop : tie.invariant-loop-a
 invariant-loop rows out₀ a₀ out a = (a ≤ places) × IsRows places rows × Filled (no_rows places) out (in_row rows) a
 
-abbrev decreases-loop : tie.decreases-loop
+abbrev decreases-loop : tie.decreases-loop-a
 decreases-loop rows out₀ a₀ out a = places - a
 
-loop-holds : tie.Need-loop-init invariant-loop decreases-loop
+loop-holds : tie.Need-loop-a-init invariant-loop decreases-loop
 unfolding no_rows
 loop-holds c = (omega arith, search rules, copy_none _)
 
-loop-again : tie.Need-loop-preserved invariant-loop decreases-loop
+loop-again : tie.Need-loop-a-preserved invariant-loop decreases-loop
 loop-again c =
-    let row = c.before.before.before in
-    let inv = row.before.before.loop.invariant in
-    (omega arith, inv.1, fill_more inv.2 _ (omega arith) (row_is _ _ _ row.row_at.ensures) _ c.before.put-row.ensures.0)
+    let inv = c.loop-a.invariant in
+    (omega arith, inv.1, fill_more inv.2 _ (omega arith) (row_is _ _ _ c.row_at-row.ensures) _ c.put_row.ensures.0)
 
 returns : tie.Need-returns invariant-loop decreases-loop
-returns c = let inv = c.before.loop.invariant in copy_all _ _ _ inv.1 inv.2 (omega arith)
+returns c = let inv = c.loop-a.invariant in copy_all _ _ _ inv.1 inv.2 (omega arith)
 
 pub copied_spec : {M : Type 1} → statement M
 copied_spec =

@@ -5,11 +5,11 @@ use Rattle.chain_rows.proofs.Laws.{picked_both}
 use Rattle.chain_rows.proofs.pick.Statement.{statement}
 use Rattle.chain_rows.proofs.pick.Tie as tie
 
-returns : tie.Need-returns
-returns c = c.first.ensures.found c.before.before.before.before.requires
+returns : tie.Need-returns-then-is_empty
+returns c = c.first.ensures.found c.requires
 
-returns-2 : tie.Need-returns-2
-returns-2 c = let both = c.before.before.before in picked_both _ _ _ both.both.ensures.members _ c.before.before.is-empty.ensures c.before.if1.false _ c.first2.ensures
+returns-2 : tie.Need-returns-else-is_empty
+returns-2 c = picked_both _ _ _ c.both-likely.ensures.members _ c.is_empty.ensures c.if-is_empty.false _ c.first-else-is_empty.ensures
 
 pub pick_spec : {M : Type 1} → statement M
 pick_spec =

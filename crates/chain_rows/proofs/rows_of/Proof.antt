@@ -1,5 +1,6 @@
 -- `rows_of` meets its contract: the rows of the names passed are joined, those of the names left are to come.
 -- Assumes nothing.
+use Rattle.std.proofs.Common.{ap, not}
 use native.Mathlib.Omega.{arith}
 use borrow.Author.Rules.{rules}
 use Rattle.nameset.specs.Places.{places}
@@ -10,35 +11,31 @@ use Rattle.chain_rows.proofs.Laws.{Joined, join_start, join_more, join_all}
 use Rattle.chain_rows.proofs.rows_of.Statement.{statement}
 use Rattle.chain_rows.proofs.rows_of.Tie as tie
 
-abbrev invariant-loop : tie.invariant-loop
+abbrev invariant-loop : tie.invariant-loop-left
 invariant-loop rows s₀ left₀ s left = IsRows places rows × Joined rows left₀ left s
 
-abbrev decreases-loop : tie.decreases-loop
+abbrev decreases-loop : tie.decreases-loop-left
 decreases-loop rows s₀ left₀ s left = size left
 
-loop-holds : tie.Need-loop-init invariant-loop decreases-loop
-loop-holds c = (search rules, join_start _ _ _ c.empty.ensures.members)
+loop-holds : tie.Need-loop-left-init invariant-loop decreases-loop
+loop-holds c = (search rules, join_start _ _ _ c.empty-s.ensures.members)
 
-row-at-requires : tie.Need-row-at-requires invariant-loop decreases-loop
+row-at-requires : tie.Need-row_at-requires invariant-loop decreases-loop
 row-at-requires c κs =
-    let turn = c.before in
-    let found = turn_first turn.before.is-empty.ensures turn.if1.true c.first.ensures in
-    omega (arith, found.0, turn.before.before.loop.invariant.0)
+    let found = turn_first c.is_empty.ensures (ap not c.loop-left-test.true) c.first-a.ensures in
+    omega (arith, found.0, c.loop-left.invariant.0)
 
-loop-less : tie.Need-loop-smaller invariant-loop decreases-loop
-loop-less c = let turn = c.before.before.before.before in turn_fewer turn.before.is-empty.ensures turn.if1.true c.rest.ensures
+loop-less : tie.Need-loop-left-smaller invariant-loop decreases-loop
+loop-less c = turn_fewer c.is_empty.ensures (ap not c.loop-left-test.true) c.rest-left.ensures
 
-loop-again : tie.Need-loop-preserved invariant-loop decreases-loop
+loop-again : tie.Need-loop-left-preserved invariant-loop decreases-loop
 loop-again c =
-    let row = c.before.before in
-    let first = row.before in
-    let turn = first.before in
-    let inv = turn.before.before.loop.invariant in
-    let found = turn_first turn.before.is-empty.ensures turn.if1.true first.first.ensures in
-    (inv.0, join_more inv.1 found _ _ _ row.row_at.ensures c.before.union.ensures.members (turn_rest first.first.ensures c.rest.ensures))
+    let inv = c.loop-left.invariant in
+    let found = turn_first c.is_empty.ensures (ap not c.loop-left-test.true) c.first-a.ensures in
+    (inv.0, join_more inv.1 found _ _ _ c.row_at.ensures c.union-s.ensures.members (turn_rest c.first-a.ensures c.rest-left.ensures))
 
 returns : tie.Need-returns invariant-loop decreases-loop
-returns c = join_all c.before.before.loop.invariant.1 (turns_done c.before.is-empty.ensures c.if1.false)
+returns c = join_all c.loop-left.invariant.1 (turns_done c.is_empty.ensures (ap not c.loop-left-test.false))
 
 pub rows_of_spec : {M : Type 1} → statement M
 rows_of_spec =

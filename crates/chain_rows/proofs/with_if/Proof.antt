@@ -8,11 +8,11 @@ use Rattle.chain_rows.proofs.Laws.{more_yes, more_no}
 use Rattle.chain_rows.proofs.with_if.Statement.{statement}
 use Rattle.chain_rows.proofs.with_if.Tie as tie
 
-returns : tie.Need-returns
-returns c = λ j. let a = c.before.before.args in c.with.ensures.members j ∙ more_yes (member a.s j) (eqb a.i j) a.more c.before.if1.true
+returns : tie.Need-returns-then-more
+returns c = λ j. let a = c.args in c.with.ensures.members j ∙ more_yes (member a.s j) (eqb a.i j) a.more c.if-more.true
 
-returns-2 : tie.Need-returns-2
-returns-2 c = λ j. let a = c.before.args in more_no (member a.s j) (eqb a.i j) a.more c.if1.false
+returns-2 : tie.Need-returns-else-more
+returns-2 c = λ j. let a = c.args in more_no (member a.s j) (eqb a.i j) a.more c.if-more.false
 
 pub with_if_spec : {M : Type 1} → statement M
 with_if_spec = tie.close (tie.spec (λ c κs. search rules) returns returns-2)

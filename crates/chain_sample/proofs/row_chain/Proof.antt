@@ -12,20 +12,17 @@ use Rattle.chain_sample.proofs.row_chain.Tie as tie
 
 chain-requires : tie.Need-chain-requires
 chain-requires c κs =
-    let f = c.before.before.before.before.before in
-    let size = f.requires.1.size in (
-      f.requires.0,
-      rows_taken f.args.row.now size _ refl,
-      facts_shown_in _ f.args.row.now f.requires.0 f.requires.1 _ (facts_taken f.args.row.now size _ _ _ c.before.before.before.row_at.ensures c.before.before.row-at2.ensures refl),
+    let size = c.requires.1.size in (
+      c.requires.0,
+      rows_taken c.args.row.now size _ refl,
+      facts_shown_in _ c.args.row.now c.requires.0 c.requires.1 _ (facts_taken c.args.row.now size _ _ _ c.row_at.ensures c.row_at-2.ensures refl),
     )
 
 returns : tie.Need-returns
 returns c =
-    let f = c.before.before.before.before.before.before in
-    let b = c.before in
     c.chain.ensures
-    ∙ ap (λ (x : Facts). chain_of places (view_of f.args.n x))
-    (facts_taken f.args.row.now f.requires.1.size _ _ _ b.before.before.before.row_at.ensures b.before.before.row-at2.ensures refl)
+    ∙ ap (λ (x : Facts). chain_of places (view_of c.args.n x))
+    (facts_taken c.args.row.now c.requires.1.size _ _ _ c.row_at.ensures c.row_at-2.ensures refl)
 
 pub row_chain_spec : {M : Type 1} → statement M
 row_chain_spec =

@@ -13,17 +13,15 @@ use Rattle.chain_sample.proofs.Shown.{facts_taken, rows_taken, facts_shown_in}
 use Rattle.chain_sample.proofs.row_mixed.Statement.{statement}
 use Rattle.chain_sample.proofs.row_mixed.Tie as tie
 
-mixed-chain-requires : tie.Need-mixed-chain-requires
-mixed-chain-requires c κs = let f = c.before.before.before in (f.requires.0, rows_taken f.args.row.now f.requires.1.size _ refl)
+mixed-chain-requires : tie.Need-mixed_chain-requires
+mixed-chain-requires c κs = (c.requires.0, rows_taken c.args.row.now c.requires.1.size _ refl)
 
 returns : tie.Need-returns
 returns c =
-    let b = c.before in
-    let f = b.before.before.before in
-    let row = f.args.row.now in
-    let facts = facts_taken row f.requires.1.size _ (row_at row 1) _ b.before.row_at.ensures refl refl in
-    c.mixed-chain.ensures (row_at row 1) (eqb (get_or row 2 0) 1) (facts_shown_in _ row f.requires.0 f.requires.1 _ facts)
-    ∙ ap (λ (x : Facts). mixed_chain places (view_of f.args.n x)) facts
+    let row = c.args.row.now in
+    let facts = facts_taken row c.requires.1.size _ (row_at row 1) _ c.row_at.ensures refl refl in
+    c.mixed_chain.ensures (row_at row 1) (eqb (get_or row 2 0) 1) (facts_shown_in _ row c.requires.0 c.requires.1 _ facts)
+    ∙ ap (λ (x : Facts). mixed_chain places (view_of c.args.n x)) facts
 
 pub row_mixed_spec : {M : Type 1} → statement M
 row_mixed_spec = tie.close (tie.spec (λ c κs. search rules) (λ c. search rules) (λ c. search rules) (λ c. search rules) mixed-chain-requires returns)

@@ -6,14 +6,14 @@ use Rattle.curlewsong_reply.proofs.Replies.{included_yes, included_no, included_
 use Rattle.curlewsong_reply.proofs.inclusion_of.Statement.{statement}
 use Rattle.curlewsong_reply.proofs.inclusion_of.Tie as tie
 
-returns : tie.Need-returns
-returns c = c.replied.ensures ∙ included_yes _ c.before.enum_told.given.1
+returns : tie.Need-returns-in-Yes
+returns c = c.replied.ensures ∙ included_yes _ c.in-Yes.is
 
-returns-2 : tie.Need-returns-2
-returns-2 c = c.replied2.ensures ∙ included_no _ _ c.before.before.answer.given.1
+returns-2 : tie.Need-returns-in-No
+returns-2 c = c.replied-in-No.ensures ∙ included_no _ _ c.in-No.is
 
-returns-3 : tie.Need-returns-3
-returns-3 c = c.replied3.ensures ∙ included_refused _ _ _ c.before.before.before.answer2.given.1 c.before.number.ensures
+returns-3 : tie.Need-returns-in-Refused
+returns-3 c = c.replied-in-Refused.ensures ∙ included_refused _ _ _ c.in-Refused.is c.number.ensures
 
 pub inclusion_of_spec : {M : Type 1} → statement M
 inclusion_of_spec =

@@ -5,21 +5,21 @@ use Rattle.declaration_spelling.specs.Token.{is_space}
 use Rattle.declaration_bytes.proofs.is_space.Statement.{statement}
 use Rattle.declaration_bytes.proofs.is_space.Tie as tie
 
-returns : tie.Need-returns
+returns : tie.Need-returns-then-next-eq32
 unfolding is_space
-returns c = rw (eq-eqb _ 32 c.if1.true)
+returns c = rw (eq-eqb _ 32 c.if-next-eq32.true)
 
-returns-2 : tie.Need-returns-2
+returns-2 : tie.Need-returns-then-next-eq9
 unfolding is_space
-returns-2 c = rw (ne_eqb _ 32 c.before.if1.false, eq-eqb _ 9 c.if2.true)
+returns-2 c = rw (ne_eqb _ 32 c.if-next-eq32.false, eq-eqb _ 9 c.if-next-eq9.true)
 
-returns-3 : tie.Need-returns-3
+returns-3 : tie.Need-returns-then-next-eq13
 unfolding is_space
-returns-3 c = rw (ne_eqb _ 32 c.before.before.if1.false, ne_eqb _ 9 c.before.if2.false, eq-eqb _ 13 c.if3.true)
+returns-3 c = rw (ne_eqb _ 32 c.if-next-eq32.false, ne_eqb _ 9 c.if-next-eq9.false, eq-eqb _ 13 c.if-next-eq13.true)
 
-returns-4 : tie.Need-returns-4
+returns-4 : tie.Need-returns
 unfolding is_space
-returns-4 c = rw (ne_eqb _ 32 c.before.before.if1.false, ne_eqb _ 9 c.before.if2.false, ne_eqb _ 13 c.if3.false)
+returns-4 c = rw (ne_eqb _ 32 c.if-next-eq32.false, ne_eqb _ 9 c.if-next-eq9.false, ne_eqb _ 13 c.if-next-eq13.false)
 
 pub is_space_spec : {M : Type 1} → statement M
 is_space_spec = tie.close (tie.spec returns returns-2 returns-3 returns-4)

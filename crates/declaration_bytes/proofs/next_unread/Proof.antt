@@ -6,14 +6,14 @@ use borrow.Author.Rules.{rules}
 use Rattle.declaration_bytes.proofs.next_unread.Statement.{statement}
 use Rattle.declaration_bytes.proofs.next_unread.Tie as tie
 
-cast-result : tie.Need-overflow-cast-result
-cast-result c = omega (arith, c.shared-slice-known.given c.before.before.args.at)
+cast-result : tie.Need-overflow_cast-result
+cast-result c = omega (arith, c.shared_slice_known-1.given c.args.at)
 
-returns : tie.Need-returns
-returns c = (next_here _ _ c.before.if1.true, omega (arith, c.shared-slice-known.given c.before.before.args.at))
+returns : tie.Need-returns-then-at-text
+returns c = (next_here _ _ c.if-at-text.true, omega (arith, c.shared_slice_known-1.given c.args.at))
 
-returns-2 : tie.Need-returns-2
-returns-2 c = (next_end _ _ c.if1.false, omega arith)
+returns-2 : tie.Need-returns-else-at-text
+returns-2 c = (next_end _ _ c.if-at-text.false, omega arith)
 
 pub next_unread_spec : {M : Type 1} → statement M
 next_unread_spec = tie.close (tie.spec (λ c. search rules) cast-result returns returns-2)

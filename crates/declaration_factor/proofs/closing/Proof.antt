@@ -14,11 +14,11 @@ alone : (a : Bool) → a ≡ false → 0 ≡ close_byte a
 unfolding close_byte
 alone a p = rw p
 
-returns : tie.Need-returns
-returns c = many _ c.if1.true
+returns : tie.Need-returns-then-many
+returns c = many _ c.if-many.true
 
-returns-2 : tie.Need-returns-2
-returns-2 c = alone _ c.if1.false
+returns-2 : tie.Need-returns-else-many
+returns-2 c = alone _ c.if-many.false
 
 pub closing_spec : {M : Type 1} → statement M
 closing_spec = tie.close (tie.spec returns returns-2)

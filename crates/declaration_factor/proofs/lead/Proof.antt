@@ -18,14 +18,14 @@ alone : (a b : Bool) → a ≡ false → 0 ≡ lead_byte a b
 unfolding lead_byte
 alone a b p = rw p
 
-returns : tie.Need-returns
-returns c = bar _ _ c.before.if1.true c.if2.true
+returns : tie.Need-returns-then-some
+returns c = bar _ _ c.if-many.true c.if-some.true
 
-returns-2 : tie.Need-returns-2
-returns-2 c = bracket _ _ c.before.if1.true c.if2.false
+returns-2 : tie.Need-returns-else-some
+returns-2 c = bracket _ _ c.if-many.true c.if-some.false
 
-returns-3 : tie.Need-returns-3
-returns-3 c = alone _ _ c.if1.false
+returns-3 : tie.Need-returns-else-many
+returns-3 c = alone _ _ c.if-many.false
 
 pub lead_spec : {M : Type 1} → statement M
 lead_spec = tie.close (tie.spec returns returns-2 returns-3)

@@ -26,17 +26,17 @@ any (suc zero) a b c = absurd (b refl)
 any (suc (suc zero)) a b c = absurd (c refl)
 any (suc (suc (suc m))) a b c = refl
 
-returns : tie.Need-returns
-returns c = plain _ c.match.keys1
+returns : tie.Need-returns-in-0
+returns c = plain _ c.in-0.is
 
-returns-2 : tie.Need-returns-2
-returns-2 c = optional _ c.match.keys2
+returns-2 : tie.Need-returns-in-1
+returns-2 c = optional _ c.in-1.is
 
-returns-3 : tie.Need-returns-3
-returns-3 c = repeated _ c.match.keys3
+returns-3 : tie.Need-returns-in-2
+returns-3 c = repeated _ c.in-2.is
 
-returns-4 : tie.Need-returns-4
-returns-4 c = any _ c.match.rest.0.0.1 c.match.rest.0.1 c.match.rest.1
+returns-4 : tie.Need-returns-in-3-to-255
+returns-4 c = any _ c.in-3-to-255.in-3-to-255-own.rest.0.0.1 c.in-3-to-255.in-3-to-255-own.rest.0.1 c.in-3-to-255.in-3-to-255-own.rest.1
 
 pub mark_spec : {M : Type 1} → statement M
 mark_spec = tie.close (tie.spec returns returns-2 returns-3 returns-4)

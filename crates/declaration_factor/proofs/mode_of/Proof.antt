@@ -8,13 +8,13 @@ use borrow.Author.Rules.{rules}
 use Rattle.declaration_factor.proofs.mode_of.Statement.{statement}
 use Rattle.declaration_factor.proofs.mode_of.Tie as tie
 
-returns : tie.Need-returns
+returns : tie.Need-returns-then-i-lt-PLACES
 unfolding mode_of
 returns c = refl
 
-returns-2 : tie.Need-returns-2
+returns-2 : tie.Need-returns-else-i-lt-PLACES
 unfolding mode_of
-returns-2 c = let l : length c.before.before.args.m.mode ≡ 64 = search rules in sym (get_or-eq_default c.before.before.args.m.mode 0 (omega (arith, l)))
+returns-2 c = let l : length c.args.m.mode ≡ 64 = search rules in sym (get_or-eq_default c.args.m.mode 0 (omega (arith, l)))
 
 pub mode_of_spec : {M : Type 1} → statement M
 mode_of_spec = tie.close (tie.spec (λ c. search rules) returns returns-2)

@@ -4,7 +4,6 @@ use mathlib.Core.Path.{◌≡◌, sym, ◌∙◌}
 use mathlib.Core.Bool.{false}
 use mathlib.Core.List.{◌∷◌}
 use borrow.Author.Rules.{rules}
-use borrow.Author.Tests.{not-true, not-false}
 use Rattle.nameset.specs.Set.{is_empty, rest, size}
 use Rattle.book.specs.Book.{names_in}
 use Rattle.byte_buffer.proofs.Puts.{Left, left_start}
@@ -14,63 +13,53 @@ use Rattle.declaration_factor.proofs.Steps.{lead_room, member_room, names_more, 
 use Rattle.declaration_factor.proofs.put_names.Statement.{statement}
 use Rattle.declaration_factor.proofs.put_names.Tie as tie
 
-abbrev invariant-loop : tie.invariant-loop
+abbrev invariant-loop : tie.invariant-loop-layout
 invariant-loop buffer₀ at bytes layout many some to₀ later₀ left₀ buffer to later left =
     Left buffer₀ at (set_text (names_in bytes) layout.names left₀ many some) buffer to (set_text (names_in bytes) layout.names left many later) × MembersBelow layout.names left
 
-abbrev decreases-loop : tie.decreases-loop
+abbrev decreases-loop : tie.decreases-loop-layout
 decreases-loop buffer₀ at bytes layout many some to₀ later₀ left₀ buffer to later left = size left
 
-loop-holds : tie.Need-loop-init invariant-loop decreases-loop
-loop-holds c = (left_start _ _ _, c.before.before.requires.2)
+loop-holds : tie.Need-loop-layout-init invariant-loop decreases-loop
+loop-holds c = (left_start _ _ _, c.requires.2)
 
 -- a turn has a name left, and puts the smallest
-some_left : (c : tie.Then1 invariant-loop decreases-loop) → is_empty c.before.before.loop.left ≡ false
-some_left c = sym c.before.is-empty.ensures.same ∙ not-true c.before.is-empty.result c.if1.true
+some_left : (c : tie.In-loop-layout invariant-loop decreases-loop) → is_empty c.loop-layout.left ≡ false
+some_left c = sym c.is_empty.ensures.same ∙ c.loop-layout-test.true
 
-turn : (c : tie.After-first invariant-loop decreases-loop) →
-    rising c.before.before.before.loop.left 0 c.before.before.before.before.before.before.args.layout.names
-    ≡ c.first.result ∷ rising (rest c.before.before.before.loop.left) 0 c.before.before.before.before.before.before.args.layout.names
-turn c = rising_next _ _ _ c.first.ensures (some_left c.before) c.before.before.before.loop.invariant.1
+turn : (c : tie.After-first-x invariant-loop decreases-loop) →
+    rising c.loop-layout.left 0 c.args.layout.names
+    ≡ c.first-x.result ∷ rising (rest c.loop-layout.left) 0 c.args.layout.names
+turn c = rising_next _ _ _ c.first-x.ensures (some_left c.before) c.loop-layout.invariant.1
 
-put-some-requires : tie.Need-put-some-requires invariant-loop decreases-loop
+put-some-requires : tie.Need-put_some-to-requires invariant-loop decreases-loop
 put-some-requires c κs =
-    let first = c.before.before in
-    let head = first.before.before.before in
-    lead_room _ _ _ _ _ _ _ (turn first) c.lead.ensures _ _ _ _ _ head.loop.invariant.0 head.before.before.before.requires.1
+    lead_room _ _ _ _ _ _ _ (turn c.before.before) c.lead.ensures _ _ _ _ _ c.loop-layout.invariant.0 c.requires.1
 
-put-name-requires : tie.Need-put-name-requires invariant-loop decreases-loop
+put-name-requires : tie.Need-put_name-to-requires invariant-loop decreases-loop
 put-name-requires c κs =
-    let put = c.before.before.before in
-    let first = put.before.before.before in
-    let head = first.before.before.before in
-    let pre = head.before.before.before.requires in (
+    let pre = c.requires in (
       pre.0,
-      head.loop.invariant.1 _ (first.first.ensures.found (some_left first.before)).1,
-      member_room _ _ _ _ _ _ _ (turn first) put.before.lead.ensures _ _ _ _ _ head.loop.invariant.0 _ _ put.put_some_lem.ensures pre.1,
+      c.loop-layout.invariant.1 _ (c.first-x.ensures.found (some_left c.before.before.before.before.before.before.before)).1,
+      member_room _ _ _ _ _ _ _ (turn c.before.before.before.before.before.before) c.lead.ensures _ _ _ _ _ c.loop-layout.invariant.0 _ _ c.put_some-to.ensures pre.1,
     )
 
-loop-less : tie.Need-loop-smaller invariant-loop decreases-loop
+loop-less : tie.Need-loop-layout-smaller invariant-loop decreases-loop
 loop-less c =
-    let named = c.before.before.before in
-    let put = named.before.before.before.before in
-    c.rest.ensures.smaller (some_left put.before.before.before.before)
+    c.rest-left.ensures.smaller (some_left c.before.before.before.before.before.before.before.before.before.before.before)
 
-loop-again : tie.Need-loop-preserved invariant-loop decreases-loop
+loop-again : tie.Need-loop-layout-preserved invariant-loop decreases-loop
 loop-again c =
-    let named = c.before.before.before in
-    let put = named.before.before.before.before in
-    let first = put.before.before.before in
-    let inv = first.before.before.before.loop.invariant in (
-      names_more _ _ _ _ _ _ _ (turn first) put.before.lead.ensures _ _ _ _ _ inv.0 _ _ put.put_some_lem.ensures _ _ named.put-name.ensures _ c.rest.ensures.same,
-      within_rest _ _ _ c.rest.ensures.same inv.1,
+    let inv = c.loop-layout.invariant in (
+      names_more _ _ _ _ _ _ _ (turn c.before.before.before.before.before.before.before.before.before.before) c.lead.ensures _ _ _ _ _ inv.0 _ _ c.put_some-to.ensures _ _ c.put_name-to.ensures _ c.rest-left.ensures.same,
+      within_rest _ _ _ c.rest-left.ensures.same inv.1,
     )
 
-same_length : tie.Need-same-length invariant-loop decreases-loop
-same_length c = c.before.before.loop.invariant.0.same
+same_length : tie.Need-shape_of-buffer invariant-loop decreases-loop
+same_length c = c.loop-layout.invariant.0.same
 
 returns : tie.Need-returns invariant-loop decreases-loop
-returns c = names_done _ _ _ _ _ (c.before.is-empty.ensures.none (not-false c.before.is-empty.result c.if1.false)) _ _ _ _ _ c.before.before.loop.invariant.0
+returns c = names_done _ _ _ _ _ (c.is_empty.ensures.none c.loop-layout-test.false) _ _ _ _ _ c.loop-layout.invariant.0
 
 pub put_names_spec : {M : Type 1} → statement M
 put_names_spec =

@@ -6,11 +6,11 @@ use borrow.Author.Rules.{rules}
 use Rattle.declaration_form.proofs.may_stand.Statement.{statement}
 use Rattle.declaration_form.proofs.may_stand.Tie as tie
 
-returns : tie.Need-returns
-returns c = text_stands _ _ c.before.before.requires.3 c.if1.true
+returns : tie.Need-returns-then-kind-eq-PCDATA
+returns c = text_stands _ _ c.requires.3 c.if-kind-eq-PCDATA.true
 
-returns-2 : tie.Need-returns-2
-returns-2 c = c.good_word.ensures ∙ name_stands _ _ c.before.before.before.requires.3 c.before.if1.false
+returns-2 : tie.Need-returns
+returns-2 c = c.good_word.ensures ∙ name_stands _ _ c.requires.3 c.if-kind-eq-PCDATA.false
 
 pub may_stand_spec : {M : Type 1} → statement M
 may_stand_spec = tie.close (tie.spec returns (λ c κs. search rules) returns-2)

@@ -7,21 +7,19 @@ use borrow.Author.Rules.{rules}
 use Rattle.declaration_form.proofs.word_kind.Statement.{statement}
 use Rattle.declaration_form.proofs.word_kind.Tie as tie
 
-returns : tie.Need-returns
+returns : tie.Need-returns-then-stands_at
 unfolding empty_word
-returns c = (kind_empty _ _ c.before.stands_at.ensures c.if1.true, omega arith)
+returns c = (kind_empty _ _ c.stands_at.ensures c.if-stands_at.true, omega arith)
 
-returns-2 : tie.Need-returns-2
+returns-2 : tie.Need-returns-then-stands_at-2
 unfolding empty_word pcdata_word
 returns-2 c =
-    let first = c.before.before.before in
-    (kind_text _ _ first.before.stands_at.ensures first.if1.false _ c.before.stands-at2.ensures c.if2.true, omega arith)
+    (kind_text _ _ c.stands_at.ensures c.if-stands_at.false _ c.stands_at-2.ensures c.if-stands_at-2.true, omega arith)
 
-returns-3 : tie.Need-returns-3
+returns-3 : tie.Need-returns
 unfolding empty_word pcdata_word
 returns-3 c =
-    let first = c.before.before.before in
-    (kind_word _ _ first.before.stands_at.ensures first.if1.false _ c.before.stands-at2.ensures c.if2.false, omega arith)
+    (kind_word _ _ c.stands_at.ensures c.if-stands_at.false _ c.stands_at-2.ensures c.if-stands_at-2.false, omega arith)
 
 pub word_kind_spec : {M : Type 1} → statement M
-word_kind_spec = tie.close (tie.spec (λ c. search rules) (λ c κs. search rules) returns (λ c. search rules) (λ c κs. search rules) returns-2 returns-3)
+word_kind_spec = tie.close (tie.spec (λ c κs. search rules) returns (λ c κs. search rules) returns-2 returns-3)

@@ -5,11 +5,11 @@ use borrow.Author.Rules.{rules}
 use Rattle.declaration_reading.proofs.read_mixed.Statement.{statement}
 use Rattle.declaration_reading.proofs.read_mixed.Tie as tie
 
-returns : tie.Need-returns
-returns c = mixed_names _ _ _ _ _ c.before.before.before.piece-at.ensures.0 c.before.if1.true _ c.read-factors.ensures
+returns : tie.Need-returns-then-piece-eq-BAR
+returns c = mixed_names _ _ _ _ _ c.piece_at-piece.ensures.0 c.if-piece-eq-BAR.true _ c.read_factors.ensures
 
-returns-2 : tie.Need-returns-2
-returns-2 c = mixed_none _ _ _ _ _ c.before.before.before.before.piece-at.ensures.0 c.before.before.if1.false _ c.before.empty.ensures _ c.given.ensures
+returns-2 : tie.Need-returns
+returns-2 c = mixed_none _ _ _ _ _ c.piece_at-piece.ensures.0 c.if-piece-eq-BAR.false _ c.empty.ensures _ c.given.ensures
 
 pub read_mixed_spec : {M : Type 1} → statement M
 read_mixed_spec =

@@ -6,23 +6,19 @@ use borrow.Author.Rules.{rules}
 use Rattle.declaration_reading.proofs.read_model.Statement.{statement}
 use Rattle.declaration_reading.proofs.read_model.Tie as tie
 
-returns : tie.Need-returns
-returns c = model_empty _ _ _ _ _ c.before.before.before.before.piece-at.ensures.0 c.before.before.if1.true _ c.before.empty.ensures _ c.given.ensures
+returns : tie.Need-returns-then-piece-eq-WORD
+returns c = model_empty _ _ _ _ _ c.piece_at-piece.ensures.0 c.if-piece-eq-WORD.true _ c.empty.ensures _ c.given.ensures
 
-is-text-requires : tie.Need-is-text-requires
-is-text-requires c κs = (in_order _ _ _ c.piece-at2.ensures.0, c.piece-at2.ensures.1)
+is-text-requires : tie.Need-is_text-requires
+is-text-requires c κs = (in_order _ _ _ c.piece_at-first.ensures.0, c.piece_at-first.ensures.1)
 
-returns-2 : tie.Need-returns-2
+returns-2 : tie.Need-returns-then-is_text
 returns-2 c =
-    let first = c.before.before.before in
-    let other = first.before in
-    model_text _ _ _ _ _ other.before.before.piece-at.ensures.0 other.if1.false _ first.piece-at2.ensures.0 _ c.before.before.is-text.ensures c.before.if2.true _ c.read-mixed.ensures
+    model_text _ _ _ _ _ c.piece_at-piece.ensures.0 c.if-piece-eq-WORD.false _ c.piece_at-first.ensures.0 _ c.is_text.ensures c.if-is_text.true _ c.read_mixed.ensures
 
-returns-3 : tie.Need-returns-3
+returns-3 : tie.Need-returns
 returns-3 c =
-    let first = c.before.before.before in
-    let other = first.before in
-    model_factors _ _ _ _ _ other.before.before.piece-at.ensures.0 other.if1.false _ first.piece-at2.ensures.0 _ c.before.before.is-text.ensures c.before.if2.false _ c.read-factors.ensures
+    model_factors _ _ _ _ _ c.piece_at-piece.ensures.0 c.if-piece-eq-WORD.false _ c.piece_at-first.ensures.0 _ c.is_text.ensures c.if-is_text.false _ c.read_factors.ensures
 
 pub read_model_spec : {M : Type 1} → statement M
 read_model_spec =

@@ -6,20 +6,20 @@ use borrow.Author.Rules.{rules}
 use Rattle.declaration_reading.proofs.read_tokens.Statement.{statement}
 use Rattle.declaration_reading.proofs.read_tokens.Tie as tie
 
-returns : tie.Need-returns
-returns c = tokens_none _ _ _ _ c.before.before.before.piece-at.ensures.0 _ c.before.if1.true c.refused.ensures
+returns : tie.Need-returns-then-piece-ne-WORD
+returns c = tokens_none _ _ _ _ c.piece_at-piece.ensures.0 _ c.if-piece-ne-WORD.true c.refused.ensures
 
 part-requires : tie.Need-part-requires
-part-requires c κs = (in_order _ _ _ c.before.before.piece-at.ensures.0, c.before.before.piece-at.ensures.1)
+part-requires c κs = (in_order _ _ _ c.piece_at-piece.ensures.0, c.piece_at-piece.ensures.1)
 
-enum_told : tie.Need-enum-told
+enum_told : tie.Need-enum_told-1
 enum_told c = search rules
 
-returns-2 : tie.Need-returns-2
-returns-2 c = tokens_model _ _ _ _ c.before.before.before.before.before.before.before.before.piece-at.ensures.0 c.before.before.before.before.before.before.if1.false _ c.before.before.before.before.before.part.ensures _ c.before.before.before.before.find-name.ensures _ _ c.before.before.parent.given.1 c.read-model.ensures
+returns-2 : tie.Need-returns-in-At
+returns-2 c = tokens_model _ _ _ _ c.piece_at-piece.ensures.0 c.if-piece-ne-WORD.false _ c.part.ensures _ c.find_name.ensures _ _ c.in-At.is c.read_model.ensures
 
-returns-3 : tie.Need-returns-3
-returns-3 c = tokens_unknown _ _ _ _ c.before.before.before.before.before.before.before.piece-at.ensures.0 c.before.before.before.before.before.if1.false _ c.before.before.before.before.part.ensures _ c.before.before.before.find-name.ensures _ c.before.enum_told.given.1 c.refused2.ensures
+returns-3 : tie.Need-returns-in-Nothing
+returns-3 c = tokens_unknown _ _ _ _ c.piece_at-piece.ensures.0 c.if-piece-ne-WORD.false _ c.part.ensures _ c.find_name.ensures _ c.in-Nothing.is c.refused-in-Nothing.ensures
 
 pub read_tokens_spec : {M : Type 1} → statement M
 read_tokens_spec =

@@ -1,6 +1,7 @@
 -- `read_factors` meets its contract: the words passed are known, and from the rows so far the tokens from i on give the
 -- answer.
 -- Assumes nothing.
+use Rattle.std.proofs.Common.{ap, not}
 use Prim.Native.Nat.{ℕ, ◌-◌, ◌≤◌, ◌<◌}
 use mathlib.Core.Path.{◌≡◌, refl, ◌∙◌}
 use mathlib.Core.List.{List}
@@ -20,114 +21,91 @@ use Rattle.declaration_record.proofs.read_factors.Tie as tie
 inside : (x : ℕ) (factor : List ℕ) → x ≤ places → (x ≡ places → ⊥) → length factor ≡ places → x < length factor
 inside x factor h d e = omega (arith, d)
 
-abbrev invariant-loop : tie.invariant-loop
+abbrev invariant-loop : tie.invariant-loop-i
 invariant-loop bytes layout text at parent mixed factor₀ mode₀ index₀ i₀ factor mode index i =
     (i ≤ length text) × (index < places) × (length factor ≡ places) × (length mode ≡ places)
     × (gather_from places (names_in bytes) (tokens_at text at) (start_rows places) ≡ left (names_in bytes) text i index factor mode)
     × (known_tokens (names_in bytes) (tokens_at text at) ≡ known_tokens (names_in bytes) (tokens_at text i))
 
-abbrev decreases-loop : tie.decreases-loop
+abbrev decreases-loop : tie.decreases-loop-i
 decreases-loop bytes layout text at parent mixed factor₀ mode₀ index₀ i₀ factor mode index i = length text - i
 
-loop-holds : tie.Need-loop-init invariant-loop decreases-loop
-loop-holds c = (c.before.before.requires.1, omega arith, refl, refl, left_start _ _ _, refl)
+loop-holds : tie.Need-loop-i-init invariant-loop decreases-loop
+loop-holds c = (c.requires.1, omega arith, refl, refl, left_start _ _ _, refl)
 
-piece-at-requires : tie.Need-piece-at-requires invariant-loop decreases-loop
-piece-at-requires c κs = c.before.loop.invariant.0
+piece-at-requires : tie.Need-piece_at-piece-requires invariant-loop decreases-loop
+piece-at-requires c κs = c.loop-i.invariant.0
 
-number-at-requires : tie.Need-number-at-requires invariant-loop decreases-loop
-number-at-requires c κs = (c.before.before.before.before.before.requires.0, in_order _ _ _ c.piece-at.ensures.0, c.piece-at.ensures.1)
+number-at-requires : tie.Need-number_at-x-requires invariant-loop decreases-loop
+number-at-requires c κs = (c.requires.0, in_order _ _ _ c.piece_at-piece.ensures.0, c.piece_at-piece.ensures.1)
 
 refused-requires : tie.Need-refused-requires invariant-loop decreases-loop
 refused-requires c κs = tt
 
-returns : tie.Need-returns invariant-loop decreases-loop
+returns : tie.Need-returns-then-x-eq-PLACES invariant-loop decreases-loop
 returns c =
-    let numbered = c.before.before in
-    let head = numbered.before.before.before in
-    let laid = head.before.before.before.requires.0 in
-    let unknown = unknown_kind _ _ laid _ _ _ numbered.number_at.ensures.0 c.before.if1.true in
-    factors_unknown _ _ _ _ _ _ _ _ _ head.loop.invariant.5 head.loop.invariant.4 _ (known_stop _ _ _ numbered.before.piece-at.ensures.0 _ _ unknown refl) c.refused.ensures
+    let laid = c.requires.0 in
+    let unknown = unknown_kind _ _ laid _ _ _ c.number_at-x.ensures.0 c.if-x-eq-PLACES.true in
+    factors_unknown _ _ _ _ _ _ _ _ _ c.loop-i.invariant.5 c.loop-i.invariant.4 _ (known_stop _ _ _ c.piece_at-piece.ensures.0 _ _ unknown refl) c.refused.ensures
 
-place-piece-requires : tie.Need-place-piece-requires invariant-loop decreases-loop
+place-piece-requires : tie.Need-place_piece-free-requires invariant-loop decreases-loop
 place-piece-requires c κs =
-    let numbered = c.before.before in
-    let head = numbered.before.before.before in
-    (inside _ head.loop.factor numbered.number_at.ensures.1 c.before.if1.false head.loop.invariant.2, head.loop.invariant.1)
+    (inside _ c.loop-i.factor c.number_at-x.ensures.1 c.if-x-eq-PLACES.false c.loop-i.invariant.2, c.loop-i.invariant.1)
 
-mode-of-requires : tie.Need-mode-of-requires invariant-loop decreases-loop
+mode-of-requires : tie.Need-mode_of-requires invariant-loop decreases-loop
 mode-of-requires c κs = tt
 
-put-mode-requires : tie.Need-put-mode-requires invariant-loop decreases-loop
+put-mode-requires : tie.Need-put_mode-requires invariant-loop decreases-loop
 put-mode-requires c κs =
-    let placed = c.before.before.before in
-    let head = placed.before.before.before.before.before.before in
-    omega (arith, head.loop.invariant.1, head.loop.invariant.3)
+    omega (arith, c.loop-i.invariant.1, c.loop-i.invariant.3)
 
-next-index-requires : tie.Need-next-index-requires invariant-loop decreases-loop
+next-index-requires : tie.Need-next_index-index-requires invariant-loop decreases-loop
 next-index-requires c κs =
-    let placed = c.before.before.before.before.before in
-    let head = placed.before.before.before.before.before.before in
-    head.loop.invariant.1
+    c.loop-i.invariant.1
 
 fine-requires : tie.Need-fine-requires invariant-loop decreases-loop
 fine-requires c κs = tt
 
 twice-requires : tie.Need-twice-requires invariant-loop decreases-loop
 twice-requires c κs =
-    let moded = c.before.before.before.before in
-    let placed = moded.before.before.before.before in
-    let numbered = placed.before.before.before in
-    let head = numbered.before.before.before in
-    (head.before.before.before.requires.0, numbered.before.piece-at.ensures.1)
+    (c.requires.0, c.piece_at-piece.ensures.1)
 
-returns-2 : tie.Need-returns-2 invariant-loop decreases-loop
+returns-2 : tie.Need-returns-then-not-fine invariant-loop decreases-loop
 returns-2 c =
-    let moded = c.before.before.before.before.before in
-    let placed = moded.before.before.before.before in
-    let numbered = placed.before.before.before in
-    let head = numbered.before.before.before in
-    let laid = head.before.before.before.requires.0 in
-    let piece = numbered.before.piece-at.ensures.0 in
-    let number = numbered.number_at.ensures.0 in
-    let there = placed.before.before.if1.false in
-    factors_twice _ _ _ _ _ _ _ _ _ head.loop.invariant.5 head.loop.invariant.4 _ _
+    let laid = c.requires.0 in
+    let piece = c.piece_at-piece.ensures.0 in
+    let number = c.number_at-x.ensures.0 in
+    let there = c.if-x-eq-PLACES.false in
+    factors_twice _ _ _ _ _ _ _ _ _ c.loop-i.invariant.5 c.loop-i.invariant.4 _ _
     (known_on _ _ _ piece _ _ (known_kind_lem _ _ laid _ _ _ number there) refl)
-    (left_stop _ _ _ _ piece _ _ _ head.loop.invariant.1 _ _ (placed_same _ _ _ _ _ _ _ (number_same _ _ laid _ _ _ number there) placed.place-piece.ensures) _ moded.before.mode_of_lem.ensures _ moded.put-mode.ensures _ c.before.before.before.next-index.ensures _ c.before.before.fine.ensures (not-true _ c.before.if2.true))
+    (left_stop _ _ _ _ piece _ _ _ c.loop-i.invariant.1 _ _ (placed_same _ _ _ _ _ _ _ (number_same _ _ laid _ _ _ number there) c.place_piece-free.ensures) _ c.mode_of.ensures _ c.put_mode.ensures _ c.next_index-index.ensures _ c.fine.ensures (not-true _ (ap not c.if-not-fine.true)))
     c.twice.ensures
 
-loop-less : tie.Need-loop-smaller invariant-loop decreases-loop
+loop-less : tie.Need-loop-i-smaller invariant-loop decreases-loop
 loop-less c =
-    let moded = c.before.before.before.before in
-    let placed = moded.before.before.before.before in
-    let numbered = placed.before.before.before in
-    let h = onward_to _ _ _ numbered.before.piece-at.ensures.0 numbered.before.before.loop-test.true in
+    let h = onward_to _ _ _ c.piece_at-piece.ensures.0 c.loop-i-test.true in
     omega arith
 
-loop-again : tie.Need-loop-preserved invariant-loop decreases-loop
+loop-again : tie.Need-loop-i-preserved invariant-loop decreases-loop
 loop-again c =
-    let moded = c.before.before.before.before in
-    let placed = moded.before.before.before.before in
-    let numbered = placed.before.before.before in
-    let head = numbered.before.before.before in
-    let laid = head.before.before.before.requires.0 in
-    let piece = numbered.before.piece-at.ensures.0 in
-    let number = numbered.number_at.ensures.0 in
-    let there = placed.before.before.if1.false in
-    let next = c.before.before.next-index.ensures in (
-      numbered.before.piece-at.ensures.1,
-      inside_on _ _ _ _ piece _ _ _ head.loop.invariant.1 _ _ (placed_same _ _ _ _ _ _ _ (number_same _ _ laid _ _ _ number there) placed.place-piece.ensures) _ moded.before.mode_of_lem.ensures _ moded.put-mode.ensures _ next _ c.before.fine.ensures (not-false _ c.if2.false),
-      placed.place-piece.ensures.2 ∙ head.loop.invariant.2,
-      moded.put-mode.ensures.1 ∙ head.loop.invariant.3,
-      head.loop.invariant.4 ∙ left_on _ _ _ _ piece _ _ _ head.loop.invariant.1 _ _ (placed_same _ _ _ _ _ _ _ (number_same _ _ laid _ _ _ number there) placed.place-piece.ensures) _ moded.before.mode_of_lem.ensures _ moded.put-mode.ensures _ next _ c.before.fine.ensures (not-false _ c.if2.false),
-      head.loop.invariant.5 ∙ known_on _ _ _ piece _ _ (known_kind_lem _ _ laid _ _ _ number there) refl,
+    let laid = c.requires.0 in
+    let piece = c.piece_at-piece.ensures.0 in
+    let number = c.number_at-x.ensures.0 in
+    let there = c.if-x-eq-PLACES.false in
+    let next = c.next_index-index.ensures in (
+      c.piece_at-piece.ensures.1,
+      inside_on _ _ _ _ piece _ _ _ c.loop-i.invariant.1 _ _ (placed_same _ _ _ _ _ _ _ (number_same _ _ laid _ _ _ number there) c.place_piece-free.ensures) _ c.mode_of.ensures _ c.put_mode.ensures _ next _ c.fine.ensures (not-false _ (ap not c.if-not-fine.false)),
+      c.place_piece-free.ensures.2 ∙ c.loop-i.invariant.2,
+      c.put_mode.ensures.1 ∙ c.loop-i.invariant.3,
+      c.loop-i.invariant.4 ∙ left_on _ _ _ _ piece _ _ _ c.loop-i.invariant.1 _ _ (placed_same _ _ _ _ _ _ _ (number_same _ _ laid _ _ _ number there) c.place_piece-free.ensures) _ c.mode_of.ensures _ c.put_mode.ensures _ next _ c.fine.ensures (not-false _ (ap not c.if-not-fine.false)),
+      c.loop-i.invariant.5 ∙ known_on _ _ _ piece _ _ (known_kind_lem _ _ laid _ _ _ number there) refl,
     )
 
 given-requires : tie.Need-given-requires invariant-loop decreases-loop
 given-requires c κs = tt
 
-returns-3 : tie.Need-returns-3 invariant-loop decreases-loop
-returns-3 c = let head = c.before.before in factors_done _ _ _ _ _ _ _ _ _ head.loop.invariant.5 head.loop.invariant.4 c.before.loop-test.false _ c.given.ensures
+returns-3 : tie.Need-returns invariant-loop decreases-loop
+returns-3 c = factors_done _ _ _ _ _ _ _ _ _ c.loop-i.invariant.5 c.loop-i.invariant.4 c.loop-i-test.false _ c.given.ensures
 
 pub read_factors_spec : {M : Type 1} → statement M
 read_factors_spec =

@@ -18,11 +18,11 @@ behind_unknown : (b k : Bool) (r : Declaration) → b ≡ k → b ≡ false → 
 unfolding twice_or_unknown
 behind_unknown b k r e t q = rw (← e, t) q
 
-returns : tie.Need-returns
-returns c = behind_known _ _ _ c.before.before.all_Known.ensures c.before.if1.true c.refused.ensures
+returns : tie.Need-returns-then-all_known
+returns c = behind_known _ _ _ c.all_known.ensures c.if-all_known.true c.refused.ensures
 
-returns-2 : tie.Need-returns-2
-returns-2 c = behind_unknown _ _ _ c.before.before.all_Known.ensures c.before.if1.false c.refused2.ensures
+returns-2 : tie.Need-returns-else-all_known
+returns-2 c = behind_unknown _ _ _ c.all_known.ensures c.if-all_known.false c.refused-else-all_known.ensures
 
 pub twice_spec : {M : Type 1} → statement M
 twice_spec = tie.close (tie.spec (λ c κs. search rules) (λ c κs. search rules) (λ c κs. search rules) returns returns-2)

@@ -5,10 +5,10 @@ use borrow.Author.Rules.{rules}
 use Rattle.declaration_rows.proofs.fine.Statement.{statement}
 use Rattle.declaration_rows.proofs.fine.Tie as tie
 
-returns : tie.Need-returns
-returns c = rw c.if1.true refl
+returns : tie.Need-returns-then-free
+returns c = rw c.if-free.true refl
 
-returns-2 : tie.Need-returns-2
+returns-2 : tie.Need-returns-else-free
 returns-2 c = search rules
 
 pub fine_spec : {M : Type 1} → statement M

@@ -19,17 +19,17 @@ mode_none : (kind : ℕ) → (kind ≡ question_kind → ⊥) → (kind ≡ plus
 unfolding kind_mode
 mode_none kind a b d = rw (ne_eqb kind question_kind a, ne_eqb kind plus_kind b, ne_eqb kind star_kind d)
 
-returns : tie.Need-returns
-returns c = mode_at_lem _ _ _ c.match.keys1 modes.0
+returns : tie.Need-returns-in-9
+returns c = mode_at_lem _ _ _ c.in-9.is modes.0
 
-returns-2 : tie.Need-returns-2
-returns-2 c = mode_at_lem _ _ _ c.match.keys2 modes.1
+returns-2 : tie.Need-returns-in-10
+returns-2 c = mode_at_lem _ _ _ c.in-10.is modes.1
 
-returns-3 : tie.Need-returns-3
-returns-3 c = mode_at_lem _ _ _ c.match.keys3 modes.2
+returns-3 : tie.Need-returns-in-11
+returns-3 c = mode_at_lem _ _ _ c.in-11.is modes.2
 
-returns-4 : tie.Need-returns-4
-returns-4 c = mode_none _ c.match.rest.0.0.1 c.match.rest.0.1 c.match.rest.1
+returns-4 : tie.Need-returns-in_default
+returns-4 c = mode_none _ c.in_default.in_default-own.rest.0.0.1 c.in_default.in_default-own.rest.0.1 c.in_default.in_default-own.rest.1
 
 pub mode_of_spec : {M : Type 1} → statement M
 mode_of_spec = tie.close (tie.spec returns returns-2 returns-3 returns-4)

@@ -6,7 +6,7 @@ use Rattle.declaration_rows.proofs.place_name.Statement.{statement}
 use Rattle.declaration_rows.proofs.place_name.Tie as tie
 
 returns : tie.Need-returns
-returns c = name_placed _ _ _ c.before.requires.0
+returns c = name_placed _ _ _ c.requires.0
 
 pub place_name_spec : {M : Type 1} → statement M
 place_name_spec =

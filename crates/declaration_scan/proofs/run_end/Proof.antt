@@ -5,10 +5,10 @@ use borrow.Author.Rules.{rules}
 use Rattle.declaration_scan.proofs.run_end.Statement.{statement}
 use Rattle.declaration_scan.proofs.run_end.Tie as tie
 
-returns : tie.Need-returns
-returns c = (sign_run _ _ _ c.before.before.requires.1 c.if1.true, c.before.before.requires.0)
+returns : tie.Need-returns-then-sign-ne-OTHER
+returns c = (sign_run _ _ _ c.requires.1 c.if-sign-ne-OTHER.true, c.requires.0)
 
-returns-2 : tie.Need-returns-2
+returns-2 : tie.Need-returns
 returns-2 c = search rules
 
 pub run_end_spec : {M : Type 1} → statement M

@@ -7,11 +7,11 @@ use borrow.Author.Rules.{rules}
 use Rattle.declaration_scan.proofs.sign_end.Statement.{statement}
 use Rattle.declaration_scan.proofs.sign_end.Tie as tie
 
-returns : tie.Need-returns
-returns c = (end_sign c.before.args.text.now _ _ refl c.before.requires.1 c.if1.true, omega arith)
+returns : tie.Need-returns-then-from-text
+returns c = (end_sign c.args.text.now _ _ refl c.requires.1 c.if-from-text.true, omega arith)
 
-returns-2 : tie.Need-returns-2
-returns-2 c = (end_over c.before.args.text.now _ c.if1.false, c.before.requires.0)
+returns-2 : tie.Need-returns-else-from-text
+returns-2 c = (end_over c.args.text.now _ c.if-from-text.false, c.requires.0)
 
 pub sign_end_spec : {M : Type 1} → statement M
 sign_end_spec = tie.close (tie.spec (λ c. search rules) returns returns-2)

@@ -6,20 +6,20 @@ use borrow.Author.Rules.{rules}
 use Rattle.declaration_states.proofs.fits.Statement.{statement}
 use Rattle.declaration_states.proofs.fits.Tie as tie
 
-returns : tie.Need-returns
-returns c = fits_none _ _ _ c.match.keys1
+returns : tie.Need-returns-in-0
+returns c = fits_none _ _ _ c.in-0.is
 
-returns-2 : tie.Need-returns-2
-returns-2 c = c.apart.ensures ∙ fits_apart _ _ _ c.before.before.match.rest.1 c.before.if1.true
+returns-2 : tie.Need-returns-in-1-to-4
+returns-2 c = c.apart.ensures ∙ fits_apart _ _ _ c.in-1-to-4.in_default-own.rest.1 c.in-1-to-4.if-kind-lt5-own.true
 
-returns-3 : tie.Need-returns-3
-returns-3 c = fits_free _ _ _ c.before.if1.false c.if2.true
+returns-3 : tie.Need-returns-in-5-to-8
+returns-3 c = fits_free _ _ _ c.in-5-to-8.if-kind-lt5-own.false c.in-5-to-8.if-kind-lt9-own.true
 
-returns-4 : tie.Need-returns-4
-returns-4 c = fits_mark _ _ _ c.before.if2.false c.if3.true
+returns-4 : tie.Need-returns-in-9-to-11
+returns-4 c = fits_mark _ _ _ c.in-9-to-11.if-kind-lt9-own.false c.in-9-to-11.if-kind-lt12-own.true
 
-returns-5 : tie.Need-returns-5
-returns-5 c = fits_rest _ _ _ c.if3.false
+returns-5 : tie.Need-returns-in-12-to-255
+returns-5 c = fits_rest _ _ _ c.in-12-to-255.if-kind-lt12-own.false
 
 pub fits_spec : {M : Type 1} → statement M
 fits_spec = tie.close (tie.spec (λ c κs. search rules) returns returns-2 returns-3 returns-4 returns-5)

@@ -22,7 +22,7 @@ entry states state kind e h k =
     (ap state_of q ∙ s.0, omega (arith, s.1))
 
 returns : tie.Need-returns
-returns c = entry _ _ _ c.before.requires.0 c.before.requires.1 c.before.requires.2
+returns c = entry _ _ _ c.requires.0 c.requires.1 c.requires.2
 
 pub next_state_spec : {M : Type 1} → statement M
 next_state_spec = tie.close (tie.spec (λ c. search rules) (λ c. search rules) (λ c. search rules) returns)

@@ -15,11 +15,11 @@ unfolding before_byte
 later zero n = absurd (n refl)
 later (suc i) n = refl
 
-returns : tie.Need-returns
-returns c = first _ c.if1.true
+returns : tie.Need-returns-then-i-eq0
+returns c = first _ c.if-i-eq0.true
 
-returns-2 : tie.Need-returns-2
-returns-2 c = later _ c.if1.false
+returns-2 : tie.Need-returns-else-i-eq0
+returns-2 c = later _ c.if-i-eq0.false
 
 pub before_spec : {M : Type 1} → statement M
 before_spec = tie.close (tie.spec returns returns-2)

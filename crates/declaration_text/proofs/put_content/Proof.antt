@@ -5,25 +5,21 @@ use borrow.Author.Rules.{rules}
 use Rattle.declaration_text.proofs.put_content.Statement.{statement}
 use Rattle.declaration_text.proofs.put_content.Tie as tie
 
-put-body-requires : tie.Need-put-body-requires
+put-body-requires : tie.Need-put_body-requires
 put-body-requires c κs =
-    let start = c.before.before.before.before.before in
-    (start.requires.0, body_room _ _ _ c.before.if1.true _ _ start.requires.1, start.requires.2)
+    (c.requires.0, body_room _ _ _ c.if-m-eq0.true _ _ c.requires.1, c.requires.2)
 
-returns : tie.Need-returns
+returns : tie.Need-returns-then-m-eq0
 returns c =
-    let put = c.before.before in
-    without_text _ _ _ put.before.before.if1.true _ _ _ _ put.put-body.ensures
+    without_text _ _ _ c.if-m-eq0.true _ _ _ _ c.put_body.ensures
 
-put-mixed-requires : tie.Need-put-mixed-requires
+put-mixed-requires : tie.Need-put_mixed-requires
 put-mixed-requires c κs =
-    let start = c.before.before.before.before.before in
-    (start.requires.0, mixed_room _ _ _ c.before.if1.false _ _ start.requires.1)
+    (c.requires.0, mixed_room _ _ _ c.if-m-eq0.false _ _ c.requires.1)
 
-returns-2 : tie.Need-returns-2
+returns-2 : tie.Need-returns
 returns-2 c =
-    let put = c.before.before in
-    with_text_lem _ _ _ put.before.before.if1.false _ _ _ _ put.put-mixed.ensures
+    with_text_lem _ _ _ c.if-m-eq0.false _ _ _ _ c.put_mixed.ensures
 
 pub put_content_spec : {M : Type 1} → statement M
 put_content_spec =

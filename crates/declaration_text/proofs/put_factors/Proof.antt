@@ -11,49 +11,42 @@ use borrow.Author.Rules.{rules}
 use Rattle.declaration_text.proofs.put_factors.Statement.{statement}
 use Rattle.declaration_text.proofs.put_factors.Tie as tie
 
-abbrev invariant-loop : tie.invariant-loop
+abbrev invariant-loop : tie.invariant-loop-i
 invariant-loop buffer₀ at bytes layout m rows to₀ i₀ buffer to i =
     (i ≤ m.count) × Left buffer₀ at (factors_text (names_in bytes) layout.names m 0 m.count) buffer to (factors_text (names_in bytes) layout.names m i (m.count - i))
 
-abbrev decreases-loop : tie.decreases-loop
+abbrev decreases-loop : tie.decreases-loop-i
 decreases-loop buffer₀ at bytes layout m rows to₀ i₀ buffer to i = m.count - i
 
-factor-rows-requires : tie.Need-factor-rows-requires invariant-loop decreases-loop
-factor-rows-requires c κs = few_names _ _ c.before.before.requires.0
+factor-rows-requires : tie.Need-factor_rows-rows-requires invariant-loop decreases-loop
+factor-rows-requires c κs = few_names _ _ c.requires.0
 
-loop-holds : tie.Need-loop-init invariant-loop decreases-loop
+loop-holds : tie.Need-loop-i-init invariant-loop decreases-loop
 loop-holds c = (omega arith, factors_start _ _ _ _ _)
 
-put-some-requires : tie.Need-put-some-requires invariant-loop decreases-loop
+put-some-requires : tie.Need-put_some-to-requires invariant-loop decreases-loop
 put-some-requires c κs =
-    let at = c.before.before.before.before in
-    before_room _ _ _ _ _ c.before.before.if1.true c.before2.ensures _ _ _ _ _ at.loop.invariant.1 at.before.before.before.before.requires.1
+    before_room _ _ _ _ _ c.loop-i-test.true c.before-in-loop-i.ensures _ _ _ _ _ c.loop-i.invariant.1 c.requires.1
 
-put-factor-requires : tie.Need-put-factor-requires invariant-loop decreases-loop
+put-factor-requires : tie.Need-put_factor-to-requires invariant-loop decreases-loop
 put-factor-requires c κs =
-    let put = c.before.before.before.before.before in
-    let turn = put.before.before.before in
-    let made = turn.before.before.before in
-    let pre = made.before.before.before.requires in (
+    let pre = c.requires in (
       pre.0,
-      factor_room _ _ _ _ _ turn.if1.true put.before.before2.ensures _ _ _ _ _ turn.before.before.loop.invariant.1 _ _ put.put_some_lem.ensures pre.1,
-      rw c.row_at.ensures (made.factor-rows.ensures.row _ (omega arith)),
+      factor_room _ _ _ _ _ c.loop-i-test.true c.before-in-loop-i.ensures _ _ _ _ _ c.loop-i.invariant.1 _ _ c.put_some-to.ensures pre.1,
+      rw c.row_at.ensures (c.factor_rows-rows.ensures.row _ (omega arith)),
     )
 
-loop-again : tie.Need-loop-preserved invariant-loop decreases-loop
-loop-again c =
-    let factor = c.before.before in
-    let put = factor.before.before.before.before.before.before in
-    let turn = put.before.before.before in (
-      omega arith,
-      factors_more _ _ _ _ _ turn.if1.true put.before.before2.ensures _ _ _ _ _ turn.before.before.loop.invariant.1 _ _ put.put_some_lem.ensures _ _ factor.put-factor.ensures,
-    )
+loop-again : tie.Need-loop-i-preserved invariant-loop decreases-loop
+loop-again c = (
+  omega arith,
+  factors_more _ _ _ _ _ c.loop-i-test.true c.before-in-loop-i.ensures _ _ _ _ _ c.loop-i.invariant.1 _ _ c.put_some-to.ensures _ _ c.put_factor-to.ensures,
+)
 
-same_length : tie.Need-same-length invariant-loop decreases-loop
-same_length c = c.before.before.loop.invariant.1.same
+same_length : tie.Need-shape_of-buffer invariant-loop decreases-loop
+same_length c = c.loop-i.invariant.1.same
 
 returns : tie.Need-returns invariant-loop decreases-loop
-returns c = factors_done _ _ _ _ c.if1.false _ _ _ _ _ c.before.before.loop.invariant.1
+returns c = factors_done _ _ _ _ c.loop-i-test.false _ _ _ _ _ c.loop-i.invariant.1
 
 pub put_factors_spec : {M : Type 1} → statement M
 put_factors_spec =

@@ -1,5 +1,6 @@
 -- `write_declaration` meets its contract: the book, the parent, the record, then the buffer.
 -- Assumes nothing.
+use Rattle.std.proofs.Common.{ap, not}
 use mathlib.Core.Path.{sym, ◌∙◌}
 use borrow.Author.Tests.{not-true, not-false}
 use Rattle.declaration_writing.proofs.Calls.{stopped_book, stopped_parent, stopped_model, writable, all_passed}
@@ -7,39 +8,31 @@ use borrow.Author.Rules.{rules}
 use Rattle.declaration_writing.proofs.write_declaration.Statement.{statement}
 use Rattle.declaration_writing.proofs.write_declaration.Tie as tie
 
-returns : tie.Need-returns
-returns c = stopped_book _ _ _ _ _ c.before.before.before.before.take-book.ensures _ _ c.before.before.outcome.given.1 c.refused.ensures
+returns : tie.Need-returns-in-Refused
+returns c = stopped_book _ _ _ _ _ c.take_book-reading.ensures _ _ c.in-Refused.is c.refused.ensures
 
-enum_told : tie.Need-enum-told
+enum_told : tie.Need-enum_told-1
 enum_told c = search rules
 
-returns-2 : tie.Need-returns-2
+returns-2 : tie.Need-returns-then-layout-parent
 returns-2 c =
-    let book = c.before.before.before.before in
-    stopped_parent _ _ _ _ _ book.before.before.take-book.ensures book.enum_told.given.1 _ c.before.if1.true c.refused2.ensures
+    stopped_parent _ _ _ _ _ c.take_book-reading.ensures c.in_default.is _ c.if-layout-parent.true c.refused-then-layout-parent.ensures
 
-returns-3 : tie.Need-returns-3
+returns-3 : tie.Need-returns-then-not-rows_are_model
 returns-3 c =
-    let parent = c.before.before.before.before.before.before.before.before in
-    let book = parent.before.before.before in
-    stopped_model _ _ _ _ _ book.before.before.take-book.ensures book.enum_told.given.1 parent.if1.false _
-    (sym c.before.before.rows-are-model.ensures ∙ not-true _ c.before.if2.true) c.refused3.ensures
+    stopped_model _ _ _ _ _ c.take_book-reading.ensures c.in_default.is c.if-layout-parent.false _
+    (sym c.rows_are_model.ensures ∙ not-true _ (ap not c.if-not-rows_are_model.true)) c.refused-then-not-rows_are_model.ensures
 
-write-model-requires : tie.Need-write-model-requires
+write-model-requires : tie.Need-write_model-requires
 write-model-requires c κs =
-    let parent = c.before.before.before.before.before.before.before.before in
-    let book = parent.before.before.before in
-    let a = book.before.before.before.before.before.args in
-    writable _ a.parent _ a.buffer.now _ book.before.before.take-book.ensures book.enum_told.given.1 parent.if1.false
-    (sym c.before.before.rows-are-model.ensures ∙ not-false _ c.before.if2.false)
+    let a = c.args in
+    writable _ a.parent _ a.buffer.now _ c.take_book-reading.ensures c.in_default.is c.if-layout-parent.false
+    (sym c.rows_are_model.ensures ∙ not-false _ (ap not c.if-not-rows_are_model.false))
 
-returns-4 : tie.Need-returns-4
+returns-4 : tie.Need-returns
 returns-4 c =
-    let model = c.before.before.before.before in
-    let parent = model.before.before.before.before.before.before.before in
-    let book = parent.before.before.before in
-    all_passed _ _ _ _ _ book.before.before.take-book.ensures book.enum_told.given.1 parent.if1.false
-    (sym model.before.rows-are-model.ensures ∙ not-false _ model.if2.false) _ _ c.before.before.write-model.ensures
+    all_passed _ _ _ _ _ c.take_book-reading.ensures c.in_default.is c.if-layout-parent.false
+    (sym c.rows_are_model.ensures ∙ not-false _ (ap not c.if-not-rows_are_model.false)) _ _ c.write_model.ensures
 
 pub write_declaration_spec : {M : Type 1} → statement M
 write_declaration_spec =

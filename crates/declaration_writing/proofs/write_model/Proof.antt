@@ -6,36 +6,30 @@ use borrow.Author.Rules.{rules}
 use Rattle.declaration_writing.proofs.write_model.Statement.{statement}
 use Rattle.declaration_writing.proofs.write_model.Tie as tie
 
-put-declaration-requires : tie.Need-put-declaration-requires
+put-declaration-requires : tie.Need-put_declaration-size-requires
 put-declaration-requires c κs =
-    let p = c.before.before.before.requires in
+    let p = c.requires in
     (p.0, p.1, p.2, fits_aside _ _ _ _ p)
 
-returns : tie.Need-returns
+returns : tie.Need-returns-then-buffer-size
 returns c =
-    let put = c.before.before.before in
-    too_short _ _ _ _ put.put-declaration.ensures (fits_aside _ _ _ _ put.before.before.before.before.requires) _ _ c.before.if1.true c.refused.ensures
+    too_short _ _ _ _ c.put_declaration-size.ensures (fits_aside _ _ _ _ c.requires) _ _ c.if-buffer-size.true c.refused.ensures
 
 part-requires : tie.Need-part-requires
 part-requires c κs =
-    let put = c.before.before.before.before in
-    (omega arith, size_fits _ _ _ _ put.put-declaration.ensures (fits_aside _ _ _ _ put.before.before.before.before.requires))
+    (omega arith, size_fits _ _ _ _ c.put_declaration-size.ensures (fits_aside _ _ _ _ c.requires))
 
-put-all-requires : tie.Need-put-all-requires
+put-all-requires : tie.Need-put_all-requires
 put-all-requires c κs =
-    let put = c.before.before.before.before.before in
-    let start = put.before.before.before.before in
-    part_fits _ _ _ _ put.put-declaration.ensures (fits_aside _ _ _ _ start.requires) _ start.args.buffer.now c.part.ensures c.before.before.before.if1.false
+    part_fits _ _ _ _ c.put_declaration-size.ensures (fits_aside _ _ _ _ c.requires) _ c.args.buffer.now c.part.ensures c.if-buffer-size.false
 
-same_length : tie.Need-same-length
-same_length c = c.before.before.put_all.ensures.same
+same_length : tie.Need-shape_of-buffer
+same_length c = c.put_all.ensures.same
 
-returns-2 : tie.Need-returns-2
+returns-2 : tie.Need-returns
 returns-2 c =
-    let room = c.before.before.before.before.before.before in
-    let put = room.before.before in
-    all_put _ _ _ _ put.put-declaration.ensures (fits_aside _ _ _ _ put.before.before.before.before.requires) _ _ _ _ room.if1.false
-    c.before.before.before.part.ensures c.before.before.put_all.ensures
+    all_put _ _ _ _ c.put_declaration-size.ensures (fits_aside _ _ _ _ c.requires) _ _ _ _ c.if-buffer-size.false
+    c.part.ensures c.put_all.ensures
 
 pub write_model_spec : {M : Type 1} → statement M
 write_model_spec =

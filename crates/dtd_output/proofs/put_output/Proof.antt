@@ -5,20 +5,17 @@ use Rattle.dtd_output.proofs.Output.{still_long, refused_out, done_out}
 use Rattle.dtd_output.proofs.put_output.Statement.{statement}
 use Rattle.dtd_output.proofs.put_output.Tie as tie
 
-put-refused-requires : tie.Need-put-refused-requires
+put-refused-requires : tie.Need-put_refused-requires
 put-refused-requires c κs =
-    let w = c.before.before.before.before.before.before in
-    still_long _ _ _ _ w.write-dtd.ensures w.before.before.before.before.requires _ c.before.before.outcome.given.1
+    still_long _ _ _ _ c.write_dtd-written.ensures c.requires _ c.in-Refused.is
 
-returns : tie.Need-returns
+returns : tie.Need-returns-in-Refused
 returns c =
-    let w = c.before.before.before.before.before.before.before.before.before in
-    refused_out _ _ _ _ w.write-dtd.ensures w.before.before.before.before.requires _ c.before.before.before.before.before.outcome.given.1 _ _ c.before.before.Put-refused.ensures
+    refused_out _ _ _ _ c.write_dtd-written.ensures c.requires _ c.in-Refused.is _ _ c.put_refused.ensures
 
-returns-2 : tie.Need-returns-2
+returns-2 : tie.Need-returns
 returns-2 c =
-    let w = c.before.before.before.before in
-    done_out _ _ _ _ w.write-dtd.ensures w.before.before.before.before.requires c.enum_told.given.1
+    done_out _ _ _ _ c.write_dtd-written.ensures c.requires c.in_default.is
 
 pub put_output_spec : {M : Type 1} → statement M
 put_output_spec =

@@ -5,40 +5,26 @@ use Rattle.dtd_output.proofs.Refused.{tens_room, ones_room, feed_room, refused_p
 use Rattle.dtd_output.proofs.put_refused.Statement.{statement}
 use Rattle.dtd_output.proofs.put_refused.Tie as tie
 
-put-some-requires : tie.Need-put-some-requires
+put-some-requires : tie.Need-put_some-first-requires
 put-some-requires c κs =
-    let word = c.before.before.before.before in
-    let number = word.before.before.before in
-    tens_room number.before.before.args.refusal _ _ number.number.ensures c.tens.ensures _ number.before.before.requires _ _ word.put_all.ensures
+    tens_room c.args.refusal _ _ c.number-number.ensures c.tens.ensures _ c.requires _ _ c.put_all-word.ensures
 
-put-some-requires-2 : tie.Need-put-some-requires-2
+put-some-requires-2 : tie.Need-put_some-last-requires
 put-some-requires-2 c κs =
-    let first = c.before.before.before in
-    let word = first.before.before.before.before.before in
-    let number = word.before.before.before in
-    ones_room number.before.before.args.refusal _ _ number.number.ensures first.before.tens.ensures _ number.before.before.requires _ _ word.put_all.ensures _ _
-    first.put_some_lem.ensures
+    ones_room c.args.refusal _ _ c.number-number.ensures c.tens.ensures _ c.requires _ _ c.put_all-word.ensures _ _
+    c.put_some-first.ensures
 
-put-some-requires-3 : tie.Need-put-some-requires-3
+put-some-requires-3 : tie.Need-put_some-requires
 put-some-requires-3 c κs =
-    let last = c.before.before.before in
-    let first = last.before.before.before.before in
-    let word = first.before.before.before.before.before in
-    let number = word.before.before.before in
-    feed_room number.before.before.args.refusal _ _ number.number.ensures first.before.tens.ensures _ number.before.before.requires _ _ word.put_all.ensures _ _
-    first.put_some_lem.ensures _ _ last.put-some2.ensures
+    feed_room c.args.refusal _ _ c.number-number.ensures c.tens.ensures _ c.requires _ _ c.put_all-word.ensures _ _
+    c.put_some-first.ensures _ _ c.put_some-last.ensures
 
 returns : tie.Need-returns
 returns c =
-    let last = c.before.before.before.before.before.before in
-    let first = last.before.before.before.before in
-    let word = first.before.before.before.before.before in
-    let number = word.before.before.before in
-    refused_put number.before.before.args.refusal _ _ number.number.ensures first.before.tens.ensures _ number.before.before.requires _ _ word.put_all.ensures _ _
-    first.put_some_lem.ensures _ _ last.put-some2.ensures _ _ c.before.before.put-some3.ensures
+    refused_put c.args.refusal _ _ c.number-number.ensures c.tens.ensures _ c.requires _ _ c.put_all-word.ensures _ _
+    c.put_some-first.ensures _ _ c.put_some-last.ensures _ _ c.put_some.ensures
 
 pub put_refused_spec : {M : Type 1} → statement M
 put_refused_spec =
     tie.close
-    (tie.spec (λ c κs. search rules) (λ c. search rules) (λ c κs. search rules) (λ c κs. search rules)
-    put-some-requires (λ c. search rules) put-some-requires-2 put-some-requires-3 (λ c. search rules) returns)
+    (tie.spec (λ c κs. search rules) (λ c κs. search rules) (λ c κs. search rules) put-some-requires (λ c. search rules) put-some-requires-2 put-some-requires-3 (λ c. search rules) returns)

@@ -5,11 +5,11 @@ use Rattle.dtd_output.proofs.Refused.{no_tens, some_tens}
 use Rattle.dtd_output.proofs.tens.Statement.{statement}
 use Rattle.dtd_output.proofs.tens.Tie as tie
 
-returns : tie.Need-returns
-returns c = no_tens _ c.if1.true
+returns : tie.Need-returns-then-n-lt10
+returns c = no_tens _ c.if-n-lt10.true
 
-returns-2 : tie.Need-returns-2
-returns-2 c = some_tens _ c.if1.false
+returns-2 : tie.Need-returns-else-n-lt10
+returns-2 c = some_tens _ c.if-n-lt10.false
 
 pub tens_spec : {M : Type 1} → statement M
 tens_spec = tie.close (tie.spec (λ c. search rules) returns returns-2)

@@ -12,36 +12,32 @@ use Rattle.follow.proofs.Words.{pairs_left, pairs_begin, pairs_next, pairs_done}
 use Rattle.follow.proofs.add_pairs.Statement.{statement}
 use Rattle.follow.proofs.add_pairs.Tie as tie
 
-abbrev invariant-loop : tie.invariant-loop
+abbrev invariant-loop : tie.invariant-loop-i
 invariant-loop rows₀ word a₀ i₀ rows a i = (a < places) × IsRows places rows × (with_pairs rows₀ word ≡ pairs_left rows a word i)
 
-abbrev decreases-loop : tie.decreases-loop
+abbrev decreases-loop : tie.decreases-loop-i
 decreases-loop rows₀ word a₀ i₀ rows a i = length word - i
 
-first-name-requires : tie.Need-first-name-requires invariant-loop decreases-loop
-first-name-requires c κs = c.before.before.requires.1
+first-name-requires : tie.Need-first_name-a-requires invariant-loop decreases-loop
+first-name-requires c κs = c.requires.1
 
-loop-holds : tie.Need-loop-init invariant-loop decreases-loop
+loop-holds : tie.Need-loop-i-init invariant-loop decreases-loop
 loop-holds c =
-    (c.first-name.ensures.1, c.before.before.before.requires.0, pairs_begin _ _ _ c.first-name.ensures.0)
+    (c.first_name-a.ensures.1, c.requires.0, pairs_begin _ _ _ c.first_name-a.ensures.0)
 
-name-at-requires : tie.Need-name-at-requires invariant-loop decreases-loop
-name-at-requires c κs = (c.before.before.before.before.before.requires.1, c.loop-test.true)
+name-at-requires : tie.Need-name_at-b-requires invariant-loop decreases-loop
+name-at-requires c κs = (c.requires.1, c.loop-i-test.true)
 
-loop-again : tie.Need-loop-preserved invariant-loop decreases-loop
+loop-again : tie.Need-loop-i-preserved invariant-loop decreases-loop
 loop-again c =
-    let put = c.before.before in
-    let set = put.before.before in
-    let row = set.before in
-    let name = row.before.before in
-    let inv = name.before.before.loop.invariant in (
-      name.name-at.ensures.1,
-      put.put-row.ensures.1 ∙ inv.1,
-      inv.2 ∙ pairs_next _ _ _ _ _ _ _ _ name.before.loop-test.true name.name-at.ensures.0 row.row_at.ensures set.with.ensures.same put.put-row.ensures.0,
+    let inv = c.loop-i.invariant in (
+      c.name_at-b.ensures.1,
+      c.put_row.ensures.1 ∙ inv.1,
+      inv.2 ∙ pairs_next _ _ _ _ _ _ _ _ c.loop-i-test.true c.name_at-b.ensures.0 c.row_at.ensures c.with-names.ensures.same c.put_row.ensures.0,
     )
 
 returns : tie.Need-returns invariant-loop decreases-loop
-returns c = let inv = c.before.loop.invariant in (sym (inv.2 ∙ pairs_done _ _ _ _ c.loop-test.false), inv.1)
+returns c = let inv = c.loop-i.invariant in (sym (inv.2 ∙ pairs_done _ _ _ _ c.loop-i-test.false), inv.1)
 
 pub add_pairs_spec : {M : Type 1} → statement M
 add_pairs_spec =

@@ -7,9 +7,7 @@ use Rattle.follow.proofs.add_word.Tie as tie
 
 returns : tie.Need-returns
 returns c =
-    let last = c.before in
-    let first = last.before in
-    word_added _ _ _ _ _ _ first.with_first.ensures last.with-last.ensures first.before.before.add-pairs.ensures.0 c.or-empty.ensures
+    word_added _ _ _ _ _ _ c.with_first.ensures c.with_last.ensures c.add_pairs.ensures.0 c.or_empty.ensures
 
 pub add_word_spec : {M : Type 1} → statement M
 add_word_spec =

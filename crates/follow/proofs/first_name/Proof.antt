@@ -13,10 +13,10 @@ use Rattle.follow.proofs.first_name.Tie as tie
 none : (w : List ℕ) → length w ≡ 0 → 0 ≡ get_or w 0 0
 none w e = rw (no_name_lem w e)
 
-returns : tie.Need-returns
-returns c = (none c.before.before.args.word.now c.if1.true, omega arith)
+returns : tie.Need-returns-then-word-eq0
+returns c = (none c.args.word.now c.if-word-eq0.true, omega arith)
 
-returns-2 : tie.Need-returns-2
+returns-2 : tie.Need-returns
 returns-2 c = search rules
 
 pub first_name_spec : {M : Type 1} → statement M

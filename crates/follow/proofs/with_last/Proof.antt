@@ -5,11 +5,11 @@ use Rattle.follow.proofs.Words.{last_none, last_some}
 use Rattle.follow.proofs.with_last.Statement.{statement}
 use Rattle.follow.proofs.with_last.Tie as tie
 
-returns : tie.Need-returns
-returns c = last_none _ _ c.if1.true
+returns : tie.Need-returns-then-word-eq0
+returns c = last_none _ _ c.if-word-eq0.true
 
-returns-2 : tie.Need-returns-2
-returns-2 c = last_some _ _ _ _ c.before.before.if1.false c.before.name-at.ensures.0 c.with.ensures.same
+returns-2 : tie.Need-returns
+returns-2 c = last_some _ _ _ _ c.if-word-eq0.false c.name_at.ensures.0 c.with.ensures.same
 
 pub with_last_spec : {M : Type 1} → statement M
 with_last_spec =

@@ -31,61 +31,56 @@ module _ (n : ℕ) (s : List ℕ) (at size : ℕ) (b : BlockRead n s at size) wh
       gathers_block (RowKeeps parent) n s at t u size b (λ bs k. row_own parent bs b.block.value t k u (sym b.parent ∙ sym e ∙ q) added)
 
 -- what is known where a block was read
-placed : (c : tie.After-known-told) →
-    let a = c.before.before.before.before.before.before.args in
-    BlockRead a.n a.bytes.now a.at c.before.size.given.0.0
-placed c = block_read _ _ _ _ (sym c.before.before.before.block_at.ensures ∙ c.before.size.given.1)
+placed : (c : tie.In-Block) →
+    let a = c.args in
+    BlockRead a.n a.bytes.now a.at c.in-Block.size
+placed c = block_read _ _ _ _ (sym c.block_at.ensures ∙ c.in-Block.is)
 
-shared-slice-read-wide : tie.Need-shared-slice-read-wide
+shared-slice-read-wide : tie.Need-bounds-bytes-at
 shared-slice-read-wide c = omega (arith, (placed c.before).fits)
 
-returns : tie.Need-returns
-returns c =
-    let k = c.before.before.before in (
-      sym k.before.size.given.1 ∙ k.before.before.before.block_at.ensures,
-      other _ _ _ _ (placed k) _ _ c.before.wide.ensures.0 c.if1.true _,
-      k.before.before.before.before.before.before.requires.2,
-    )
+returns : tie.Need-returns-then-wide-parent
+returns c = (
+  sym c.in-Block.is ∙ c.block_at.ensures,
+  other _ _ _ _ (placed c.before.before.before) _ _ c.wide.ensures.0 c.if-wide-parent.true _,
+  c.requires.2,
+)
 
-add_text : tie.Need-overflow-add-text
-add_text c = let k = c.before.before.before in omega (arith, (placed k).ranges, k.before.before.before.before.before.before.requires.0)
+add_text : tie.Need-overflow_add-text
+add_text c = omega (arith, (placed c.before.before.before).fits, c.requires.0)
 
-shared-slice-read-text : tie.Need-shared-slice-read-text
+shared-slice-read-text : tie.Need-bounds-bytes-at-in-Block
 shared-slice-read-text c = omega (arith, (placed c.before.before.before.before).fits)
 
-add_from : tie.Need-overflow-add-from
-add_from c = let k = c.before.before.before.before in omega (arith, (placed k).ranges, k.before.before.before.before.before.before.requires.0)
+add_from : tie.Need-overflow_add-from
+add_from c = omega (arith, (placed c.before.before.before.before).fits, c.requires.0)
 
-add_part : tie.Need-overflow-add-part
-add_part c = let k = c.before.before.before.before.before in omega (arith, (placed k).ranges, k.before.before.before.before.before.before.requires.0)
+add_part : tie.Need-overflow_add-from-in-Block
+add_part c = omega (arith, (placed c.before.before.before.before.before).fits, c.requires.0)
 
 part-requires : tie.Need-part-requires
-part-requires c κs = let k = c.before.before.before.before.before in (omega arith, (placed k).ranges)
+part-requires c κs = (omega arith, (placed c.before.before.before.before.before).fits)
 
-add-to-row-requires : tie.Need-add-to-row-requires
+add-to-row-requires : tie.Need-add_to_row-requires
 add-to-row-requires c κs =
-    let k = c.before.before.before.before.before.before in
-    let pre = k.before.before.before.before.before.before.requires in
-    (pre.2, word_below _ _ _ _ (placed k) _ c.part.ensures pre.1)
+    let pre = c.requires in
+    (pre.2, word_below _ _ _ _ (placed c.before.before.before.before.before.before) _ c.part.ensures pre.1)
 
-returns-2 : tie.Need-returns-2
+returns-2 : tie.Need-returns-else-wide-parent
 returns-2 c =
-    let e = c.before.before.before.before.before.before in
-    let k = e.before.before.before in
-    let added = c.before.before.add-to-row.ensures in (
-      sym k.before.size.given.1 ∙ k.before.before.before.block_at.ensures,
-      own _ _ _ _ (placed k) _ c.before.before.before.part.ensures _ _ e.before.wide.ensures.0 e.if1.false _ _ added,
+    let added = c.add_to_row.ensures in (
+      sym c.in-Block.is ∙ c.block_at.ensures,
+      own _ _ _ _ (placed c.before.before.before.before.before.before.before.before.before) _ c.part.ensures _ _ c.wide.ensures.0 c.if-wide-parent.false _ _ added,
       added.size,
     )
 
-returns-3 : tie.Need-returns-3
+returns-3 : tie.Need-returns-in-Stopped
 returns-3 c =
-    let b = c.before.before.before in
-    let a = b.before.before.before.args in
-    let step = sym c.before.refusal.given.1 ∙ b.block_at.ensures in (
+    let a = c.args in
+    let step = sym c.in-Stopped.is ∙ c.block_at.ensures in (
       step,
       gathers_none (RowKeeps a.parent) a.n a.bytes.now a.at _ _ _ (block_stopped _ _ (sym step)) refl,
-      b.before.before.before.requires.2,
+      c.requires.2,
     )
 
 pub gather_block_spec : {M : Type 1} → statement M

@@ -6,7 +6,7 @@ use Rattle.follow_row.proofs.add_text.Statement.{statement}
 use Rattle.follow_row.proofs.add_text.Tie as tie
 
 returns : tie.Need-returns
-returns c = text_put _ _ _ c.before.before.before.requires c.marked.ensures
+returns c = text_put _ _ _ c.requires c.marked.ensures
 
 pub add_text_spec : {M : Type 1} → statement M
 add_text_spec =

@@ -7,9 +7,7 @@ use Rattle.follow_row.proofs.add_to_row.Tie as tie
 
 returns : tie.Need-returns
 returns c =
-    let word = c.before.before in
-    let text = word.before.before.before.before in
-    block_added _ _ _ _ _ text.before.before.before.before.requires.0 text.add_text.ensures.0 word.add-word.ensures
+    block_added _ _ _ _ _ c.requires.0 c.add_text.ensures.0 c.add_word.ensures
 
 pub add_to_row_spec : {M : Type 1} → statement M
 add_to_row_spec =

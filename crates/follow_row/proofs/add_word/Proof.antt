@@ -5,15 +5,13 @@ use Rattle.follow_row.proofs.Rows.{empty_added, row_added}
 use Rattle.follow_row.proofs.add_word.Statement.{statement}
 use Rattle.follow_row.proofs.add_word.Tie as tie
 
-returns : tie.Need-returns
-returns c = empty_added _ _ c.before.before.before.requires.0 c.if1.true
+returns : tie.Need-returns-then-word-eq0
+returns c = empty_added _ _ c.requires.0 c.if-word-eq0.true
 
-returns-2 : tie.Need-returns-2
+returns-2 : tie.Need-returns
 returns-2 c =
-    let ends = c.before.before.before.before.before.before in
-    let some = ends.before.before in
-    row_added _ _ _ _ ends.add-ends.ensures.0 some.before.before.before.requires.0 some.if1.false
-    c.before.before.add-pairs.ensures.0 c.before.before.add-pairs.ensures.1
+    row_added _ _ _ _ c.add_ends.ensures.0 c.requires.0 c.if-word-eq0.false
+    c.add_pairs.ensures.0 c.add_pairs.ensures.1
 
 pub add_word_spec : {M : Type 1} → statement M
 add_word_spec =

@@ -4,11 +4,11 @@ use borrow.Author.Tests.{eq-eqb, ne_eqb}
 use Rattle.follow_row.proofs.marked.Statement.{statement}
 use Rattle.follow_row.proofs.marked.Tie as tie
 
-returns : tie.Need-returns
-returns c = rw (eq-eqb c.before.args.text 1 c.if1.true)
+returns : tie.Need-returns-then-text-eq1
+returns c = rw (eq-eqb c.args.text 1 c.if-text-eq1.true)
 
-returns-2 : tie.Need-returns-2
-returns-2 c = rw (ne_eqb c.before.args.text 1 c.if1.false)
+returns-2 : tie.Need-returns
+returns-2 c = rw (ne_eqb c.args.text 1 c.if-text-eq1.false)
 
 pub marked_spec : {M : Type 1} → statement M
 marked_spec = tie.close (tie.spec returns returns-2)

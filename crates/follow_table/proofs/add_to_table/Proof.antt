@@ -5,16 +5,14 @@ use Rattle.follow_table.proofs.Parts.{part_is, length_row, block_put}
 use Rattle.follow_table.proofs.add_to_table.Statement.{statement}
 use Rattle.follow_table.proofs.add_to_table.Tie as tie
 
-add-to-row-requires : tie.Need-add-to-row-requires
+add-to-row-requires : tie.Need-add_to_row-requires
 add-to-row-requires c κs =
-    let f = c.before.before.before in
-    let row = part_is f.args.table.now f.args.parent in
-    (rw row (length_row _ _ f.requires.0 f.requires.1), f.requires.2)
+    let row = part_is c.args.table.now c.args.parent in
+    (rw row (length_row _ _ c.requires.0 c.requires.1), c.requires.2)
 
 returns : tie.Need-returns
 returns c =
-    let f = c.before.before.before.before.before.before in
-    block_put _ _ _ _ _ f.requires.0 f.requires.1 c.before.before.add-to-row.ensures
+    block_put _ _ _ _ _ c.requires.0 c.requires.1 c.add_to_row.ensures
 
 pub add_to_table_spec : {M : Type 1} → statement M
 add_to_table_spec =

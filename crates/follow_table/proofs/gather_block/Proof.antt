@@ -24,56 +24,50 @@ added n s at size b w part p e t u a =
     gathers_block Keeps n s at t u size b (λ bs k. keeps_more bs b.block.value t u k own)
 
 -- what is known where a block was read
-placed : (c : tie.After-known-told) →
-    let a = c.before.before.before.before.before.before.args in
-    BlockRead a.n a.bytes.now a.at c.before.size.given.0.0
-placed c = block_read _ _ _ _ (sym c.before.before.before.block_at.ensures ∙ c.before.size.given.1)
+placed : (c : tie.In-Block) →
+    let a = c.args in
+    BlockRead a.n a.bytes.now a.at c.in-Block.size
+placed c = block_read _ _ _ _ (sym c.block_at.ensures ∙ c.in-Block.is)
 
-shared-slice-read-wide : tie.Need-shared-slice-read-wide
+shared-slice-read-wide : tie.Need-bounds-bytes-at
 shared-slice-read-wide c = omega (arith, (placed c.before).fits)
 
-add_text : tie.Need-overflow-add-text
-add_text c = let k = c.before.before in omega (arith, (placed k).ranges, k.before.before.before.before.before.before.requires.0)
+add_text : tie.Need-overflow_add-text
+add_text c = omega (arith, (placed c.before.before).fits, c.requires.0)
 
-shared-slice-read-text : tie.Need-shared-slice-read-text
+shared-slice-read-text : tie.Need-bounds-bytes-at-in-Block
 shared-slice-read-text c = omega (arith, (placed c.before.before.before).fits)
 
-add_from : tie.Need-overflow-add-from
-add_from c = let k = c.before.before.before in omega (arith, (placed k).ranges, k.before.before.before.before.before.before.requires.0)
+add_from : tie.Need-overflow_add-from
+add_from c = omega (arith, (placed c.before.before.before).fits, c.requires.0)
 
-add_part : tie.Need-overflow-add-part
-add_part c = let k = c.before.before.before.before in omega (arith, (placed k).ranges, k.before.before.before.before.before.before.requires.0)
+add_part : tie.Need-overflow_add-from-in-Block
+add_part c = omega (arith, (placed c.before.before.before.before).fits, c.requires.0)
 
 part-requires : tie.Need-part-requires
 part-requires c κs = (omega arith, (placed c.before.before.before.before).fits)
 
-add-to-table-requires : tie.Need-add-to-table-requires
+add-to-table-requires : tie.Need-add_to_table-requires
 add-to-table-requires c κs =
-    let w = c.before.before.before in
-    let k = w.before.before in
-    let b = placed k in
-    let pre = k.before.before.before.before.before.before.requires in
-    (pre.2, omega (arith, w.wide.ensures.0, b.parent, b.below, pre.1), word_below _ _ _ _ b _ c.part.ensures pre.1)
+    let b = placed c.before.before.before.before.before in
+    let pre = c.requires in
+    (pre.2, omega (arith, c.wide-parent.ensures.0, b.parent, b.below, pre.1), word_below _ _ _ _ b _ c.part.ensures pre.1)
 
-returns : tie.Need-returns
+returns : tie.Need-returns-in-Block
 returns c =
-    let part = c.before.before.before in
-    let w = part.before.before.before in
-    let k = w.before.before in
-    let a = c.before.before.add-to-table.ensures in (
-      sym k.before.size.given.1 ∙ k.before.before.before.block_at.ensures,
-      added _ _ _ _ (placed k) _ part.part.ensures _ w.wide.ensures.0 _ _ a,
+    let a = c.add_to_table.ensures in (
+      sym c.in-Block.is ∙ c.block_at.ensures,
+      added _ _ _ _ (placed c.before.before.before.before.before.before.before.before) _ c.part.ensures _ c.wide-parent.ensures.0 _ _ a,
       a.size,
     )
 
-returns-2 : tie.Need-returns-2
+returns-2 : tie.Need-returns-in-Stopped
 returns-2 c =
-    let b = c.before.before.before in
-    let a = b.before.before.before.args in
-    let step = sym c.before.refusal.given.1 ∙ b.block_at.ensures in (
+    let a = c.args in
+    let step = sym c.in-Stopped.is ∙ c.block_at.ensures in (
       step,
       gathers_none Keeps a.n a.bytes.now a.at _ _ _ (block_stopped _ _ (sym step)) refl,
-      b.before.before.before.requires.2,
+      c.requires.2,
     )
 
 pub gather_block_spec : {M : Type 1} → statement M

@@ -11,70 +11,55 @@ use Rattle.follow_table.specs.Table.{table_size, Keeps}
 use Rattle.follow_table.proofs.gather_blocks.Statement.{statement}
 use Rattle.follow_table.proofs.gather_blocks.Tie as tie
 
-abbrev invariant-loop : tie.invariant-loop
+abbrev invariant-loop : tie.invariant-loop-left
 invariant-loop bytes n m from table₀ left₀ at₀ unused₀ table left at unused =
     (length table ≡ table_size) × Gathering Keeps bytes n m from (below n) table₀ left at unused table
 
-abbrev decreases-loop : tie.decreases-loop
+abbrev decreases-loop : tie.decreases-loop-left
 decreases-loop bytes n m from table₀ left₀ at₀ unused₀ table left at unused = left
 
-below-requires : tie.Need-below-requires invariant-loop decreases-loop
-below-requires c κs = let pre = c.before.before.requires in (omega (arith, pre.2), omega (arith, pre.3))
+below-requires : tie.Need-below-unused-requires invariant-loop decreases-loop
+below-requires c κs = let pre = c.requires in (omega (arith, pre.2), omega (arith, pre.3))
 
-loop-holds : tie.Need-loop-init invariant-loop decreases-loop
-loop-holds c = let pre = c.before.before.before.requires in (pre.4, gather_none Keeps _ _ _ _ _ _ _ pre.0 c.below.ensures.same)
+loop-holds : tie.Need-loop-left-init invariant-loop decreases-loop
+loop-holds c = let pre = c.requires in (pre.4, gather_none Keeps _ _ _ _ _ _ _ pre.0 c.below-unused.ensures.same)
 
-gather-run-requires : tie.Need-gather-run-requires invariant-loop decreases-loop
+gather-run-requires : tie.Need-gather_run-end-requires invariant-loop decreases-loop
 gather-run-requires c κs =
-    let l = c.before.before.before.before in
-    let pre = l.before.before.before.before.requires in
-    (l.loop.invariant.1.walk.within, pre.1, pre.3, l.loop.invariant.0)
+    let pre = c.requires in
+    (c.loop-left.invariant.1.walk.within, pre.1, pre.3, c.loop-left.invariant.0)
 
-returns : tie.Need-returns invariant-loop decreases-loop
+returns : tie.Need-returns-then-empty invariant-loop decreases-loop
 returns c =
-    let r = c.before.before.before in
-    let k = r.before.before in
-    let e = k.before in
-    gather_run Keeps _ _ _ _ _ _ _ _ _ _ e.before.before.loop.invariant.1 _ e.is-empty.ensures.same c.if1.true _ k.in-turn.ensures _ _
-    (r.gather_run.ensures.0, r.gather_run.ensures.1)
+    gather_run Keeps _ _ _ _ _ _ _ _ _ _ c.loop-left.invariant.1 _ c.is_empty-empty.ensures.same c.if-empty.true _ c.in_turn.ensures _ _
+    (c.gather_run-end.ensures.0, c.gather_run-end.ensures.1)
 
 -- the block that was read where the set was not empty
-placed : (c : tie.After-known-told invariant-loop decreases-loop) →
-    let l = c.before.before.before.before.before.before.before.before.before.before.before in
-    let a = l.before.before.before.before.args in
-    RunRead a.n a.bytes.now l.loop.at c.before.end.given.0.0
+placed : (c : tie.In-End invariant-loop decreases-loop) →
+    let a = c.args in
+    RunRead a.n a.bytes.now c.loop-left.at c.in-End.next
 placed c =
-    let e = c.before.before.before in
-    let r = e.before.before.before in
-    run_read _ _ _ _ _ (run_of_one _ _ _ _ _ _ _ _ r.gather_run.ensures.0 r.before.before.in-turn.ensures e.if1.false) _ _ c.before.end.given.1
+    run_read _ _ _ _ _ (run_of_one _ _ _ _ _ _ _ _ c.gather_run-end.ensures.0 c.in_turn.ensures c.if-empty.false) _ _ c.in-End.is
 
-without-block-requires : tie.Need-without-block-requires invariant-loop decreases-loop
+without-block-requires : tie.Need-without_block-unused-requires invariant-loop decreases-loop
 without-block-requires c κs =
-    let pre = c.before.before.before.before.before.before.before.before.before.before.before.before.before.before.before.requires in
+    let pre = c.requires in
     run_small _ _ _ _ (placed c) pre.1 pre.3
 
-returns-2 : tie.Need-returns-2 invariant-loop decreases-loop
+returns-2 : tie.Need-returns-in-Stopped invariant-loop decreases-loop
 returns-2 c =
-    let e = c.before.before.before in
-    let r = e.before.before.before in
-    let k = r.before.before in
-    let i = k.before.before in
-    gather_halted Keeps _ _ _ _ _ _ _ _ _ _ i.before.loop.invariant.1 i.loop-test.true _ e.if1.false _ k.in-turn.ensures _ _
-    (r.gather_run.ensures.0, r.gather_run.ensures.1) _ c.before.end2.given.1
+    gather_halted Keeps _ _ _ _ _ _ _ _ _ _ c.loop-left.invariant.1 c.loop-left-test.true _ c.if-empty.false _ c.in_turn.ensures _ _
+    (c.gather_run-end.ensures.0, c.gather_run-end.ensures.1) _ c.in-Stopped.is
 
-loop-again : tie.Need-loop-preserved invariant-loop decreases-loop
-loop-again c =
-    let e = c.before.before.before.before in
-    let r = e.before.before.before in
-    let k = r.before.before in
-    let i = k.before.before in (
-      r.gather_run.ensures.2,
-      gather_next Keeps _ _ _ _ _ _ _ _ _ _ i.before.loop.invariant.1 i.loop-test.true _ e.if1.false _ k.in-turn.ensures _ _
-          (r.gather_run.ensures.0, r.gather_run.ensures.1) _ (placed c.before) _ c.without-block.ensures,
-    )
+loop-again : tie.Need-loop-left-preserved invariant-loop decreases-loop
+loop-again c = (
+  c.gather_run-end.ensures.2,
+  gather_next Keeps _ _ _ _ _ _ _ _ _ _ c.loop-left.invariant.1 c.loop-left-test.true _ c.if-empty.false _ c.in_turn.ensures _ _
+      (c.gather_run-end.ensures.0, c.gather_run-end.ensures.1) _ (placed c.before) _ c.without_block-unused.ensures,
+)
 
-returns-3 : tie.Need-returns-3 invariant-loop decreases-loop
-returns-3 c = gather_done Keeps _ _ _ _ _ _ _ _ _ _ c.before.loop.invariant.1 c.loop-test.false
+returns-3 : tie.Need-returns invariant-loop decreases-loop
+returns-3 c = gather_done Keeps _ _ _ _ _ _ _ _ _ _ c.loop-left.invariant.1 c.loop-left-test.false
 
 pub gather_blocks_spec : {M : Type 1} → statement M
 gather_blocks_spec =

@@ -18,56 +18,49 @@ use Rattle.follow_table.specs.Table.{table_size, Keeps}
 use Rattle.follow_table.proofs.gather_run.Statement.{statement}
 use Rattle.follow_table.proofs.gather_run.Tie as tie
 
-abbrev invariant-loop : tie.invariant-loop
+abbrev invariant-loop : tie.invariant-loop-more
 invariant-loop bytes n m from table₀ more₀ at₀ table more at =
     (length table ≡ table_size) × Gathering Keeps bytes n m from empty table₀ more at empty table
 
-abbrev decreases-loop : tie.decreases-loop
+abbrev decreases-loop : tie.decreases-loop-more
 decreases-loop bytes n m from table₀ more₀ at₀ table more at = more
 
 -- what is known where a block was read
-placed : (c : tie.After-known-told invariant-loop decreases-loop) →
-    let l = c.before.before.before.before.before.before.before.before in
-    let a = l.before.before.before.args in
-    BlockRead a.n a.bytes.now l.loop.at c.before.size.given.0.0
-placed c = block_read _ _ _ _ (sym c.before.before.before.before.before.gather-block.ensures.0 ∙ c.before.size.given.1)
+placed : (c : tie.In-Block invariant-loop decreases-loop) →
+    let a = c.args in
+    BlockRead a.n a.bytes.now c.loop-more.at c.in-Block.size
+placed c = block_read _ _ _ _ (sym c.gather_block.ensures.0 ∙ c.in-Block.is)
 
-loop-holds : tie.Need-loop-init invariant-loop decreases-loop
-loop-holds c = let pre = c.before.before.requires in (pre.3, gather_none Keeps _ _ _ _ empty _ _ pre.0 refl)
+loop-holds : tie.Need-loop-more-init invariant-loop decreases-loop
+loop-holds c = let pre = c.requires in (pre.3, gather_none Keeps _ _ _ _ empty _ _ pre.0 refl)
 
-gather-block-requires : tie.Need-gather-block-requires invariant-loop decreases-loop
+gather-block-requires : tie.Need-gather_block-requires invariant-loop decreases-loop
 gather-block-requires c κs =
-    let l = c.before.before in
-    let pre = l.before.before.before.requires in
-    (pre.1, pre.2, l.loop.invariant.0)
+    let pre = c.requires in
+    (pre.1, pre.2, c.loop-more.invariant.0)
 
 -- the place behind it
-behind : (c : tie.After-known-told invariant-loop decreases-loop) → Fits w64 (c.before.before.before.before.before.before.before.before.loop.at + head_size + c.before.size.given.0.0)
-behind c = omega (arith, (placed c).ranges, c.before.before.before.before.before.before.before.before.before.before.before.requires.1)
+behind : (c : tie.In-Block invariant-loop decreases-loop) → Fits w64 (c.loop-more.at + head_size + c.in-Block.size)
+behind c = omega (arith, (placed c).fits, c.requires.1)
 
-add_at : tie.Need-overflow-add-at invariant-loop decreases-loop
+add_at : tie.Need-overflow_add-at invariant-loop decreases-loop
 add_at c = omega (arith, behind c)
 
-returns : tie.Need-returns invariant-loop decreases-loop
+returns : tie.Need-returns-in-Stopped invariant-loop decreases-loop
 returns c =
-    let g = c.before.before.before.before.before in
-    let i = g.before.before in
-    let (answer, kept) = gather_stopped Keeps _ _ _ _ _ _ _ _ _ _ i.before.loop.invariant.1 i.loop-test.true _ g.gather-block.ensures.0 _ c.before.refusal.given.1 _ g.gather-block.ensures.1 in
-    (answer, kept, g.gather-block.ensures.2)
+    let (answer, kept) = gather_stopped Keeps _ _ _ _ _ _ _ _ _ _ c.loop-more.invariant.1 c.loop-more-test.true _ c.gather_block.ensures.0 _ c.in-Stopped.is _ c.gather_block.ensures.1 in
+    (answer, kept, c.gather_block.ensures.2)
 
-loop-again : tie.Need-loop-preserved invariant-loop decreases-loop
-loop-again c =
-    let g = c.before.before.before.before.before in
-    let i = g.before.before in (
-      g.gather-block.ensures.2,
-      gather_more Keeps _ _ _ _ _ _ _ _ _ _ i.before.loop.invariant.1 i.loop-test.true _ (placed c) _ (sym (block_empty _)) _ g.gather-block.ensures.1,
-    )
+loop-again : tie.Need-loop-more-preserved invariant-loop decreases-loop
+loop-again c = (
+  c.gather_block.ensures.2,
+  gather_more Keeps _ _ _ _ _ _ _ _ _ _ c.loop-more.invariant.1 c.loop-more-test.true _ (placed c) _ (sym (block_empty _)) _ c.gather_block.ensures.1,
+)
 
-returns-2 : tie.Need-returns-2 invariant-loop decreases-loop
+returns-2 : tie.Need-returns invariant-loop decreases-loop
 returns-2 c =
-    let l = c.before.before in
-    let (answer, kept) = gather_done Keeps _ _ _ _ _ _ _ _ _ _ l.loop.invariant.1 c.before.loop-test.false in
-    (ap (End l.loop.at) c.empty.ensures.same ∙ answer, kept, l.loop.invariant.0)
+    let (answer, kept) = gather_done Keeps _ _ _ _ _ _ _ _ _ _ c.loop-more.invariant.1 c.loop-more-test.false in
+    (ap (End c.loop-more.at) c.empty.ensures.same ∙ answer, kept, c.loop-more.invariant.0)
 
 pub gather_run_spec : {M : Type 1} → statement M
 gather_run_spec =

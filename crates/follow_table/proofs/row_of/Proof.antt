@@ -9,9 +9,9 @@ use Rattle.follow_table.proofs.row_of.Tie as tie
 
 returns : tie.Need-returns
 returns c =
-    let a = c.before.args in
+    let a = c.args in
     let row = part_is a.table.now a.parent in
-    (row, ap length row ∙ length_row a.table.now a.parent c.before.requires.0 c.before.requires.1)
+    (row, ap length row ∙ length_row a.table.now a.parent c.requires.0 c.requires.1)
 
 pub row_of_spec : {M : Type 1} → statement M
 row_of_spec =

@@ -16,14 +16,14 @@ same_default [] i a b h = absurd (omega arith)
 same_default (x ∷ l) zero a b h = refl
 same_default (x ∷ l) (suc i) a b h = same_default l i a b (le_of_suc-le-suc h)
 
-returns : tie.Need-returns
+returns : tie.Need-returns-then-i-row
 returns c =
-    let a = c.before.before.args in
+    let a = c.args in
     same_default a.row.now a.i 0 a.other (search rules)
 
-returns-2 : tie.Need-returns-2
+returns-2 : tie.Need-returns-else-i-row
 returns-2 c =
-    let a = c.before.args in
+    let a = c.args in
     sym (get_or-eq_default a.row.now a.other (search rules))
 
 pub entry_spec : {M : Type 1} → statement M

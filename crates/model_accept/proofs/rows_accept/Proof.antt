@@ -14,46 +14,46 @@ use Rattle.model.proofs.Words.{run_nowhere, run_more, run_done}
 use Rattle.model_accept.proofs.rows_accept.Statement.{statement}
 use Rattle.model_accept.proofs.rows_accept.Tie as tie
 
-abbrev invariant-loop : tie.invariant-loop
+abbrev invariant-loop : tie.invariant-loop-i
 invariant-loop count factor mode word s₀ i₀ s i =
     (i ≤ length word) × (run (of_rows count factor mode) (To s) (drop i word) ≡ run (of_rows count factor mode) (To (state 0 false)) word)
 
-abbrev decreases-loop : tie.decreases-loop
+abbrev decreases-loop : tie.decreases-loop-i
 decreases-loop count factor mode word s₀ i₀ s i = length word - i
 
-loop-holds : tie.Need-loop-init invariant-loop decreases-loop
+loop-holds : tie.Need-loop-i-init invariant-loop decreases-loop
 loop-holds c = (omega arith, refl)
 
 -- Where the rest of the word leads after a step to v.
 stepped : (c : tie.After-step invariant-loop decreases-loop) → {v : Moved} → c.step.result ≡ v →
-    let l = c.before.before.before in
-    let a = l.before.before.before.before.args in
+    let a = c.args in
     let m = of_rows a.count a.factor.now a.mode.now in
-    run m v (drop (l.loop.i + 1) a.word.now) ≡ run m (To (state 0 false)) a.word.now
+    run m v (drop (c.loop-i.i + 1) a.word.now) ≡ run m (To (state 0 false)) a.word.now
 stepped c e =
-    let t = c.before.before in
-    let l = t.before.loop in
-    let a = t.before.before.before.before.before.args in
-    sym (run_more (of_rows a.count a.factor.now a.mode.now) l.state a.word.now l.i t.loop-test.true c.step.ensures e) ∙ l.invariant.1
+    let l = c.loop-i in
+    let a = c.args in
+    sym (run_more (of_rows a.count a.factor.now a.mode.now) l.state a.word.now l.i c.loop-i-test.true c.step.ensures e) ∙ l.invariant.1
 
-enum_told : tie.Need-enum-told invariant-loop decreases-loop
+enum_told : tie.Need-enum_told-1 invariant-loop decreases-loop
 enum_told c = search rules
 
-returns : tie.Need-returns invariant-loop decreases-loop
+returns : tie.Need-returns-in-Nowhere invariant-loop decreases-loop
 unfolding accepts may_end
-returns c = ap (may_end _) (sym (run_nowhere _ _) ∙ stepped c.before.before c.enum_told.given.1)
+returns c =
+    let a = c.args in
+    let m = of_rows a.count a.factor.now a.mode.now in
+    ap (may_end m) (sym (run_nowhere m _) ∙ stepped c.before c.in-Nowhere.is)
 
-loop-again : tie.Need-loop-preserved invariant-loop decreases-loop
-loop-again c = (omega arith, stepped c.before.before.before c.before.next.given.1)
+loop-again : tie.Need-loop-i-preserved invariant-loop decreases-loop
+loop-again c = (omega arith, stepped c.before c.in-To.is)
 
-returns-2 : tie.Need-returns-2 invariant-loop decreases-loop
+returns-2 : tie.Need-returns invariant-loop decreases-loop
 unfolding accepts
 returns-2 c =
-    let e = c.before in
-    let l = e.before.loop in
-    let a = e.before.before.before.before.before.args in
+    let l = c.loop-i in
+    let a = c.args in
     let m = of_rows a.count a.factor.now a.mode.now in
-    c.may-end.ensures a.factor.now ∙ ap (may_end m) (sym (run_done m (To l.state) a.word.now l.i e.loop-test.false) ∙ l.invariant.1)
+    c.may_end.ensures a.factor.now ∙ ap (may_end m) (sym (run_done m (To l.state) a.word.now l.i c.loop-i-test.false) ∙ l.invariant.1)
 
 pub rows_accept_spec : {M : Type 1} → statement M
 rows_accept_spec =

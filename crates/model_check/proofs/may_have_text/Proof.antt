@@ -8,14 +8,14 @@ use Rattle.model_check.proofs.Text.{no_factor_lem, more_factors, one_factor}
 use Rattle.model_check.proofs.may_have_text.Statement.{statement}
 use Rattle.model_check.proofs.may_have_text.Tie as tie
 
-returns : tie.Need-returns
-returns c = no_factor_lem _ _ c.if1.true
+returns : tie.Need-returns-then-count-eq0
+returns c = no_factor_lem _ _ c.if-count-eq0.true
 
-returns-2 : tie.Need-returns-2
-returns-2 c = more_factors _ _ c.before.if1.false c.if2.true
+returns-2 : tie.Need-returns-then-count-ne1
+returns-2 c = more_factors _ _ c.if-count-eq0.false c.if-count-ne1.true
 
-returns-3 : tie.Need-returns-3
-returns-3 c = ap (λ (m : ℕ). eqb m 3) c.entry.ensures ∙ one_factor _ _ c.before.before.if1.false c.before.if2.false
+returns-3 : tie.Need-returns
+returns-3 c = ap (λ (m : ℕ). eqb m 3) c.entry.ensures ∙ one_factor _ _ c.if-count-eq0.false c.if-count-ne1.false
 
 pub may_have_text_spec : {M : Type 1} → statement M
 may_have_text_spec = tie.close (tie.spec returns returns-2 (λ c κs. search rules) returns-3)

@@ -1,5 +1,6 @@
 -- `model_check::rows_are_chain` meets its contract: one answer for each check.
 -- Assumes nothing.
+use Rattle.std.proofs.Common.{ap, not}
 use mathlib.Core.Path.{sym}
 use borrow.Author.Rules.{rules}
 use Rattle.nameset.specs.Places.{places}
@@ -7,60 +8,40 @@ use Rattle.model_check.proofs.Checks.{factors_unfit, modes_unfit, too_many, misp
 use Rattle.model_check.proofs.rows_are_chain.Statement.{statement}
 use Rattle.model_check.proofs.rows_are_chain.Tie as tie
 
-returns : tie.Need-returns
+returns : tie.Need-returns-then-factor-ne-PLACES
 returns c =
-    let a = c.before.before.before.args in
-    sym (factors_unfit places a.n a.count a.factor.now a.mode.now c.if1.true)
+    let a = c.args in
+    sym (factors_unfit places a.n a.count a.factor.now a.mode.now c.if-factor-ne-PLACES.true)
 
-returns-2 : tie.Need-returns-2
+returns-2 : tie.Need-returns-then-mode-ne-PLACES
 returns-2 c =
-    let f = c.before in
-    let a = f.before.before.before.args in
-    sym (modes_unfit places a.n a.count a.factor.now a.mode.now f.if1.false c.if2.true)
+    let a = c.args in
+    sym (modes_unfit places a.n a.count a.factor.now a.mode.now c.if-factor-ne-PLACES.false c.if-mode-ne-PLACES.true)
 
-returns-3 : tie.Need-returns-3
+returns-3 : tie.Need-returns-then-count-gt-PLACES
 returns-3 c =
-    let g = c.before in
-    let f = g.before in
-    let a = f.before.before.before.args in
-    sym (too_many places a.n a.count a.factor.now a.mode.now f.if1.false g.if2.false c.if3.true)
+    let a = c.args in
+    sym (too_many places a.n a.count a.factor.now a.mode.now c.if-factor-ne-PLACES.false c.if-mode-ne-PLACES.false c.if-count-gt-PLACES.true)
 
-returns-4 : tie.Need-returns-4
+returns-4 : tie.Need-returns-then-not-all_placed
 returns-4 c =
-    let o = c.before.before in
-    let g = o.before in
-    let f = g.before in
-    let a = f.before.before.before.args in
-    sym (misplaced places a.n a.count a.factor.now a.mode.now f.if1.false g.if2.false o.if3.false c.before.all_placed.ensures c.if4.true)
+    let a = c.args in
+    sym (misplaced places a.n a.count a.factor.now a.mode.now c.if-factor-ne-PLACES.false c.if-mode-ne-PLACES.false c.if-count-gt-PLACES.false c.all_placed.ensures (ap not c.if-not-all_placed.true))
 
-all-named-requires : tie.Need-all-named-requires
+all-named-requires : tie.Need-all_named-requires
 all-named-requires c κs =
-    let p = c.before in
-    let o = p.before in
-    let g = o.before in
-    let f = g.before in
-    let a = f.before.before.before.args in
-    (o.if3.false, all places a.n a.count a.factor.now a.mode.now f.if1.false g.if2.false o.if3.false p.all_placed.ensures c.if4.false)
+    let a = c.args in
+    (c.if-count-gt-PLACES.false, all places a.n a.count a.factor.now a.mode.now c.if-factor-ne-PLACES.false c.if-mode-ne-PLACES.false c.if-count-gt-PLACES.false c.all_placed.ensures (ap not c.if-not-all_placed.false))
 
-returns-5 : tie.Need-returns-5
+returns-5 : tie.Need-returns-then-not-all_named
 returns-5 c =
-    let u = c.before in
-    let p = u.before in
-    let o = p.before.before in
-    let g = o.before in
-    let f = g.before in
-    let a = f.before.before.before.args in
-    sym (unnamed places a.n a.count a.factor.now a.mode.now f.if1.false g.if2.false o.if3.false p.before.all_placed.ensures p.if4.false u.all_named.ensures c.if5.true)
+    let a = c.args in
+    sym (unnamed places a.n a.count a.factor.now a.mode.now c.if-factor-ne-PLACES.false c.if-mode-ne-PLACES.false c.if-count-gt-PLACES.false c.all_placed.ensures (ap not c.if-not-all_placed.false) c.all_named.ensures (ap not c.if-not-all_named.true))
 
-returns-6 : tie.Need-returns-6
+returns-6 : tie.Need-returns
 returns-6 c =
-    let u = c.before.before in
-    let p = u.before in
-    let o = p.before.before in
-    let g = o.before in
-    let f = g.before in
-    let a = f.before.before.before.args in
-    sym (by_modes places a.n a.count a.factor.now a.mode.now f.if1.false g.if2.false o.if3.false p.before.all_placed.ensures p.if4.false u.all_named.ensures c.before.if5.false c.all_Known.ensures)
+    let a = c.args in
+    sym (by_modes places a.n a.count a.factor.now a.mode.now c.if-factor-ne-PLACES.false c.if-mode-ne-PLACES.false c.if-count-gt-PLACES.false c.all_placed.ensures (ap not c.if-not-all_placed.false) c.all_named.ensures (ap not c.if-not-all_named.false) c.all_known.ensures)
 
 pub rows_are_chain_spec : {M : Type 1} → statement M
 rows_are_chain_spec =

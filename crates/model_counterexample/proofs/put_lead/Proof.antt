@@ -13,50 +13,39 @@ use Rattle.model_counterexample.proofs.put_lead.Statement.{statement}
 use Rattle.model_counterexample.proofs.put_lead.Tie as tie
 
 -- The factor of the name is below the number of places.
-below : (c : tie.After-entry) → c.entry.result < places
+below : (c : tie.After-entry-own) → c.entry-own.result < places
 below c =
-    let u = c.before.before.before.before.before in
-    let s = u.before.before.before.before in
-    omega (arith, low s.args.t2 s.args.u u.u.given.0.0 c.entry.result u.u.given.1 c.entry.ensures s.requires.0, s.requires.1)
+    omega (arith, low c.args.m c.args.u c.in-Name.x c.entry-own.result c.in-Name.is c.entry-own.ensures c.requires.0, c.requires.1)
 
 -- Before the name there are fewer names than places.
-before : (c : tie.After-put-needed) → c.put-needed.result < places
+before : (c : tie.After-put_needed-at) → c.put_needed-at.result < places
 before c =
-    let e = c.before.before.before.before.before in
-    let s = e.before.before.before.before.before.before.before.before.before in
-    omega (arith, below e, c.put-needed.ensures.place, needed_length s.args.t2.mode (name_in s.args.names.now) (e.entry.result - 0) 0)
+    omega (arith, below c.before.before.before.before, c.put_needed-at.ensures.place, needed_length c.args.m.mode (name_in c.args.names.now) (c.entry-own.result - 0) 0)
 
-put-needed-requires : tie.Need-put-needed-requires
+put-needed-requires : tie.Need-put_needed-at-requires
 put-needed-requires c κs =
-    let e = c.before.before.before.before in
-    omega (arith, below e, e.before.before.before.before.before.before.before.before.before.requires.2)
+    omega (arith, below c.before.before.before, c.requires.2)
 
-slice-write-word : tie.Need-slice-write-word
+slice-write-word : tie.Need-bounds-word-at
 slice-write-word c =
-    let p = c.before.before in
-    let s = p.before.before.before.before.before.before.before.before.before.before.before.before.before.before in
-    omega (arith, before p, p.put-needed.ensures.same, s.requires.2)
+    omega (arith, before c.before.before, c.put_needed-at.ensures.same, c.requires.2)
 
-add_result : tie.Need-overflow-add-result
+add_result : tie.Need-overflow_add-result
 add_result c = omega (arith, before c.before.before)
 
-returns : tie.Need-returns
-returns c = lead_none _ _ _ _ (inl c.enum_told.given.1)
+returns : tie.Need-returns-in-Start
+returns c = lead_none _ _ _ _ (inl c.in-Start.is)
 
-same_length : tie.Need-same-length
-same_length c = simp length-set c.before.before.put-needed.ensures.same
+same_length : tie.Need-shape_of-word
+same_length c = simp length-set c.put_needed-at.ensures.same
 
-returns-2 : tie.Need-returns-2
+returns-2 : tie.Need-returns-in-Name
 returns-2 c =
-    let p = c.before.before in
-    let e = p.before.before.before.before.before in
-    let u = e.before.before.before.before.before in
-    let s = u.before.before.before.before in
-    lead_put s.args.t2 s.args.u u.u.given.0.0 e.entry.result u.u.given.1 e.entry.ensures s.requires.0 s.args.names.now _ _ _
-    p.put-needed.ensures
+    lead_put c.args.m c.args.u c.in-Name.x c.entry-own.result c.in-Name.is c.entry-own.ensures c.requires.0 c.args.names.now _ _ _
+    c.put_needed-at.ensures
 
-returns-3 : tie.Need-returns-3
-returns-3 c = lead_none _ _ _ _ (inr c.enum-told2.given.1)
+returns-3 : tie.Need-returns-in-End
+returns-3 c = lead_none _ _ _ _ (inr c.in-End.is)
 
 pub put_lead_spec : {M : Type 1} → statement M
 put_lead_spec =

@@ -11,50 +11,39 @@ use Rattle.model_counterexample.proofs.put_tail.Statement.{statement}
 use Rattle.model_counterexample.proofs.put_tail.Tie as tie
 
 -- The factor of the name is one of the chain.
-below : (c : tie.After-entry) → c.entry.result < c.before.before.before.before.before.before.before.before.before.args.t3.count
+below : (c : tie.After-entry-own) → c.entry-own.result < c.args.m.count
 below c =
-    let v = c.before.before.before.before.before in
-    let s = v.before.before.before.before in
-    low s.args.t3 s.args.v v.v.given.0.0 c.entry.result v.v.given.1 c.entry.ensures s.requires.0
+    low c.args.m c.args.v c.in-Name.y c.entry-own.result c.in-Name.is c.entry-own.ensures c.requires.0
 
 -- There are no more names before it than factors.
-room : (c : tie.After-entry) → c.before.before.before.before.before.before.before.before.before.args.at ≤ c.entry.result + 1
+room : (c : tie.After-entry-own) → c.args.at ≤ c.entry-own.result + 1
 room c =
-    let v = c.before.before.before.before.before in
-    let s = v.before.before.before.before in
-    tail_room s.args.t3 s.args.v v.v.given.0.0 c.entry.result v.v.given.1 c.entry.ensures s.requires.0 s.args.at s.requires.2
+    tail_room c.args.m c.args.v c.in-Name.y c.entry-own.result c.in-Name.is c.entry-own.ensures c.requires.0 c.args.at c.requires.2
 
-slice-write-word : tie.Need-slice-write-word
+slice-write-word : tie.Need-bounds-word-at
 slice-write-word c =
-    let s = c.before.before.before.before.before.before.before.before.before in
-    omega (arith, room c, below c, s.requires.1, s.requires.3)
+    omega (arith, room c, below c, c.requires.1, c.requires.3)
 
-add_put_needed : tie.Need-overflow-add-put-needed
-add_put_needed c = let e = c.before in omega (arith, room e, below e, e.before.before.before.before.before.before.before.before.before.requires.1)
+add_put_needed : tie.Need-overflow_add-at
+add_put_needed c = omega (arith, room c.before, below c.before, c.requires.1)
 
-put-needed-requires : tie.Need-put-needed-requires
+put-needed-requires : tie.Need-put_needed-requires
 put-needed-requires c κs =
-    let e = c.before.before.before.before in
-    let s = e.before.before.before.before.before.before.before.before.before in
-    simp length-set (omega (arith, room e, below e, s.requires.1, s.requires.3))
+    simp length-set (omega (arith, room c.before.before.before, below c.before.before.before, c.requires.1, c.requires.3))
 
-returns : tie.Need-returns
-returns c = tail_none _ _ _ _ _ (inl c.enum_told.given.1)
+returns : tie.Need-returns-in-Start
+returns c = tail_none _ _ _ _ _ (inl c.in-Start.is)
 
-same_length : tie.Need-same-length
-same_length c = c.before.before.put-needed.ensures.same ∙ simp length-set
+same_length : tie.Need-shape_of-word
+same_length c = c.put_needed.ensures.same ∙ simp length-set
 
-returns-2 : tie.Need-returns-2
+returns-2 : tie.Need-returns-in-Name
 returns-2 c =
-    let p = c.before.before in
-    let e = p.before.before.before.before.before in
-    let v = e.before.before.before.before.before in
-    let s = v.before.before.before.before in
-    tail_put s.args.t3 s.args.v v.v.given.0.0 e.entry.result v.v.given.1 e.entry.ensures s.requires.0 s.args.names.now _ _ _ _
-    p.put-needed.ensures
+    tail_put c.args.m c.args.v c.in-Name.y c.entry-own.result c.in-Name.is c.entry-own.ensures c.requires.0 c.args.names.now _ _ _ _
+    c.put_needed.ensures
 
-returns-3 : tie.Need-returns-3
-returns-3 c = tail_none _ _ _ _ _ (inr c.enum-told2.given.1)
+returns-3 : tie.Need-returns-in-End
+returns-3 c = tail_none _ _ _ _ _ (inr c.in-End.is)
 
 pub put_tail_spec : {M : Type 1} → statement M
 put_tail_spec =

@@ -7,14 +7,14 @@ use borrow.Author.Rules.{rules}
 use Rattle.model_extremes.proofs.lower.Statement.{statement}
 use Rattle.model_extremes.proofs.lower.Tie as tie
 
-returns : tie.Need-returns
-returns c = record { one = inl refl; new = omega arith; old = λ h. absurd (h c.if1.true) }
+returns : tie.Need-returns-then-before-eq-NO_NAME
+returns c = record { one = inl refl; new = omega arith; old = λ h. absurd (h c.if-before-eq-NO_NAME.true) }
 
-returns-2 : tie.Need-returns-2
+returns-2 : tie.Need-returns-then-entry
 returns-2 c = record { one = inl refl; new = omega arith; old = λ h. omega arith }
 
-returns-3 : tie.Need-returns-3
-returns-3 c = record { one = inr (refl, c.before.before.before.if1.false); new = omega arith; old = λ h. omega arith }
+returns-3 : tie.Need-returns-else-entry
+returns-3 c = record { one = inr (refl, c.if-before-eq-NO_NAME.false); new = omega arith; old = λ h. omega arith }
 
 pub lower_spec : {M : Type 1} → statement M
 lower_spec = tie.close (tie.spec returns (λ c κs. search rules) (λ c κs. search rules) returns-2 returns-3)

@@ -31,39 +31,33 @@ more n factor name x set next {v} b g e same m count i l p h =
     let here : eqb b i ≡ holds factor i (name x) = same i h (ap (may_hold places true) e ∙ held_entry n count factor l p (name x)) ∙ ap (λ (k : ℕ). eqb k i) e in
     m i ∙ ap₂ ◌||◌ (g count i l p h) here ∙ sym (any_more x (λ k. holds factor i (name k)))
 
-abbrev invariant-loop : tie.invariant-loop
+abbrev invariant-loop : tie.invariant-loop-x
 invariant-loop n factor end half first₀ second₀ x₀ first second x =
     (x ≤ half) × Gathered n factor (λ k. k) (member first) x × Gathered n factor (λ k. k + half) (member second) x
 
-abbrev decreases-loop : tie.decreases-loop
+abbrev decreases-loop : tie.decreases-loop-x
 decreases-loop n factor end half first₀ second₀ x₀ first second x = half - x
 
-loop-holds : tie.Need-loop-init invariant-loop decreases-loop
+loop-holds : tie.Need-loop-x-init invariant-loop decreases-loop
 loop-holds c =
-    (omega arith, (λ count i l p h. c.before.empty.ensures.members i ∙ sym (any_start _)), λ count i l p h. c.empty2.ensures.members i ∙ sym (any_start _))
+    (omega arith, (λ count i l p h. c.empty-first.ensures.members i ∙ sym (any_start _)), λ count i l p h. c.empty-second.ensures.members i ∙ sym (any_start _))
 
-loop-again : tie.Need-loop-preserved invariant-loop decreases-loop
+loop-again : tie.Need-loop-x-preserved invariant-loop decreases-loop
 loop-again c =
-    let e2 = c.before.before in
-    let e1 = e2.before.before.before in
-    let t = e1.before.before in
-    let l = t.loop in
-    let s = t.before.before.before in
-    let a = s.before.before.args in
-    let half = s.smaller.result - s.smaller.result / 2 in (
+    let l = c.loop-x in
+    let a = c.args in
+    let half = c.smaller-end.result - c.smaller-end.result / 2 in (
       omega arith,
-      more a.n a.factor.now (λ k. k) l.x (member l.first) (member e2.before.with.result) e2.before.before.in-set.result l.invariant.1 e1.entry.ensures e2.before.before.in-set.ensures.1 e2.before.with.ensures.members,
-      more a.n a.factor.now (λ k. k + half) l.x (member l.second) (member c.with2.result) c.before.in-set2.result l.invariant.2 e2.entry2.ensures c.before.in-set2.ensures.1 c.with2.ensures.members,
+      more a.n a.factor.now (λ k. k) l.x (member l.first) (member c.with-first.result) c.in_set.result l.invariant.1 c.entry.ensures c.in_set.ensures.1 c.with-first.ensures.members,
+      more a.n a.factor.now (λ k. k + half) l.x (member l.second) (member c.with-second.result) c.in_set-in-loop-x.result l.invariant.2 c.entry-in-loop-x.ensures c.in_set-in-loop-x.ensures.1 c.with-second.ensures.members,
     )
 
 returns : tie.Need-returns invariant-loop decreases-loop
 returns c =
-    let t = c.before.before in
-    let l = t.loop in
-    let o = t.before.before.before.before in
-    let n = o.before.args.n in
-    let f = o.before.args.factor.now in
-    let s = t.before.before.before.smaller in
+    let l = c.loop-x in
+    let n = c.args.n in
+    let f = c.args.factor.now in
+    let s = c.smaller-end in
     let e : l.x ≡ s.result - s.result / 2 = omega arith in
     λ count i k p h.
     c.union.ensures.members i

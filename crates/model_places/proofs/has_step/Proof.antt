@@ -6,31 +6,22 @@ use Rattle.model_places.proofs.Rows.{left_end, too_near, near_enough}
 use Rattle.model_places.proofs.has_step.Statement.{statement}
 use Rattle.model_places.proofs.has_step.Tie as tie
 
-returns : tie.Need-returns
+returns : tie.Need-returns-then-count-a
 returns c =
-    let q = c.before in
-    let p = q.before in
-    let a = p.before.before.before.before.args in
-    left_end (of_rows a.count a.factor.now a.modes.now) _ _ (p.place_of.ensures a.modes.now) (q.place-of2.ensures a.modes.now) c.if1.true
+    let a = c.args in
+    left_end (of_rows a.count a.factor.now a.modes.now) _ _ (c.place_of-a.ensures a.modes.now) (c.place_of-b.ensures a.modes.now) c.if-count-a.true
 
-returns-2 : tie.Need-returns-2
+returns-2 : tie.Need-returns-then-b-nearest_place
 returns-2 c =
-    let n = c.before in
-    let q = n.before.before in
-    let p = q.before in
-    let a = p.before.before.before.before.args in
-    too_near (of_rows a.count a.factor.now a.modes.now) _ _ (p.place_of.ensures a.modes.now) (q.place-of2.ensures a.modes.now)
-    n.before.if1.false n.nearest-place.ensures c.if2.true
+    let a = c.args in
+    too_near (of_rows a.count a.factor.now a.modes.now) _ _ (c.place_of-a.ensures a.modes.now) (c.place_of-b.ensures a.modes.now)
+    c.if-count-a.false c.nearest_place.ensures c.if-b-nearest_place.true
 
-returns-3 : tie.Need-returns-3
+returns-3 : tie.Need-returns
 returns-3 c =
-    let n = c.before.before in
-    let q = n.before.before in
-    let p = q.before in
-    let s = p.before.before.before.before in
-    let a = s.args in
-    near_enough (of_rows a.count a.factor.now a.modes.now) _ _ (p.place_of.ensures a.modes.now) (q.place-of2.ensures a.modes.now)
-    n.before.if1.false n.nearest-place.ensures c.before.if2.false s.requires.1 c.entry.ensures
+    let a = c.args in
+    near_enough (of_rows a.count a.factor.now a.modes.now) _ _ (c.place_of-a.ensures a.modes.now) (c.place_of-b.ensures a.modes.now)
+    c.if-count-a.false c.nearest_place.ensures c.if-b-nearest_place.false c.requires.1 c.entry.ensures
 
 pub has_step_spec : {M : Type 1} → statement M
 has_step_spec =

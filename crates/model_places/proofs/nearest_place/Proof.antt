@@ -7,18 +7,16 @@ use Rattle.model_places.proofs.Rows.{near_start, near_loop, near_next}
 use Rattle.model_places.proofs.nearest_place.Statement.{statement}
 use Rattle.model_places.proofs.nearest_place.Tie as tie
 
-returns : tie.Need-returns
-returns c = near_start _ _ c.if1.true
+returns : tie.Need-returns-then-p-eq0
+returns c = near_start _ _ c.if-p-eq0.true
 
-returns-2 : tie.Need-returns-2
+returns-2 : tie.Need-returns-then-is_repeated
 returns-2 c =
-    let s = c.before.before in
-    near_loop _ _ s.before.if1.false (c.before.is_repeated.ensures ∙ ap repeats s.entry.ensures) c.if2.true
+    near_loop _ _ c.if-p-eq0.false (c.is_repeated.ensures ∙ ap repeats c.entry.ensures) c.if-is_repeated.true
 
-returns-3 : tie.Need-returns-3
+returns-3 : tie.Need-returns-else-is_repeated
 returns-3 c =
-    let s = c.before.before in
-    near_next _ _ s.before.if1.false (c.before.is_repeated.ensures ∙ ap repeats s.entry.ensures) c.if2.false
+    near_next _ _ c.if-p-eq0.false (c.is_repeated.ensures ∙ ap repeats c.entry.ensures) c.if-is_repeated.false
 
 pub nearest_place_spec : {M : Type 1} → statement M
 nearest_place_spec =

@@ -5,14 +5,14 @@ use Rattle.model_places.proofs.Rows.{at_start, at_name, at_end}
 use Rattle.model_places.proofs.place_of.Statement.{statement}
 use Rattle.model_places.proofs.place_of.Tie as tie
 
-returns : tie.Need-returns
-returns c = λ modes. at_start _ _ modes _ c.enum_told.given.1
+returns : tie.Need-returns-in-Start
+returns c = λ modes. at_start _ _ modes _ c.in-Start.is
 
-returns-2 : tie.Need-returns-2
-returns-2 c = λ modes. at_name _ _ modes _ _ c.before.before.u.given.1 c.entry.ensures
+returns-2 : tie.Need-returns-in-Name
+returns-2 c = λ modes. at_name _ _ modes _ _ c.in-Name.is c.entry.ensures
 
-returns-3 : tie.Need-returns-3
-returns-3 c = λ modes. at_end _ _ modes _ c.enum-told2.given.1
+returns-3 : tie.Need-returns-in-End
+returns-3 c = λ modes. at_end _ _ modes _ c.in-End.is
 
 pub place_of_spec : {M : Type 1} → statement M
 place_of_spec =

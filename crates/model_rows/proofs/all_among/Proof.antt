@@ -15,34 +15,33 @@ use Rattle.model_rows.proofs.Factors.{among, among_start, among_more, among_done
 use Rattle.model_rows.proofs.all_among.Statement.{statement}
 use Rattle.model_rows.proofs.all_among.Tie as tie
 
-abbrev invariant-loop : tie.invariant-loop
+abbrev invariant-loop : tie.invariant-loop-x
 invariant-loop count factor from top₀ x₀ top x = (from ≤ x) × (top < 256) × (leb top count ≡ every_below x (among count factor from))
 
-abbrev decreases-loop : tie.decreases-loop
+abbrev decreases-loop : tie.decreases-loop-x
 decreases-loop count factor from top₀ x₀ top x = length factor - x
 
-loop-holds : tie.Need-loop-init invariant-loop decreases-loop
+loop-holds : tie.Need-loop-x-init invariant-loop decreases-loop
 loop-holds c =
-    let a = c.before.args in
+    let a = c.args in
     (omega arith, omega arith, among_start a.count a.factor.now a.from)
 
-loop-again : tie.Need-loop-preserved invariant-loop decreases-loop
+loop-again : tie.Need-loop-x-preserved invariant-loop decreases-loop
 loop-again c =
-    let t = c.before.before.before.before in
-    let l = t.loop in
-    let a = t.before.before.args in
-    let v : leb c.before.counted.result a.count ≡ may_hold a.count true (get_or a.factor.now l.x no_factor) =
-    c.before.counted.ensures a.count ∙ ap (may_hold a.count true) c.before.before.entry.ensures in
-    (omega arith, search rules, rw c.larger.ensures (among_more a.count a.factor.now a.from l.x l.top c.before.counted.result l.invariant.0 l.invariant.2 v))
+    let l = c.loop-x in
+    let a = c.args in
+    let v : leb c.counted.result a.count ≡ may_hold a.count true (get_or a.factor.now l.x no_factor) =
+    c.counted.ensures a.count ∙ ap (may_hold a.count true) c.entry.ensures in
+    (omega arith, search rules, rw c.larger-top.ensures (among_more a.count a.factor.now a.from l.x l.top c.counted.result l.invariant.0 l.invariant.2 v))
 
-cast-result : tie.Need-overflow-cast-result invariant-loop decreases-loop
-cast-result c = omega (arith, c.before.loop.invariant.1)
+cast-result : tie.Need-overflow_cast-result invariant-loop decreases-loop
+cast-result c = omega (arith, c.loop-x.invariant.1)
 
 returns : tie.Need-returns invariant-loop decreases-loop
 returns c =
-    let a = c.before.before.before.args in
-    let l = c.before.loop in
-    among_done a.count a.factor.now a.from l.x l.top c.loop-test.false l.invariant.2
+    let a = c.args in
+    let l = c.loop-x in
+    among_done a.count a.factor.now a.from l.x l.top c.loop-x-test.false l.invariant.2
 
 pub all_among_spec : {M : Type 1} → statement M
 all_among_spec =

@@ -5,15 +5,13 @@ use Rattle.model_rows.proofs.Modes.{modes_known, mode_unknown}
 use Rattle.model_rows.proofs.all_known.Statement.{statement}
 use Rattle.model_rows.proofs.all_known.Tie as tie
 
-returns : tie.Need-returns
+returns : tie.Need-returns-then-is_mode
 returns c =
-    let m = c.before.before in
-    modes_known _ _ m.before.largest-from.ensures m.is-mode.ensures c.before.if1.true c.largest-from2.ensures
+    modes_known _ _ c.largest_from.ensures c.is_mode.ensures c.if-is_mode.true c.largest_from-then-is_mode.ensures
 
-returns-2 : tie.Need-returns-2
+returns-2 : tie.Need-returns-else-is_mode
 returns-2 c =
-    let m = c.before in
-    mode_unknown _ _ m.before.largest-from.ensures m.is-mode.ensures c.if1.false
+    mode_unknown _ _ c.largest_from.ensures c.is_mode.ensures c.if-is_mode.false
 
 pub all_known_spec : {M : Type 1} → statement M
 all_known_spec =

@@ -5,15 +5,15 @@ use Rattle.model_rows.proofs.Factors.{all_placed_lem, one_misplaced}
 use Rattle.model_rows.proofs.all_placed.Statement.{statement}
 use Rattle.model_rows.proofs.all_placed.Tie as tie
 
-returns : tie.Need-returns
+returns : tie.Need-returns-then-all_among
 returns c =
-    let a = c.before.before.before.before.args in
-    all_placed_lem a.n a.count a.factor.now c.before.before.All-among.ensures c.before.if1.true c.all-among2.ensures
+    let a = c.args in
+    all_placed_lem a.n a.count a.factor.now c.all_among.ensures c.if-all_among.true c.all_among-then-all_among.ensures
 
-returns-2 : tie.Need-returns-2
+returns-2 : tie.Need-returns-else-all_among
 returns-2 c =
-    let a = c.before.before.before.args in
-    one_misplaced a.n a.count a.factor.now c.before.All-among.ensures c.if1.false
+    let a = c.args in
+    one_misplaced a.n a.count a.factor.now c.all_among.ensures c.if-all_among.false
 
 pub all_placed_spec : {M : Type 1} → statement M
 all_placed_spec = tie.close (tie.spec (λ c κs. search rules) (λ c κs. search rules) returns returns-2)

@@ -17,10 +17,10 @@ many : (mode : ℕ) → 3 < mode → false ≡ may_be true mode
 unfolding may_be
 many mode h = sym (lt-leb mode 3 h)
 
-returns : tie.Need-returns
+returns : tie.Need-returns-in-0-to-3
 returns c = few _ (omega arith)
 
-returns-2 : tie.Need-returns-2
+returns-2 : tie.Need-returns-in-4-to-255
 returns-2 c = many _ (omega arith)
 
 pub is_mode_spec : {M : Type 1} → statement M

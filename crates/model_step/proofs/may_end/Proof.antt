@@ -22,13 +22,13 @@ unfolding went_to
 went_not true own e = absurd (never (cc))
 went_not false own e = refl
 
-returns : tie.Need-returns
+returns : tie.Need-returns-in-To
 unfolding may_end
-returns c = λ factors. went _ _ _ (sym c.before.before.Goes-to.ensures ∙ c.enum_told.given.1)
+returns c = λ factors. went _ _ _ (sym c.goes_to.ensures ∙ c.in-To.is)
 
-returns-2 : tie.Need-returns-2
+returns-2 : tie.Need-returns-in-Nowhere
 unfolding may_end
-returns-2 c = λ factors. went_not _ _ (sym c.before.before.Goes-to.ensures ∙ c.enum-told2.given.1)
+returns-2 c = λ factors. went_not _ _ (sym c.goes_to.ensures ∙ c.in-Nowhere.is)
 
 pub may_end_spec : {M : Type 1} → statement M
 may_end_spec = tie.close (tie.spec (λ c κs. search rules) (λ c. search rules) (λ c. search rules) returns returns-2)

@@ -63,34 +63,33 @@ missed (suc (suc zero)) n = refl
 missed (suc (suc (suc zero))) n = absurd (n (inr refl))
 missed (suc (suc (suc (suc m)))) n = refl
 
-returns : tie.Need-returns
-returns c = rw (c.before.if2.true, c.before.before.if1.true) (once _ c.if3.true)
+returns : tie.Need-returns-in-0-to-1
+returns c = rw (c.if-taken.true, c.if-here.true) (once _ c.in-0-to-1.if-mode-lt2-own.true)
 
-returns-2 : tie.Need-returns-2
+returns-2 : tie.Need-returns-in-2-to-3
 returns-2 c =
-    let e = c.before in
-    rw (e.before.if2.true, e.before.before.if1.true) (again _ e.if3.false c.if4.true)
+    rw (c.if-taken.true, c.if-here.true) (again _ c.in-2-to-3.if-mode-lt2-own.false c.in-2-to-3.if-mode-lt4-own.true)
 
-returns-3 : tie.Need-returns-3
-returns-3 c = no_mode _ _ _ c.if4.false
+returns-3 : tie.Need-returns-in-4-to-255
+returns-3 c = no_mode _ _ _ c.in-4-to-255.if-mode-lt4-own.false
 
-returns-4 : tie.Need-returns-4
-returns-4 c = rw (c.before.if2.false, c.before.before.if1.true) (first _ c.if5.true)
+returns-4 : tie.Need-returns-in-0-to-3
+returns-4 c = rw (c.if-taken.false, c.if-here.true) (first _ c.in-0-to-3.if-mode-lt4-2-own.true)
 
-returns-5 : tie.Need-returns-5
-returns-5 c = no_mode _ _ _ c.if5.false
+returns-5 : tie.Need-returns-in-4-to-255-mode
+returns-5 c = no_mode _ _ _ c.in-4-to-255-mode.if-mode-lt4-2-own.false
 
-returns-6 : tie.Need-returns-6
-returns-6 c = rw (c.before.if6.true, c.before.before.if1.false) (done _ c.if7.true)
+returns-6 : tie.Need-returns-in-0-to-3-mode
+returns-6 c = rw (c.if-taken-2.true, c.if-here.false) (done _ c.in-0-to-3-mode.if-mode-lt4-3-own.true)
 
-returns-7 : tie.Need-returns-7
-returns-7 c = no_mode _ _ _ c.if7.false
+returns-7 : tie.Need-returns-in-4-to-255-mode-2
+returns-7 c = no_mode _ _ _ c.in-4-to-255-mode-2.if-mode-lt4-3-own.false
 
-returns-8 : tie.Need-returns-8
-returns-8 c = rw (c.before.if6.false, c.before.before.if1.false) (skipped _ c.match.keys1)
+returns-8 : tie.Need-returns-in-1
+returns-8 c = rw (c.if-taken-2.false, c.if-here.false) (skipped _ c.in-1.is)
 
-returns-9 : tie.Need-returns-9
-returns-9 c = rw (c.before.if6.false, c.before.before.if1.false) (missed _ c.match.rest.1)
+returns-9 : tie.Need-returns-in_default
+returns-9 c = rw (c.if-taken-2.false, c.if-here.false) (missed _ c.in_default.in_default-own.rest.1)
 
 pub next_turn_spec : {M : Type 1} → statement M
 next_turn_spec = tie.close (tie.spec returns returns-2 returns-3 returns-4 returns-5 returns-6 returns-7 returns-8 returns-9)

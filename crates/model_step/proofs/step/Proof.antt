@@ -12,9 +12,8 @@ use Rattle.model_step.proofs.step.Tie as tie
 returns : tie.Need-returns
 unfolding move factor_of
 returns c =
-    let e = c.before in
-    let a = e.before.before.before.args in
-    c.Goes-to.ensures ∙ ap (λ (own : ℕ). went_to (goes_to a.count a.mode.now own false a.from) own) e.entry.ensures
+    let a = c.args in
+    c.goes_to.ensures ∙ ap (λ (own : ℕ). went_to (goes_to a.count a.mode.now own false a.from) own) c.entry-own.ensures
 
 pub step_spec : {M : Type 1} → statement M
 step_spec = tie.close (tie.spec (λ c κs. search rules) (λ c. search rules) (λ c κs. search rules) returns)

@@ -13,84 +13,62 @@ use Rattle.model_within.proofs.Turns.{turn_on, turn_stuck, ends_in, ends_out}
 use Rattle.model_within.proofs.find_step.Statement.{statement}
 use Rattle.model_within.proofs.find_step.Tie as tie
 
-abbrev invariant-loop : tie.invariant-loop
+abbrev invariant-loop : tie.invariant-loop-i
 invariant-loop second low high first factor modes far frontier₀ i₀ frontier i = (i ≤ first.count) × Passed first second i (point (spot_at frontier.low)) (point (spot_at frontier.high))
 
-abbrev decreases-loop : tie.decreases-loop
+abbrev decreases-loop : tie.decreases-loop-i
 decreases-loop second low high first factor modes far frontier₀ i₀ frontier i = first.count - i
 
-far-row-requires : tie.Need-far-row-requires invariant-loop decreases-loop
-far-row-requires c κs = c.before.before.before.before.before.requires.second.few
+far-row-requires : tie.Need-far_row-far-requires invariant-loop decreases-loop
+far-row-requires c κs = c.requires.second.few
 
-loop-holds : tie.Need-loop-init invariant-loop decreases-loop
+loop-holds : tie.Need-loop-i-init invariant-loop decreases-loop
 loop-holds c = (omega arith, rw (sym (spot_start places (omega arith))) (passed_none _ _))
 
-element_copy_out_pass_factor : tie.Need-element-copy-out-pass-factor invariant-loop decreases-loop
+element_copy_out_pass_factor : tie.Need-bounds-first-i invariant-loop decreases-loop
 element_copy_out_pass_factor c =
-    let l = c.before.before.before.before.before in
-    omega (arith, l.loop-test.true, l.before.before.before.before.before.before.before.before.requires.first.few)
+    omega (arith, c.loop-i-test.true, c.requires.first.few)
 
-pass-factor-requires : tie.Need-pass-factor-requires invariant-loop decreases-loop
+pass-factor-requires : tie.Need-pass_factor-requires invariant-loop decreases-loop
 pass-factor-requires c κs =
-    let r = c.before.before.before.before.before.before.before.before in
-    (r.before.before.before.before.before.before.requires.second.few, r.far_row.ensures)
+    (c.requires.second.few, c.far_row-far.ensures)
 
-returns : tie.Need-returns invariant-loop decreases-loop
+returns : tie.Need-returns-in-Stuck invariant-loop decreases-loop
 returns c =
-    let p = c.before.before.before in
-    let e = p.before.before.before.before.before in
-    let t = e.before.before in
-    let l = t.before in
-    let s = l.before.before.before.before.before.before.before in
-    turn_stuck s.args.t1 s.args.second _ _ s.requires l.loop.i t.loop-test.true _ e.before.entry.ensures e.entry2.ensures _ refl l.loop.frontier l.loop.invariant.1
-    p.pass-factor.result p.pass-factor.ensures _ _ c.before.u.given.1
+    turn_stuck c.args.first c.args.second _ _ c.requires c.loop-i.i c.loop-i-test.true _ c.entry.ensures c.entry-in-loop-i.ensures _ refl c.loop-i.frontier c.loop-i.invariant.1
+    c.pass_factor.result c.pass_factor.ensures _ _ c.in-Stuck.is
 
 -- Factor i is one of the first chain's.
-in_first : (c : tie.After-pass-factor invariant-loop decreases-loop) →
-    let t = c.before.before.before.before.before.before.before in
-    t.before.loop.i < t.before.before.before.before.before.before.before.before.args.t1.count
-in_first c = c.before.before.before.before.before.before.before.loop-test.true
+in_first : (c : tie.After-pass_factor invariant-loop decreases-loop) →
+    c.loop-i.i < c.args.first.count
+in_first c = c.loop-i-test.true
 
-add_i : tie.Need-overflow-add-i invariant-loop decreases-loop
-add_i c = omega (arith, in_first c.before.before.before, c.before.before.before.before.before.before.before.before.before.before.before.before.before.before.before.before.before.before.requires.first.few)
+add_i : tie.Need-overflow_add-i invariant-loop decreases-loop
+add_i c = omega (arith, in_first c.before, c.requires.first.few)
 
-loop-less : tie.Need-loop-smaller invariant-loop decreases-loop
-loop-less c = omega (arith, in_first c.before.before.before)
+loop-less : tie.Need-loop-i-smaller invariant-loop decreases-loop
+loop-less c = omega (arith, in_first c.before)
 
-loop-again : tie.Need-loop-preserved invariant-loop decreases-loop
-loop-again c =
-    let p = c.before.before.before in
-    let e = p.before.before.before.before.before in
-    let t = e.before.before in
-    let l = t.before in
-    let s = l.before.before.before.before.before.before.before in (
-      omega (arith, t.loop-test.true),
-      turn_on s.args.t1 s.args.second _ _ s.requires l.loop.i t.loop-test.true _ e.before.entry.ensures e.entry2.ensures _ refl l.loop.frontier l.loop.invariant.1
-          p.pass-factor.result p.pass-factor.ensures _ c.before.next.given.1,
-    )
+loop-again : tie.Need-loop-i-preserved invariant-loop decreases-loop
+loop-again c = (
+  omega (arith, c.loop-i-test.true),
+  turn_on c.args.first c.args.second _ _ c.requires c.loop-i.i c.loop-i-test.true _ c.entry.ensures c.entry-in-loop-i.ensures _ refl c.loop-i.frontier c.loop-i.invariant.1
+      c.pass_factor.result c.pass_factor.ensures _ c.in-On.is,
+)
 
-has-step-requires : tie.Need-has-step-requires invariant-loop decreases-loop
+has-step-requires : tie.Need-has_step-requires invariant-loop decreases-loop
 has-step-requires c κs =
-    let r = c.before.before.before.before.before.before in
-    (r.before.before.before.before.before.before.requires.second.few, r.far_row.ensures)
+    (c.requires.second.few, c.far_row-far.ensures)
 
-returns-2 : tie.Need-returns-2 invariant-loop decreases-loop
+returns-2 : tie.Need-returns-then-has_step invariant-loop decreases-loop
 returns-2 c =
-    let a = c.before.before.before.before.before in
-    let o = a.before in
-    let l = o.before in
-    let s = l.before.before.before.before.before.before.before in
-    ends_in s.args.t1 s.args.second _ _ s.requires l.loop.i l.loop.frontier l.loop.invariant.1 l.loop.invariant.0 o.loop-test.false
-    a.spot-at.ensures c.before.has-step.ensures c.if1.true
+    ends_in c.args.first c.args.second _ _ c.requires c.loop-i.i c.loop-i.frontier c.loop-i.invariant.1 c.loop-i.invariant.0 c.loop-i-test.false
+    c.spot_at-last.ensures c.has_step.ensures c.if-has_step.true
 
-returns-3 : tie.Need-returns-3 invariant-loop decreases-loop
+returns-3 : tie.Need-returns-else-has_step invariant-loop decreases-loop
 returns-3 c =
-    let a = c.before.before.before.before.before in
-    let o = a.before in
-    let l = o.before in
-    let s = l.before.before.before.before.before.before.before in
-    ends_out s.args.t1 s.args.second _ _ s.requires l.loop.i l.loop.frontier l.loop.invariant.1 l.loop.invariant.0 o.loop-test.false
-    a.spot-at.ensures c.before.has-step.ensures c.if1.false
+    ends_out c.args.first c.args.second _ _ c.requires c.loop-i.i c.loop-i.frontier c.loop-i.invariant.1 c.loop-i.invariant.0 c.loop-i-test.false
+    c.spot_at-last.ensures c.has_step.ensures c.if-has_step.false
 
 pub find_step_spec : {M : Type 1} → statement M
 find_step_spec =

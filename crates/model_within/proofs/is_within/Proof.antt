@@ -5,23 +5,17 @@ use Rattle.model_within.proofs.Turns.{comparable, told_yes, told_no}
 use Rattle.model_within.proofs.is_within.Statement.{statement}
 use Rattle.model_within.proofs.is_within.Tie as tie
 
-find-step-requires : tie.Need-find-step-requires
+find-step-requires : tie.Need-find_step-requires
 find-step-requires c κs =
-    let x = c.before.before.before.before.before in
-    let s = x.before.before.before.before.before.before.before in
-    comparable _ _ _ _ s.requires.1 s.requires.2 x.extreme-names.ensures
+    comparable _ _ _ _ c.requires.1 c.requires.2 c.extreme_names-names.ensures
 
-returns : tie.Need-returns
+returns : tie.Need-returns-in-Included
 returns c =
-    let f = c.before.before in
-    let s = f.before.before.before.before.before.before.before.before.before.before.before.before.before in
-    told_yes _ _ _ s.requires.1 s.requires.2 _ f.find-step.ensures c.enum_told.given.1
+    told_yes _ _ _ c.requires.1 c.requires.2 _ c.find_step.ensures c.in-Included.is
 
-returns-2 : tie.Need-returns-2
+returns-2 : tie.Need-returns-in-Apart
 returns-2 c =
-    let f = c.before.before in
-    let s = f.before.before.before.before.before.before.before.before.before.before.before.before.before in
-    told_no _ _ _ s.requires.1 s.requires.2 _ f.find-step.ensures _ _ c.enum-told2.given.1
+    told_no _ _ _ c.requires.1 c.requires.2 _ c.find_step.ensures _ _ c.in-Apart.is
 
 pub is_within_spec : {M : Type 1} → statement M
 is_within_spec =

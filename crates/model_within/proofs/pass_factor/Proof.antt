@@ -1,31 +1,25 @@
 -- `pass_factor` meets its contract.
 -- Assumes nothing.
+use Rattle.std.proofs.Common.{ap, not}
 use borrow.Author.Rules.{rules}
 use Rattle.model_within.proofs.Tests.{stuck_low, stuck_high, stuck_loop, passed}
 use Rattle.model_within.proofs.pass_factor.Statement.{statement}
 use Rattle.model_within.proofs.pass_factor.Tie as tie
 
-returns : tie.Need-returns
-returns c = let h = c.before in stuck_low _ _ _ _ h.before.before.spot-at.ensures h.has-step.ensures c.if1.true
+returns : tie.Need-returns-then-not-has_step
+returns c = stuck_low _ _ _ _ c.spot_at-low.ensures c.has_step.ensures (ap not c.if-not-has_step.true)
 
-returns-2 : tie.Need-returns-2
-returns-2 c = let h = c.before in stuck_high _ _ _ _ h.before.before.before.spot-at2.ensures h.has-step2.ensures c.if2.true
+returns-2 : tie.Need-returns-then-not-has_step-2
+returns-2 c = stuck_high _ _ _ _ c.spot_at-high.ensures c.has_step-2.ensures (ap not c.if-not-has_step-2.true)
 
-returns-3 : tie.Need-returns-3
-returns-3 c = stuck_loop _ _ _ _ c.before.has-loop.ensures c.if3.true
+returns-3 : tie.Need-returns-then-not-has_loop
+returns-3 c = stuck_loop _ _ _ _ c.has_loop.ensures (ap not c.if-not-has_loop.true)
 
-returns-4 : tie.Need-returns-4
+returns-4 : tie.Need-returns
 returns-4 c =
-    let n = c.before in
-    let o = n.before.before in
-    let l = o.before in
-    let h = l.before.before in
-    let t = h.before.before in
-    let v = t.before in
-    let u = v.before in
-    let a = u.before.before.before.before.args in
-    passed _ a.g a.s a.mode u.spot-at.ensures v.spot-at2.ensures t.has-step.ensures h.before.if1.false h.has-step2.ensures l.before.if2.false
-    l.has-loop.ensures o.if3.false n.low-next.ensures
+    let a = c.args in
+    passed _ a.g a.s a.mode c.spot_at-low.ensures c.spot_at-high.ensures c.has_step.ensures (ap not c.if-not-has_step.false) c.has_step-2.ensures (ap not c.if-not-has_step-2.false)
+    c.has_loop.ensures (ap not c.if-not-has_loop.false) c.low_next.ensures
 
 pub pass_factor_spec : {M : Type 1} → statement M
 pass_factor_spec =

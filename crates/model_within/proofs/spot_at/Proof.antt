@@ -6,4 +6,4 @@ use Rattle.model_within.proofs.spot_at.Statement.{statement}
 use Rattle.model_within.proofs.spot_at.Tie as tie
 
 pub spot_at_spec : {M : Type 1} → statement M
-spot_at_spec = tie.close (tie.spec (λ c. search rules) (λ c. spot_name _ c.if1.true) (λ c. spot_start _ c.if1.false))
+spot_at_spec = tie.close (tie.spec (λ c. search rules) (λ c. spot_name _ c.if-x-lt-PLACES.true) (λ c. spot_start _ c.if-x-lt-PLACES.false))

@@ -14,7 +14,7 @@ at_byte : (table : List ℕ) (byte : ℕ) → table ≡ class_table → byte < 2
 at_byte table byte e h = rw (e) (table_entry byte h)
 
 returns : tie.Need-returns
-returns c = at_byte _ _ c.before.requires (search rules)
+returns c = at_byte _ _ c.requires (search rules)
 
 pub class_in_spec : {M : Type 1} → statement M
 class_in_spec = tie.close (tie.spec (λ c. search rules) returns)

@@ -4,8 +4,8 @@ use borrow.Author.Rules.{rules}
 use Rattle.name.proofs.good_bytes.Statement.{statement}
 use Rattle.name.proofs.good_bytes.Tie as tie
 
-good-bytes-in-requires : tie.Need-good-bytes-in-requires
-good-bytes-in-requires c κs = c.before.class-table.ensures
+good-bytes-in-requires : tie.Need-good_bytes_in-requires
+good-bytes-in-requires c κs = c.class_table.ensures
 
 returns : tie.Need-returns
 returns c = search rules

@@ -45,29 +45,29 @@ done : (s : List ℕ) (i : ℕ) → length s ≤ i → rest s i ≡ true
 unfolding rest all_later
 done s i h = rw (drop_of_length-le s h)
 
-abbrev invariant-loop : tie.invariant-loop
+abbrev invariant-loop : tie.invariant-loop-i
 invariant-loop classes bytes i₀ i = (i ≤ length bytes) × (good_bytes bytes ≡ rest bytes i)
 
-abbrev decreases-loop : tie.decreases-loop
+abbrev decreases-loop : tie.decreases-loop-i
 decreases-loop classes bytes i₀ i = length bytes - i
 
-returns : tie.Need-returns invariant-loop decreases-loop
-returns c = sym (none _ c.if1.true)
+returns : tie.Need-returns-then-bytes-eq0 invariant-loop decreases-loop
+returns c = sym (none _ c.if-bytes-eq0.true)
 
-returns-2 : tie.Need-returns-2 invariant-loop decreases-loop
-returns-2 c = sym (bad_first _ _ c.before.class-in.ensures c.if2.true)
+returns-2 : tie.Need-returns-then-class_in-ne-START invariant-loop decreases-loop
+returns-2 c = sym (bad_first _ _ c.class_in.ensures c.if-class_in-ne-START.true)
 
-loop-holds : tie.Need-loop-init invariant-loop decreases-loop
-loop-holds c = (omega arith, first _ _ (omega arith) c.before.class-in.ensures c.if2.false)
+loop-holds : tie.Need-loop-i-init invariant-loop decreases-loop
+loop-holds c = (omega arith, first _ _ (omega arith) c.class_in.ensures c.if-class_in-ne-START.false)
 
-returns-3 : tie.Need-returns-3 invariant-loop decreases-loop
-returns-3 c = let loop = c.before.before.before.before.loop in sym (loop.invariant.1 ∙ stopped _ _ _ (omega arith) c.before.class-in2.ensures c.if3.true)
+returns-3 : tie.Need-returns-then-class_in-eq-NEITHER invariant-loop decreases-loop
+returns-3 c = let loop = c.loop-i in sym (loop.invariant.1 ∙ stopped _ _ _ (omega arith) c.class_in-in-loop-i.ensures c.if-class_in-eq-NEITHER.true)
 
-loop-again : tie.Need-loop-preserved invariant-loop decreases-loop
-loop-again c = let loop = c.before.before.before.before.loop in (omega arith, loop.invariant.1 ∙ passed _ _ _ (omega arith) c.before.class-in2.ensures c.if3.false)
+loop-again : tie.Need-loop-i-preserved invariant-loop decreases-loop
+loop-again c = let loop = c.loop-i in (omega arith, loop.invariant.1 ∙ passed _ _ _ (omega arith) c.class_in-in-loop-i.ensures c.if-class_in-eq-NEITHER.false)
 
-returns-4 : tie.Need-returns-4 invariant-loop decreases-loop
-returns-4 c = sym (c.before.loop.invariant.1 ∙ done _ _ c.loop-test.false)
+returns-4 : tie.Need-returns invariant-loop decreases-loop
+returns-4 c = sym (c.loop-i.invariant.1 ∙ done _ _ c.loop-i-test.false)
 
 pub good_bytes_in_spec : {M : Type 1} → statement M
 good_bytes_in_spec =

@@ -17,11 +17,11 @@ some : (n : ℕ) → 1 ≤ n → leb n longest_name ≡ good_length n
 unfolding good_length
 some n h = rw (le-leb 1 n h)
 
-returns : tie.Need-returns
-returns c = none _ c.if1.true
+returns : tie.Need-returns-then-size-lt1
+returns c = none _ c.if-size-lt1.true
 
-returns-2 : tie.Need-returns-2
-returns-2 c = some _ c.if1.false
+returns-2 : tie.Need-returns
+returns-2 c = some _ c.if-size-lt1.false
 
 pub good_length_spec : {M : Type 1} → statement M
 good_length_spec = tie.close (tie.spec returns returns-2)

@@ -5,11 +5,11 @@ use Rattle.name.proofs.Words.{class_word, class_no_word}
 use Rattle.name.proofs.in_word.Statement.{statement}
 use Rattle.name.proofs.in_word.Tie as tie
 
-returns : tie.Need-returns
-returns c = class_word _ _ c.before.class-in.ensures c.if1.true
+returns : tie.Need-returns-then-class_in-ne-NEITHER
+returns c = class_word _ _ c.class_in.ensures c.if-class_in-ne-NEITHER.true
 
-returns-2 : tie.Need-returns-2
-returns-2 c = class_no_word _ _ c.before.class-in.ensures c.if1.false
+returns-2 : tie.Need-returns
+returns-2 c = class_no_word _ _ c.class_in.ensures c.if-class_in-ne-NEITHER.false
 
 pub in_word_spec : {M : Type 1} → statement M
 in_word_spec = tie.close (tie.spec (λ c κs. search rules) returns returns-2)

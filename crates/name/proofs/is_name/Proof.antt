@@ -13,13 +13,13 @@ second l g r e q = rw e q
 first : (l g : Bool) → l ≡ false → false ≡ (l && g)
 first l g e = rw e
 
-returns : tie.Need-returns
+returns : tie.Need-returns-then-good_length
 unfolding is_name
-returns c = second _ _ _ (sym c.before.before.good_length.ensures ∙ c.before.if1.true) c.good-bytes-in.ensures
+returns c = second _ _ _ (sym c.good_length.ensures ∙ c.if-good_length.true) c.good_bytes_in.ensures
 
-returns-2 : tie.Need-returns-2
+returns-2 : tie.Need-returns-else-good_length
 unfolding is_name
-returns-2 c = first _ _ (sym c.before.good_length.ensures ∙ c.if1.false)
+returns-2 c = first _ _ (sym c.good_length.ensures ∙ c.if-good_length.false)
 
 pub is_name_spec : {M : Type 1} → statement M
 is_name_spec = tie.close (tie.spec (λ c κs. search rules) (λ c κs. search rules) returns returns-2)

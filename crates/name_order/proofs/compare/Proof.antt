@@ -44,39 +44,39 @@ module _ (a b : List ℕ) (i : ℕ) where
       unfolding left order_of
       equal l = rw (add-one, drop-cons a i 0 h, drop-cons b i 0 k, le-ltb (get_or a i 0) (get_or b i 0) n, le-ltb (get_or b i 0) (get_or a i 0) l)
 
-abbrev invariant-loop : tie.invariant-loop
+abbrev invariant-loop : tie.invariant-loop-i
 invariant-loop a b i₀ i = (i ≤ length a) × (i ≤ length b) × (order_of a b ≡ left a b i)
 
-abbrev decreases-loop : tie.decreases-loop
+abbrev decreases-loop : tie.decreases-loop-i
 decreases-loop a b i₀ i = length a - i
 
-loop-holds : tie.Need-loop-init invariant-loop decreases-loop
+loop-holds : tie.Need-loop-i-init invariant-loop decreases-loop
 unfolding left
 loop-holds c = (omega arith, omega arith, refl)
 
-returns : tie.Need-returns invariant-loop decreases-loop
-returns c = sym (c.before.before.loop.invariant.2 ∙ longer _ _ _ (omega arith) c.if1.true)
+returns : tie.Need-returns-then-b-i invariant-loop decreases-loop
+returns c = sym (c.loop-i.invariant.2 ∙ longer _ _ _ (omega arith) c.if-b-i.true)
 
-returns-2 : tie.Need-returns-2 invariant-loop decreases-loop
+returns-2 : tie.Need-returns-then-a-i invariant-loop decreases-loop
 returns-2 c =
-    let loop = c.before.before.before.before.before.loop in
-    sym (loop.invariant.2 ∙ less _ _ _ (omega arith) (omega arith) c.if2.true)
+    let loop = c.loop-i in
+    sym (loop.invariant.2 ∙ less _ _ _ (omega arith) (omega arith) c.if-a-i.true)
 
-returns-3 : tie.Need-returns-3 invariant-loop decreases-loop
+returns-3 : tie.Need-returns-then-b-i-2 invariant-loop decreases-loop
 returns-3 c =
-    let loop = c.before.before.before.before.before.before.before.before.loop in
-    sym (loop.invariant.2 ∙ more _ _ _ (omega arith) (omega arith) c.before.before.before.if2.false c.if3.true)
+    let loop = c.loop-i in
+    sym (loop.invariant.2 ∙ more _ _ _ (omega arith) (omega arith) c.if-a-i.false c.if-b-i-2.true)
 
-loop-again : tie.Need-loop-preserved invariant-loop decreases-loop
+loop-again : tie.Need-loop-i-preserved invariant-loop decreases-loop
 loop-again c =
-    let loop = c.before.before.before.before.before.before.before.before.loop in
-    (omega arith, omega arith, loop.invariant.2 ∙ equal _ _ _ (omega arith) (omega arith) c.before.before.before.if2.false c.if3.false)
+    let loop = c.loop-i in
+    (omega arith, omega arith, loop.invariant.2 ∙ equal _ _ _ (omega arith) (omega arith) c.if-a-i.false c.if-b-i-2.false)
 
-returns-4 : tie.Need-returns-4 invariant-loop decreases-loop
-returns-4 c = sym (c.before.before.loop.invariant.2 ∙ shorter _ _ _ c.before.loop-test.false c.if4.true)
+returns-4 : tie.Need-returns-then-i-b invariant-loop decreases-loop
+returns-4 c = sym (c.loop-i.invariant.2 ∙ shorter _ _ _ c.loop-i-test.false c.if-i-b.true)
 
-returns-5 : tie.Need-returns-5 invariant-loop decreases-loop
-returns-5 c = sym (c.before.before.loop.invariant.2 ∙ same _ _ _ c.before.loop-test.false c.if4.false)
+returns-5 : tie.Need-returns-else-i-b invariant-loop decreases-loop
+returns-5 c = sym (c.loop-i.invariant.2 ∙ same _ _ _ c.loop-i-test.false c.if-i-b.false)
 
 pub compare_spec : {M : Type 1} → statement M
 compare_spec =

@@ -6,11 +6,11 @@ use Rattle.refusal.specs.Answer.{outcome_number}
 use Rattle.refusal.proofs.outcome_number.Statement.{statement}
 use Rattle.refusal.proofs.outcome_number.Tie as tie
 
-returns : tie.Need-returns
+returns : tie.Need-returns-in-Done
 returns c = search rules
 
-returns-2 : tie.Need-returns-2
-returns-2 c = c.number.ensures ∙ sym (ap outcome_number c.before.before.outcome.given.1)
+returns-2 : tie.Need-returns-in-Refused
+returns-2 c = c.number.ensures ∙ sym (ap outcome_number c.in-Refused.is)
 
 pub outcome_number_spec : {M : Type 1} → statement M
 outcome_number_spec =

@@ -1,5 +1,6 @@
 -- `find_model` meets its contract: the book with the parent's facts, the parent, its blocks.
 -- Assumes nothing.
+use Rattle.std.proofs.Common.{ap, not}
 use mathlib.Core.Path.{refl, sym, ◌∙◌}
 use borrow.Author.Rules.{rules}
 use borrow.Author.Tests.{not-true, not-false}
@@ -10,43 +11,37 @@ use Rattle.intake_sample.proofs.Inferring.{stopped_book, stopped_parent, stopped
 use Rattle.intake_sample.proofs.infer.find_model.Statement.{statement}
 use Rattle.intake_sample.proofs.infer.find_model.Tie as tie
 
-take-parent-requires : tie.Need-take-parent-requires
+take-parent-requires : tie.Need-take_parent-reading-requires
 take-parent-requires c κs = row_none _ row_size refl
 
-returns : tie.Need-returns
+returns : tie.Need-returns-in-Refused
 returns c =
-    stopped_book _ _ _ c.before.before.before.before.before.take_parent.ensures.0 _ _ c.before.before.outcome.given.1 c.stopped.ensures
+    stopped_book _ _ _ c.take_parent-reading.ensures.0 _ _ c.in-Refused.is c.stopped.ensures
 
-returns-2 : tie.Need-returns-2
+returns-2 : tie.Need-returns-then-layout-parent
 returns-2 c =
-    let book = c.before.before.before.before in
-    stopped_parent _ _ _ book.before.before.before.take_parent.ensures.0 book.enum_told.given.1 _ c.before.if1.true c.stopped2.ensures
+    stopped_parent _ _ _ c.take_parent-reading.ensures.0 c.in_default.is _ c.if-layout-parent.true c.stopped-then-layout-parent.ensures
 
-shows-word-requires : tie.Need-shows-word-requires
-shows-word-requires c κs = c.before.before.before.before.before.before.before.take_parent.ensures.1.size
+shows-word-requires : tie.Need-shows_word-requires
+shows-word-requires c κs = c.take_parent-reading.ensures.1.size
 
-returns-3 : tie.Need-returns-3
+returns-3 : tie.Need-returns-then-not-shows_word
 returns-3 c =
-    let parent = c.before.before.before.before in
-    let book = parent.before.before.before in
-    let taken = book.before.before.before.take_parent.ensures in
-    stopped_none _ _ _ taken.0 book.enum_told.given.1 parent.if1.false _ taken.1 _
-    (sym (c.before.before.shows-word.ensures _) ∙ not-true _ c.before.if2.true) c.stopped3.ensures
+    let taken = c.take_parent-reading.ensures in
+    stopped_none _ _ _ taken.0 c.in_default.is c.if-layout-parent.false _ taken.1 _
+    (sym (c.shows_word.ensures _) ∙ not-true _ (ap not c.if-not-shows_word.true)) c.stopped-then-not-shows_word.ensures
 
-row-model-requires : tie.Need-row-model-requires
+row-model-requires : tie.Need-row_model-model-requires
 row-model-requires c κs =
-    let book = c.before.before.before.before.before.before.before in
-    let taken = book.before.before.before.take_parent.ensures in
-    let done = book.enum_told.given.1 in
+    let taken = c.take_parent-reading.ensures in
+    let done = c.in_default.is in
     (few_taken _ _ taken.0 done _ _ taken.1, row_kept _ _ taken.0 done _ _ taken.1)
 
-returns-4 : tie.Need-returns-4
+returns-4 : tie.Need-returns
 returns-4 c =
-    let parent = c.before.before.before.before.before in
-    let book = parent.before.before.before in
-    let taken = book.before.before.before.take_parent.ensures in
-    model_made _ _ _ taken.0 book.enum_told.given.1 parent.if1.false _ taken.1 _
-    (sym (c.before.before.before.shows-word.ensures _) ∙ not-false _ c.before.before.if2.false) c.row-model.ensures
+    let taken = c.take_parent-reading.ensures in
+    model_made _ _ _ taken.0 c.in_default.is c.if-layout-parent.false _ taken.1 _
+    (sym (c.shows_word.ensures _) ∙ not-false _ (ap not c.if-not-shows_word.false)) c.row_model-model.ensures
 
 pub find_model_spec : {M : Type 1} → statement M
 find_model_spec =

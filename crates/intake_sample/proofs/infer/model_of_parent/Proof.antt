@@ -6,7 +6,7 @@ use Rattle.intake_sample.proofs.infer.model_of_parent.Statement.{statement}
 use Rattle.intake_sample.proofs.infer.model_of_parent.Tie as tie
 
 returns : tie.Need-returns
-returns c = without_layout _ _ _ c.before.find-model.ensures
+returns c = without_layout _ _ _ c.find_model-found.ensures
 
 pub model_of_parent_spec : {M : Type 1} → statement M
 model_of_parent_spec = tie.close (tie.spec (λ c κs. search rules) returns)

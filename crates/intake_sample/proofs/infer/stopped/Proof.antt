@@ -10,7 +10,7 @@ use Rattle.intake_sample.proofs.infer.stopped.Tie as tie
 
 returns : tie.Need-returns
 unfolding inferred_in
-returns c = ap (λ (m : Model). record { outcome = Refused c.before.before.args.refusal; layout = c.before.before.args.reading.layout; model = m }) c.empty.ensures
+returns c = ap (λ (m : Model). record { outcome = Refused c.args.refusal; layout = c.args.reading.layout; model = m }) c.empty.ensures
 
 pub stopped_spec : {M : Type 1} → statement M
 stopped_spec = tie.close (tie.spec (λ c κs. search rules) returns)

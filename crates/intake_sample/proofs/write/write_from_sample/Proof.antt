@@ -5,21 +5,19 @@ use Rattle.intake_sample.proofs.Writing.{stopped_model, model_writable, text_wri
 use Rattle.intake_sample.proofs.write.write_from_sample.Statement.{statement}
 use Rattle.intake_sample.proofs.write.write_from_sample.Tie as tie
 
-returns : tie.Need-returns
-returns c = stopped_model _ _ _ c.before.before.before.before.find-model.ensures _ _ _ c.before.before.outcome.given.1 c.refused.ensures
+returns : tie.Need-returns-in-Refused
+returns c = stopped_model _ _ _ c.find_model-found.ensures _ _ _ c.in-Refused.is c.refused.ensures
 
-enum_told : tie.Need-enum-told
+enum_told : tie.Need-enum_told-1
 enum_told c = search rules
 
-write-model-requires : tie.Need-write-model-requires
+write-model-requires : tie.Need-write_model-requires
 write-model-requires c κs =
-    let found = c.before.before.before in
-    model_writable _ _ _ found.before.before.find-model.ensures found.enum_told.given.1
+    model_writable _ _ _ c.find_model-found.ensures c.in_default.is
 
-returns-2 : tie.Need-returns-2
+returns-2 : tie.Need-returns
 returns-2 c =
-    let found = c.before.before.before.before.before.before in
-    text_written _ _ _ found.before.before.find-model.ensures found.enum_told.given.1 _ _ _ c.before.before.write-model.ensures
+    text_written _ _ _ c.find_model-found.ensures c.in_default.is _ _ _ c.write_model.ensures
 
 pub write_from_sample_spec : {M : Type 1} → statement M
 write_from_sample_spec =

@@ -8,7 +8,7 @@ use Rattle.nameset.proofs.NameSet.is_empty.Tie as tie
 
 returns : tie.Need-returns
 unfolding is_empty
-returns c = record { same = refl; none = is_empty_none _; all = none_is_empty _ c.struct_known.given.0.fits }
+returns c = record { same = refl; none = is_empty_none _; all = none_is_empty _ c.struct_known-1.given.0.fits }
 
 pub is_empty_spec : {M : Type 1} → statement M
 is_empty_spec = tie.close (tie.spec returns)

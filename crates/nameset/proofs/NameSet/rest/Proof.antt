@@ -18,9 +18,9 @@ lowered s w hs hw e = ap (λ (n : ℕ). record { bits = n }) (less_one s.bits w 
 
 returns : tie.Need-returns
 returns c =
-    let call = c.before.wrapping-sub-u64 in
-    let sized : Sized c.before.before.args.self = c.struct_known.given.0.fits in
-    let e = lowered _ call.result sized call.type-inv call.ensures in
+    let call = c.before.wrapping_sub_u64 in
+    let sized : Sized c.before.before.args.self = c.struct_known-1.given.0.fits in
+    let e = lowered _ call.result sized call.type_inv call.ensures in
     record { same = e; members = λ j. rw e (member_rest _ j); smaller = λ n. rw e (rest_smaller _ sized n) }
 
 pub rest_spec : {M : Type 1} → statement M

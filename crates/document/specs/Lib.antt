@@ -1,0 +1,4 @@
+pub mod Tree
+pub mod Fault
+pub mod Walk
+pub mod Examples

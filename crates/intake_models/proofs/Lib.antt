@@ -1,0 +1,4 @@
+pub mod Put
+pub mod Fill
+pub mod Entries
+pub mod Theorem

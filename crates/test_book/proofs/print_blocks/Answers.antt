@@ -1,0 +1,20 @@
+-- `print_blocks` stays within the book: each block that it prints was read.
+-- Assumes nothing.
+use Rattle.std.proofs.Common.{arith, sym}
+use Rattle.book_blocks.proofs.Steps.{block_read}
+use Rattle.test_book.proofs.print_blocks.Goals as goal
+
+pub bounds-bytes-at : goal.bounds-bytes-at
+bounds-bytes-at g c = omega (arith, (block_read c.args.layout.names c.args.bytes.now c.loop.at c.in-Block.size (sym c.in-Block.ensures)).fits)
+
+pub overflow_add-at : goal.overflow_add-at
+overflow_add-at g c = omega (arith, (block_read c.args.layout.names c.args.bytes.now c.loop.at c.in-Block.size (sym c.in-Block.ensures)).fits, c.requires)
+
+pub bounds-bytes-at-in-Block : goal.bounds-bytes-at-in-Block
+bounds-bytes-at-in-Block g c = omega (arith, (block_read c.args.layout.names c.args.bytes.now c.loop.at c.in-Block.size (sym c.in-Block.ensures)).fits)
+
+pub overflow_add-at-in-Block : goal.overflow_add-at-in-Block
+overflow_add-at-in-Block g c = omega (arith, (block_read c.args.layout.names c.args.bytes.now c.loop.at c.in-Block.size (sym c.in-Block.ensures)).fits, c.requires)
+
+pub overflow_add-at-in-Block-2 : goal.overflow_add-at-in-Block-2
+overflow_add-at-in-Block-2 g c = omega (arith, (block_read c.args.layout.names c.args.bytes.now c.loop.at c.in-Block.size (sym c.in-Block.ensures)).fits, c.requires)
