@@ -7,7 +7,8 @@
 
 The checks:
 - no line has more than 120 characters, except table rows and code blocks;
-- every path of the repository that is named exists, unless it has a placeholder such as NAME or *;
+- every path of the repository that is named exists, unless it has a placeholder such as NAME or *, and is not below a
+  folder `out` of a crate, which only a build leaves;
 - names that are cited with a file of a crate are defined there: `a`, `b` in `crates/..`, or `crates/..`: `a`, `b`;
   docs/landings/ keeps the spelling of its time, `isName` or `name-law` for what is now `is_name` or `name_law`;
 - the map of README.md has a row for each group of crates.txt, with its sentence and its crates, and no other row;
@@ -38,6 +39,7 @@ PATH = re.compile(r"(?<![\w./-])(?:(?:\.ci|crates|docs|include|rust|samples|test
                   r"|(?:README|CONTRIBUTING)\.md|crates\.txt)")
 PLACEHOLDER = re.compile(r"\*|\.\.\.|(?:^|/)(?:[A-Z]+(?:/|$)|(?:NAME|FILE|LABEL|X|Y)\b)")
 BUILT = "rust/target"
+LEFT_BY_BUILD = re.compile(r"crates/\w+/out(?:/|$)")
 LINK = re.compile(r"\[[^\]]*\]\(([^)\s]+)\)")
 
 FILE = r"`?(?P<file>crates/[\w./-]+\.(?:antt|rt))`?"
@@ -107,8 +109,10 @@ def wide_lines(lines):
 def missing_paths(lines):
     for line in prose(lines):
         for path in (match.group().rstrip(".-") for match in PATH.finditer(line.text)):
-            if not PLACEHOLDER.search(path) and not path.startswith(BUILT) and not (ROOT / path).exists():
-                yield finding(line, f"{path} does not exist")
+            if PLACEHOLDER.search(path) or path.startswith(BUILT):
+                continue
+            if LEFT_BY_BUILD.match(path) or not (ROOT / path).exists():
+                yield finding(line, f"{path} does not exist in a fresh clone")
 
 
 def dead_links(lines):
