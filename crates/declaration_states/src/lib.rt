@@ -23,25 +23,25 @@ pub const ENTRIES: usize = 240;
 // The next state: a row for each state, a column for each kind of token.
 const STATES: [u8; ENTRIES] = [
     // the columns: other, word, EMPTY, #PCDATA, ( ) , | > ? + *
-    19, 1, 1, 19, 19, 19, 19, 19, 19, 19, 19, 19, // 0 beforeParent: before the parent
-    19, 19, 17, 19, 2, 19, 19, 19, 19, 19, 19, 19, // 1 beforeModel: before the model
-    19, 3, 3, 12, 8, 19, 19, 19, 19, 19, 19, 19, // 2 behindBracket: behind its bracket
-    19, 19, 19, 19, 19, 6, 7, 4, 19, 11, 11, 11, // 3 behindFirst: behind a name there
-    19, 5, 5, 19, 19, 19, 19, 19, 19, 19, 19, 19, // 4 wholeBar: behind a bar of a group that is the whole model
-    19, 19, 19, 19, 19, 6, 19, 4, 19, 19, 19, 19, // 5 wholeName: behind a later name of it
-    19, 19, 19, 19, 19, 19, 19, 19, 18, 17, 17, 17, // 6 wholeGroup: behind this group
-    19, 10, 10, 19, 8, 19, 19, 19, 19, 19, 19, 19, // 7 beforeFactor: before a later factor
-    19, 9, 9, 19, 19, 19, 19, 19, 19, 19, 19, 19, // 8 inGroup: before a name of a factor's group
-    19, 19, 19, 19, 19, 10, 19, 8, 19, 19, 19, 19, // 9 groupName: behind a name of it
-    19, 19, 19, 19, 19, 17, 7, 19, 19, 11, 11, 11, // 10 behindNames: behind a factor's names
-    19, 19, 19, 19, 19, 17, 7, 19, 19, 19, 19, 19, // 11 behindMark: behind its mark
-    19, 19, 19, 19, 19, 13, 19, 14, 19, 19, 19, 19, // 12 behindText: behind `#PCDATA`
-    19, 19, 19, 19, 19, 19, 19, 19, 18, 19, 19, 17, // 13 textAlone: behind `(#PCDATA)`
-    19, 15, 15, 19, 19, 19, 19, 19, 19, 19, 19, 19, // 14 textBar: behind a bar of a group that begins with `#PCDATA`
-    19, 19, 19, 19, 19, 16, 19, 14, 19, 19, 19, 19, // 15 textName: behind a name of it
-    19, 19, 19, 19, 19, 19, 19, 19, 19, 19, 19, 17, // 16 beforeStar: behind this group, before its star
-    19, 19, 19, 19, 19, 19, 19, 19, 18, 19, 19, 19, // 17 beforeEnd: before `>`
-    19, 19, 19, 19, 19, 19, 19, 19, 19, 19, 19, 19, // 18 behindEnd: behind `>`
+    19, 1, 1, 19, 19, 19, 19, 19, 19, 19, 19, 19, // 0 before_parent: before the parent
+    19, 19, 17, 19, 2, 19, 19, 19, 19, 19, 19, 19, // 1 before_model: before the model
+    19, 3, 3, 12, 8, 19, 19, 19, 19, 19, 19, 19, // 2 behind_bracket: behind its bracket
+    19, 19, 19, 19, 19, 6, 7, 4, 19, 11, 11, 11, // 3 behind_first: behind a name there
+    19, 5, 5, 19, 19, 19, 19, 19, 19, 19, 19, 19, // 4 whole_bar: behind a bar of a group that is the whole model
+    19, 19, 19, 19, 19, 6, 19, 4, 19, 19, 19, 19, // 5 whole_name: behind a later name of it
+    19, 19, 19, 19, 19, 19, 19, 19, 18, 17, 17, 17, // 6 whole_group: behind this group
+    19, 10, 10, 19, 8, 19, 19, 19, 19, 19, 19, 19, // 7 before_factor: before a later factor
+    19, 9, 9, 19, 19, 19, 19, 19, 19, 19, 19, 19, // 8 in_group: before a name of a factor's group
+    19, 19, 19, 19, 19, 10, 19, 8, 19, 19, 19, 19, // 9 group_name: behind a name of it
+    19, 19, 19, 19, 19, 17, 7, 19, 19, 11, 11, 11, // 10 behind_names: behind a factor's names
+    19, 19, 19, 19, 19, 17, 7, 19, 19, 19, 19, 19, // 11 behind_mark: behind its mark
+    19, 19, 19, 19, 19, 13, 19, 14, 19, 19, 19, 19, // 12 behind_text: behind `#PCDATA`
+    19, 19, 19, 19, 19, 19, 19, 19, 18, 19, 19, 17, // 13 text_alone: behind `(#PCDATA)`
+    19, 15, 15, 19, 19, 19, 19, 19, 19, 19, 19, 19, // 14 text_bar: behind a bar of a group that begins with `#PCDATA`
+    19, 19, 19, 19, 19, 16, 19, 14, 19, 19, 19, 19, // 15 text_name: behind a name of it
+    19, 19, 19, 19, 19, 19, 19, 19, 19, 19, 19, 17, // 16 before_star: behind this group, before its star
+    19, 19, 19, 19, 19, 19, 19, 19, 18, 19, 19, 19, // 17 before_end: before `>`
+    19, 19, 19, 19, 19, 19, 19, 19, 19, 19, 19, 19, // 18 behind_end: behind `>`
     19, 19, 19, 19, 19, 19, 19, 19, 19, 19, 19, 19, // 19 nowhere
 ];
 

@@ -29,7 +29,7 @@ example w a = record { pairs = w; answer = a }
 
 unfoldable pub examples : List Example
 examples =
-    -- a list of two exampleEntries, the first with text, and an end
+    -- a list of two entries, the first with text, and an end
     example (0 ∷ 0 ∷ 0 ∷ 1 ∷ 2 ∷ 0 ∷ 1 ∷ 1 ∷ 0 ∷ 1 ∷ 1 ∷ 1 ∷ 0 ∷ 2 ∷ 1 ∷ 2 ∷ 1 ∷ 0 ∷ []) (given true)
     -- the end comes before an entry
     ∷ example (0 ∷ 0 ∷ 0 ∷ 2 ∷ 1 ∷ 2 ∷ 0 ∷ 1 ∷ 1 ∷ 1 ∷ 1 ∷ 0 ∷ []) (given false)

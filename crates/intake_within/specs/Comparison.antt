@@ -1,5 +1,5 @@
 -- A means: the checks of the call that compares two models, in the order of request U4 of paper 02, its answer, and
--- what the buffer then holds. The theorems in crates/demands/proofs/Demands.antt whose names begin with `within-` say
+-- what the buffer then holds. The theorems in crates/demands/proofs/Demands.antt whose names begin with `within_` say
 -- what that is.
 -- To be believed are `inclusion_number`, `inclusion_yes`, `inclusion_length` and `PassesBoth`.
 -- Assumes nothing.

@@ -19,7 +19,7 @@ use Rattle.model.specs.Record.{no_factor}
 use Rattle.model.specs.Build.{entries_with, with_factor}
 use Rattle.nameset.proofs.Tests.{and_left}
 
--- ---- entriesWith, entry by entry
+-- ---- `entries_with`, entry by entry
 
 pub entries_length : (holds : ℕ → Bool) (v x : ℕ) (es : List ℕ) → length (entries_with holds v x es) ≡ length es
 unfolding entries_with

@@ -62,10 +62,9 @@ member_rest s j =
 
 -- ---- `Sized`
 
--- Each set that code holds is `Sized`. In a caller's proof `search needs` shows it of a parameter, `Sized (c.before
--- .args .s)`, and of what a call gave, `Sized c.union.result`, since `c` has it of both. Of a set that was read
--- from an array `search (needs, sized_element)` shows it, and `search (needs, sized_field)` where the array is a field
--- of a struct.
+-- Each set that code holds is `Sized`. In a caller's proof `search rules` shows it of a parameter, `Sized c.args.s`, and
+-- of what a call gave, `Sized c.union.result`, since `c` has it of both. Of a set that was read from an array
+-- `sized_element` shows it, and `sized_field` where the array is a field of a struct.
 
 pub sized_empty : Sized empty
 sized_empty = pow_pos capacity
