@@ -53,9 +53,10 @@
  * to that many bytes that can be read (those of a buffer also written). While the call runs nobody else writes to them,
  * nor reads those of a buffer. A buffer overlaps nothing else that is passed to the same call.
  *
- * docs/FORMAT.md has the bytes of a book, the order of the checks and the text of a declaration. They are those of
- * paper 01, with requests U1 (reading), U2 (the whole DTD), U4 (one model within another), U5 (fields that hold text),
- * U6 (names that no block uses) and U7 (whole documents) of paper 02; the papers decide.
+ * docs/FORMAT.md has the bytes of a book, the order of the checks, the text of a declaration, the rows of a table of
+ * models and the pairs of a document. They are those of paper 01, with requests U1 (reading), U2 (the whole DTD), U4
+ * (one model within another), U5 (fields that hold text), U6 (names that no block uses) and U7 (whole documents) of
+ * paper 02; the papers decide.
  */
 #ifndef CURLEWSONG_H
 #define CURLEWSONG_H
@@ -182,12 +183,13 @@ curlewsong_read curlewsong_read_declaration(const uint8_t *book, size_t book_len
  *    bytes 3 to 66      `factor`
  *    bytes 67 to 130    `mode`
  *
- * A name whose row is not whole in the table has no model. So a table that is too short for all names is not refused,
- * and one of length 0 is good (its pointer still not NULL): no name has a model. Bytes 1 to 130 of a row whose byte 0
- * is 0 are not looked at, nor is anything behind the rows of the names.
+ * A name whose row is not whole in the table has no model. So curlewsong_accepts_document refuses no table for being
+ * short, and takes one of length 0 (its pointer still not NULL): no name has a model then. It does not look at bytes 1
+ * to 130 of a row whose byte 0 is 0, nor at anything behind the rows of the names.
  *
  * Set a new table to zeros first: then no name has a model. curlewsong_put_model writes one row, curlewsong_fill_models
- * those of all names of a book; for these two the table is a buffer. To take a model out, set byte 0 of its row to 0. */
+ * those of all names of a book. For these two the table is a buffer: they look at no byte of it, and refuse one that is
+ * too short (12). To take a model out, set byte 0 of its row to 0. */
 
 /* Whether the document over `names` names is valid by the models of the table: every element has a model there, its
  * children in order are a word of that model, however many there are, and text stands only in elements whose model

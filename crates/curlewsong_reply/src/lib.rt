@@ -53,7 +53,7 @@ pub struct TextReply {
     pub model: Model,
 }
 
-// The reply to a caller who asked whether a word is accepted.
+// The reply to a caller who asked for a yes or no.
 pub fn verdict_of(answer: Acceptance) -> Verdict
     ensures { result ≡ verdict answer }
 {
@@ -95,7 +95,7 @@ pub fn inclusion_of(answer: Inclusion) -> InclusionReply
     }
 }
 
-// The reply to a caller who had a text written.
+// The reply to a caller who had a text or rows written.
 pub fn length_of(answer: Written) -> LengthReply
     ensures { result ≡ length_reply answer }
 {

@@ -83,6 +83,6 @@ AllFit entries nothing = Unit {0}
 AllFit entries (text c) = AllFit entries c
 AllFit entries (element x inner c) = Fits (entries x) inner × AllFit entries inner × AllFit entries c
 
--- Every element of the tree has one, the root and those in it.
+-- The root has a content that fits, and so has every element in it.
 abbrev pub Valid : (ℕ → Entry) → Tree → Type 0
 Valid entries t = Fits (entries t.root) t.content × AllFit entries t.content

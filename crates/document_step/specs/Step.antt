@@ -1,7 +1,8 @@
 -- A means: a walk over a document as the code keeps it, and what a pair does to it. `same` of `Judged` joins a step to
 -- `one_pair` of crates/document/specs/Walk.antt.
 -- The code keeps how many elements are open, the innermost of them, and three rows: place i of the rows has the element
--- that was the innermost at depth i, as it was when the next was opened.
+-- that was the innermost at depth i, as it was when the next was opened. Where none is open, the innermost one and place
+-- 0 have no meaning, and nothing depends on them.
 -- Assumes nothing.
 use Rattle.std.specs.Prelude.{ℕ, zero, suc, ◌<◌, ◌≡◌, Bool, true, false, List, [], ◌∷◌, get_or}
 use Rattle.refusal.specs.declared.Refusal.TheVariants.{BadDocument}
