@@ -19,7 +19,8 @@ The checks:
 - in docs/FORMAT.md, test_reading, whose book has the names EMPTY, a, b, c and d, answers for the texts in a table with
   a column "Result" what the table says. It takes lines, in which the byte 1F stands for a line feed.
 
-Each finding is a line FILE:LINE: message. The exit status is 1 where there is one.
+Each finding is a line FILE:LINE: message. The exit status is 1 where there is one, and, but for --static, where one of
+the two programs is not built.
 """
 import itertools
 import pathlib
@@ -365,7 +366,8 @@ def main(arguments):
         if not program.exists():
             print(f"docs: {program.relative_to(ROOT)} is not built, so that what it prints is not checked; "
                   f"rt run builds it, in crates/{program.name}")
-    return check([program for program in wanted if program.exists()])
+    built = [program for program in wanted if program.exists()]
+    return check(built) or int(built != wanted)
 
 
 if __name__ == "__main__":

@@ -3,10 +3,12 @@
 
 usage: python3 tools/respell.py [--list]      at the top; --list only prints what would be renamed
 
-It ran once, in the commit that docs/PORT.md names, when the repository was brought to a newer Rattle. A name that is
-declared in specs/ or proofs/ and has a capital inside a part or a dash is respelled wherever it stands in specs/,
-proofs/ and src/ outside of strings; in comments only within backquotes. Types, modules, names of the library and names
-that Rattle makes keep their spelling, and so does a name whose new spelling stands for something else already.
+It ran once, in the commit that docs/PORT.md names, when the repository was brought to a newer Rattle, and is kept to
+show what it did. Do not run it again: it does not know all names that Rattle makes today.
+
+A name that is declared in specs/ or proofs/ and has a capital inside a part or a dash is respelled wherever it stands
+in specs/, proofs/ and src/ outside of strings; in comments only within backquotes. Types, modules, names of the library
+and names that Rattle makes keep their spelling, and so does a name whose new spelling stands for something else already.
 """
 
 import pathlib
@@ -144,6 +146,8 @@ def respell(text, mark, renamed):
 
 
 def main(arguments):
+    if arguments not in ([], ["--list"]):
+        return __doc__
     renamed, kept = plan()
     if arguments == ["--list"]:
         for name, new in renamed.items():

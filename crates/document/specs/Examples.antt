@@ -1,4 +1,4 @@
--- Examples: documents over four names, with their answers. `answered` in proofs/Examples.antt computes them.
+-- A means: examples, documents over four names, with their answers. `answered` in proofs/Examples.antt computes them.
 -- Assumes nothing.
 use Rattle.std.specs.Prelude.{ℕ, zero, suc, Bool, true, false, List, [], ◌∷◌, ◌++◌}
 use Rattle.refusal.specs.declared.Refusal.TheVariants.{BadDocument, TooDeep}

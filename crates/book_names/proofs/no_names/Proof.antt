@@ -1,4 +1,4 @@
--- `no_names_lem` meets its contract.
+-- `no_names` meets its contract.
 -- Assumes nothing.
 use mathlib.Core.Path.{refl}
 use Rattle.book.specs.Layout.{no_offsets}
