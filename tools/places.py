@@ -6,6 +6,7 @@ its shape alone: which of them are fine as they are, the page says.
 """
 import collections
 import difflib
+import itertools
 import pathlib
 import re
 import sys
@@ -46,32 +47,47 @@ def functions():
             yield Function(path, text, found.start(), found.group(1))
 
 
+def tokens(body):
+    return re.findall(r"\w+|[^\w\s]", body)
+
+
 def shape(body):
     """The tokens of a body, each name as the number of its first place: alike for twins that differ in names."""
     seen = {}
-    return [
-        seen.setdefault(token, len(seen)) if re.match(r"\w", token) else token
-        for token in re.findall(r"\w+|[^\w\s]", body)
-    ]
+    return [seen.setdefault(token, len(seen)) if re.match(r"\w", token) else token for token in tokens(body)]
+
+
+def declared(word):
+    """The enums or structs of the sources: the path, the name, and what stands between the braces."""
+    for path, text in sources():
+        for found in re.finditer(rf"^ *(?:pub )?{word} (\w+)[^{{;]*\{{(.*?)^ *\}}", text, re.M | re.S):
+            yield path.relative_to(ROOT), found.group(1), found.group(2)
+
+
+def lines_like(pattern):
+    """The lines of the sources that begin with the pattern, each with its place."""
+    for path, text in sources():
+        for number, line in enumerate(text.splitlines(), 1):
+            if re.match(pattern, line):
+                yield f"{path.relative_to(ROOT)}:{number}: {line.strip()}"
 
 
 def own_results():
     """1: enums of the shape of Option, Result or Ordering."""
-    for path, text in sources():
-        for found in re.finditer(r"^ *(?:pub )?enum (\w+)[^{]*\{(.*?)^ *\}", text, re.M | re.S):
-            variants = re.findall(r"^ +(\w+)(\(.*\))?,", found.group(2), re.M)
-            carries = [name for name, value in variants if value]
-            refuses = any("Refusal" in value for _, value in variants)
-            if refuses or (len(variants) == 2 and carries) or [n for n, _ in variants] == ["Below", "Same", "Above"]:
-                yield f"{path.relative_to(ROOT)}: {found.group(1)}"
+    for path, name, body in declared("enum"):
+        variants = re.findall(r"^ +(\w+)(\(.*\))?,", body, re.M)
+        refuses = any("Refusal" in value for _, value in variants)
+        carries = len(variants) == 2 and any(value for _, value in variants)
+        orders = [variant for variant, _ in variants] == ["Below", "Same", "Above"]
+        if refuses or carries or orders:
+            yield f"{path}: {name}"
 
 
 def flags():
     """1: structs with a flag for the outcome and a value beside it."""
-    for path, text in sources():
-        for found in re.finditer(r"^ *(?:pub )?struct (\w+)[^{;]*\{(.*?)^ *\}", text, re.M | re.S):
-            if re.search(r"\boutcome:", found.group(2)):
-                yield f"{path.relative_to(ROOT)}: {found.group(1)}"
+    for path, name, body in declared("struct"):
+        if re.search(r"\boutcome:", body):
+            yield f"{path}: {name}"
 
 
 def numbers():
@@ -85,29 +101,27 @@ def numbers():
 
 def twins():
     """2: pairs of functions of at least five lines whose bodies are nearly alike."""
-    long = [(one.place, shape(one.body), re.findall(r"\w+|[^\w\s]", one.body)) for one in functions() if one.body.count("\n") >= 5]
-    for i, (place, first, words) in enumerate(long):
-        for other, second, others in long[i + 1 :]:
-            if abs(len(first) - len(second)) * 5 > len(first):
-                continue
-            alike = first == second or difflib.SequenceMatcher(None, words, others, autojunk=False).ratio() >= 0.85
-            if alike:
-                yield f"{place} | {other}"
+    long = [one for one in functions() if one.body.count("\n") >= 5]
+    for first, second in itertools.combinations(long, 2):
+        one, other = tokens(first.body), tokens(second.body)
+        if abs(len(one) - len(other)) * 5 > len(one):
+            continue
+        likeness = difflib.SequenceMatcher(None, one, other, autojunk=False)
+        if shape(first.body) == shape(second.body) or likeness.ratio() >= 0.85:
+            yield f"{first.place} | {second.place}"
 
 
 def loops():
     """3: loops that are no `for`."""
-    for path, text in sources():
-        for number, line in enumerate(text.splitlines(), 1):
-            if re.match(r" *(while|loop)\b", line):
-                yield f"{path.relative_to(ROOT)}:{number}: {line.strip()}"
+    return lines_like(r" *(while|loop)\b")
 
 
 def operators():
     """4: operators, comparisons and copies written out."""
     for path, text in sources():
         for found in re.finditer(r"\bif [^{}\n]+\{\s*(?:return )?(?:true|false);?\s*\}( else)?", text):
-            yield f"{path.relative_to(ROOT)}:{text.count(chr(10), 0, found.start()) + 1}: {found.group().split(chr(10))[0]}"
+            number = text.count("\n", 0, found.start()) + 1
+            yield f"{path.relative_to(ROOT)}:{number}: {found.group().splitlines()[0]}"
     for one in functions():
         values = re.findall(r"=> (\w+),", one.body)
         if one.body.strip().startswith("match") and values and set(values) <= {"true", "false"}:
@@ -135,10 +149,7 @@ def companies():
 
 def arrays():
     """6: arrays of a fixed length, as fields and as variables."""
-    for path, text in sources():
-        for number, line in enumerate(text.splitlines(), 1):
-            if re.match(r" *(pub )?\w+: \[\w+; \w+\],|.*let mut \w+(: [^=]+)? = \[", line):
-                yield f"{path.relative_to(ROOT)}:{number}: {line.strip()}"
+    return lines_like(r" *(pub )?\w+: \[\w+; \w+\],|.*let mut \w+(: [^=]+)? = \[")
 
 
 def old_proofs():
@@ -150,9 +161,8 @@ def old_proofs():
 def answers():
     """8: proof files with answers to goals, and with invariants."""
     for name in ("Answers", "Invariants"):
-        for path in sorted(ROOT.glob(f"crates/*/proofs/**/{name}.antt")):
-            if (path.parent.parent != ROOT) and path.parent.name != "proofs":
-                yield str(path.relative_to(ROOT))
+        for path in sorted(ROOT.glob(f"crates/*/proofs/*/**/{name}.antt")):
+            yield str(path.relative_to(ROOT))
 
 
 KINDS = [own_results, flags, numbers, twins, loops, operators, facts, companies, arrays, old_proofs, answers]
