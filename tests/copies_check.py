@@ -32,7 +32,7 @@ CALLS = {
     "curlewsong::curlewsong_accepts_word": ["model_step::step"],
     "curlewsong::curlewsong_accepts_document": ["document_step::judge_pair", "model_step::step",
                                                 "model_table_check::is_model_in"],
-    "curlewsong::curlewsong_within": ["model_extremes::lower", "model_places::far_over", "model_within::pass_factor"],
+    "curlewsong::curlewsong_within": ["model_extremes::better", "model_places::far_over", "model_within::pass_factor"],
 }
 
 # A body is a list of nodes, each before its parts. How many parts each kind has; `Switch` says so itself.
@@ -90,6 +90,15 @@ def shown(kind):
     return data[0]["name"] if word == "Named" else data[0] if word == "Struct" else word
 
 
+def with_arguments(kind, arguments):
+    """A type with these in the places of its parameters."""
+    if isinstance(kind, dict) and kind.keys() == {"Param"}:
+        return arguments[kind["Param"]]
+    if isinstance(kind, dict):
+        return {word: with_arguments(data, arguments) for word, data in kind.items()}
+    return [with_arguments(part, arguments) for part in kind] if isinstance(kind, list) else kind
+
+
 class Types:
     """The structs and enums by name. Of each it has the types of its fields, for an enum by variant."""
 
@@ -109,7 +118,7 @@ class Types:
             return [data[1]]
         if word != "Named" or data[0]["name"] not in self.fields:
             raise Unreadable(f"{shown(kind)} is no struct or enum that is known")
-        return self.fields[data[0]["name"]]
+        return with_arguments(self.fields[data[0]["name"]], data[1])
 
     def has_array(self, kind):
         word, _ = kind_of(kind)
@@ -117,7 +126,8 @@ class Types:
             return True
         if word in ("Struct", "Named"):
             return any(self.has_array(field) for fields in self.variants(kind) for field in fields)
-        if word in ("Int", "Float", "Bool", "Unit", "Ref", "Ptr"):
+        # What stands for a parameter of a generic function is looked at where it is called.
+        if word in ("Int", "Float", "Bool", "Unit", "Ref", "Ptr", "Param"):
             return False
         raise Unreadable(f"the type {shown(kind)} is not known")
 
@@ -170,14 +180,28 @@ class Function:
                 yield types.of_place(self, data[TARGET[kind]])
 
 
-def calls_in(nodes):
-    """The names of the functions that are called by these nodes."""
+def called_by(nodes):
+    """The calls of functions by these nodes: the name, and what is given for the parameters of a generic function. The
+    call of a method that is given so is none of them: it is counted where the method is given."""
     for kind, data in map(kind_of, nodes):
         if kind == "Call":
             how, called = kind_of(data[0])
+            if how == "Method" and kind_of(called[0])[0] == "Given":
+                continue
             if how != "Fn":
                 raise Unreadable(f"a call of another kind than of a function: {how}")
-            yield called[0]
+            yield called
+
+
+def calls_in(nodes, functions):
+    """The names of the functions that are called by these nodes, and of the methods that are given to them."""
+    for name, given in called_by(nodes):
+        yield name
+        for how, implementation in map(kind_of, given["dicts"]):
+            if how == "Impl":
+                yield from (other for other in functions if other.startswith(implementation[0] + "::"))
+            elif how != "Given":
+                raise Unreadable(f"methods that are given in another way than by an impl: {how}")
 
 
 def read(libraries):
@@ -191,6 +215,12 @@ def read(libraries):
     return functions, types
 
 
+def given_by(nodes, types):
+    """The generic functions that these nodes call for a type with an array, each with the type."""
+    for name, given in called_by(nodes):
+        yield from ((name, kind) for kind in given["types"] if types.has_array(kind))
+
+
 # ---- what is looked at
 
 def callees(functions, name):
@@ -202,7 +232,7 @@ def callees(functions, name):
             if name not in functions:
                 raise Unreadable(f"the function {name} is not in it")
             found[name] = route
-            waiting += [(other, route + (other,)) for other in calls_in(functions[name].nodes())]
+            waiting += [(other, route + (other,)) for other in calls_in(functions[name].nodes(), functions)]
     return found
 
 
@@ -214,8 +244,8 @@ def repeated_by(functions, call):
         loops = functions[name].loops()
         if loops:
             looping[name] = route
-        again = [other for other in calls_in(functions[name].nodes()) if name in callees(functions, other)]
-        for other in again + [other for loop in loops for other in calls_in(loop)]:
+        again = [other for other in calls_in(functions[name].nodes(), functions) if name in callees(functions, other)]
+        for other in again + [other for loop in loops for other in calls_in(loop, functions)]:
             for inner, further in callees(functions, other).items():
                 repeated.setdefault(inner, route + further)
     return looping, repeated
@@ -236,11 +266,14 @@ def findings(libraries, calls=None):
             held = [function.has(at, shown(kind)) for at, kind in enumerate(function.locals) if types.has_array(kind)]
             made = [f"{name} makes a value of type {shown(kind)}"
                     for kind in function.made_in(function.nodes(), types) if types.has_array(kind)]
-            found += [f"{what} ({' > '.join(route)})" for what in held or made]
+            given = [f"{name} calls {other} for {shown(kind)}" for other, kind in given_by(function.nodes(), types)]
+            found += [f"{what} ({' > '.join(route)})" for what in held or made or given]
         for name, route in looping.items():
             for kind in (kind for loop in functions[name].loops() for kind in functions[name].made_in(loop, types)):
                 if types.has_array(kind):
                     found.append(f"a loop of {name} makes a value of type {shown(kind)} ({' > '.join(route)})")
+            found += [f"a loop of {name} calls {other} for {shown(kind)} ({' > '.join(route)})"
+                      for loop in functions[name].loops() for other, kind in given_by(loop, types)]
     return list(dict.fromkeys(found)), len(looped), len(called)
 
 

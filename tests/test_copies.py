@@ -22,8 +22,8 @@ def lent(kind, how="Imm"):
 SLICE = {"Struct": ["&[]", [lent(BYTE), WORD]]}
 
 
-def named(name):
-    return {"Named": [{"name": name, "lifetimes": []}, []]}
+def named(name, *arguments):
+    return {"Named": [{"name": name, "lifetimes": []}, list(arguments)]}
 
 
 DECLARED = [{"name": name, "shape": shape} for name, shape in [
@@ -32,6 +32,7 @@ DECLARED = [{"name": name, "shape": shape} for name, shape in [
     ("State", {"Fields": [WORD, "Bool"]}),
     ("Moved", {"Variants": [[named("State")], []]}),
     ("Held", {"Variants": [[], [BYTE, named("Chain")]]}),
+    ("Either", {"Variants": [[{"Param": 0}], [BYTE, {"Param": 1}]]}),
 ]]
 
 ZERO = {"Int": {"width": 8, "value": 0}}
@@ -50,8 +51,9 @@ def assign(to, value=ZERO):
     return [{"Assign": [to, {"Opd": value}]}]
 
 
-def call(name, to=0):
-    return [{"Call": [{"Fn": [name, {"types": [], "dicts": []}]}, [], place(to)]}]
+def call(name, to=0, types=(), impls=()):
+    given = {"types": list(types), "dicts": [{"Impl": [impl, [], []]} for impl in impls]}
+    return [{"Call": [{"Fn": [name, given]}, [], place(to)]}]
 
 
 def seq(first, *others):
@@ -99,6 +101,27 @@ class Copies(unittest.TestCase):
                                             (0, (BYTE, kind), f"step has a local of type {name}")]:
                 step = function(RETURN, *kinds, parameters=parameters)
                 self.assertEqual(self.found(step=step), [f"{said} {ROUTE}"])
+
+    def test_an_argument_of_a_type(self):
+        for kind, found in [(named("Either", BYTE, lent(ROW)), []),
+                            (named("Either", BYTE, ROW), [f"step returns Either by value {ROUTE}"])]:
+            self.assertEqual(self.found(step=function(RETURN, kind)), found)
+        body = assign(place(1, {"Variant": 1}, field(2)))
+        run = function(seq(loop(call("step")), loop(body)), "Bool", named("Either", BYTE, ROW))
+        self.assertEqual(self.found(run=run), ["a loop of run makes a value of type [u8; 64] (call > run)"])
+
+    def test_what_is_given_to_a_generic_function(self):
+        method = [{"Call": [{"Method": [{"Given": 0}, 0, {"types": [], "dicts": []}]}, [], place(0)]}]
+        generic = function(method, BYTE, {"Param": 0}, parameters=1)
+        for kind, found in [(lent(ROW), []), (ROW, ["a loop of run calls step for [u8; 64] (call > run)"])]:
+            run = function(loop(call("step", types=[kind])))
+            self.assertEqual(self.found(run=run, step=generic), found)
+        deep = function(call("before", types=[ROW]))
+        self.assertIn("deep calls before for [u8; 64] (call > run > step > deep)", self.found(deep=deep))
+        run = function(loop(call("step", impls=["closure+Fn"])))
+        called = {"run": run, "step": generic, "closure+Fn::call": function(RETURN, ROW)}
+        self.assertEqual(self.found(**called),
+                         ["closure+Fn::call returns [u8; 64] by value (call > run > closure+Fn::call)"])
 
     def test_a_function_that_a_step_calls(self):
         deep = function(RETURN, BYTE, named("Chain"), parameters=1)
@@ -180,7 +203,7 @@ class Copies(unittest.TestCase):
                 self.found(run=function(loop(body), "Bool", named("State")))
         indirect = copy.deepcopy(call("step"))
         indirect[0]["Call"][0] = {"Method": ["step", {}]}
-        unknown = [{"Param": 0}, {"Vector": [BYTE, {"Lit": 4}]}, named("Other")]
+        unknown = [{"Vector": [BYTE, {"Lit": 4}]}, named("Other")]
         for changed in [*({"step": function(RETURN, kind)} for kind in unknown),
                         {"run": function(loop(seq(call("step"), indirect)))},
                         {"run": function(loop(call("step"))[:-1])}, {"run": function(loop(call("step")) + RETURN)},

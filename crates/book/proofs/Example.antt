@@ -1,11 +1,11 @@
 -- Paper 01's example book, with text byte 0 in each block (paper 02, U5), read by the definition; and two faults at
 -- once, in a name and in a block.
 -- Assumes nothing.
+use Rattle.std.specs.Prelude.{Ok, Err}
 use Prim.Native.Nat.{ℕ}
 use mathlib.Core.Path.{◌≡◌, refl}
 use mathlib.Core.List.{List, [], ◌∷◌, ◌++◌}
 use Rattle.refusal.specs.declared.Refusal.TheVariants.{BadName, NumberNotBelow, BadText}
-use Rattle.refusal.specs.Answer.{given, refused}
 use Rattle.nameset.specs.Places.{good_count}
 use Rattle.name.specs.Class.{start_byte, later_byte, between}
 use Rattle.name.specs.Rule.{good_length, good_bytes, all_later}
@@ -47,7 +47,7 @@ block word = record { parent = 1; text = 0; word = word }
 
 example :
     book_of bytes
-    ≡ given
+    ≡ Ok
     (record {
       names = contribution ∷ entry ∷ leaver ∷ member ∷ reason ∷ total ∷ [];
       blocks = block (3 ∷ 0 ∷ 5 ∷ []) ∷ block (3 ∷ 2 ∷ 4 ∷ []) ∷ block (3 ∷ 0 ∷ 4 ∷ []) ∷ [];
@@ -56,19 +56,19 @@ unfolding contribution entry leaver member reason total bytes block good_count s
 example = refl
 
 -- 4 comes before 5: a name of one bad byte, which is not above the name before it
-bad_and_not_above : name_of leaver (1 ∷ 33 ∷ []) ≡ refused BadName
+bad_and_not_above : name_of leaver (1 ∷ 33 ∷ []) ≡ Err BadName
 unfolding leaver start_byte later_byte between good_length good_bytes all_later order_of rises byte_of bytes_of name_of
 bad_and_not_above = refl
 
 -- 6 of the parent comes before 16, and 16 before 2 of the child count and before 6 of a child
-parent_and_text : block_of 6 (6 ∷ 2 ∷ []) ≡ refused NumberNotBelow
+parent_and_text : block_of 6 (6 ∷ 2 ∷ []) ≡ Err NumberNotBelow
 unfolding byte_of block_of
 parent_and_text = refl
 
-text_and_count : block_of 6 (5 ∷ 2 ∷ []) ≡ refused BadText
+text_and_count : block_of 6 (5 ∷ 2 ∷ []) ≡ Err BadText
 unfolding byte_of block_of
 text_and_count = refl
 
-text_and_child : block_of 6 (5 ∷ 2 ∷ 1 ∷ 6 ∷ []) ≡ refused BadText
+text_and_child : block_of 6 (5 ∷ 2 ∷ 1 ∷ 6 ∷ []) ≡ Err BadText
 unfolding byte_of bytes_of all_below block_of
 text_and_child = refl

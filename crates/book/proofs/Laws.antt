@@ -1,5 +1,6 @@
 -- The laws of a book that was read, for the layers above.
 -- Assumes nothing.
+use Rattle.std.specs.Prelude.{Ok, Err}
 use Prim.Native.Nat.{ℕ, zero, suc, ◌+◌, ◌≤◌, ◌<◌}
 use mathlib.Core.Path.{◌≡◌, refl, sym, ◌∙◌, ap, subst}
 use mathlib.Core.Bool.{true, false, false≢true}
@@ -13,23 +14,20 @@ use lib.Seq.{sets-eq}
 use borrow.Author.Tests.{lt-ltb, ltb-true, ltb-false}
 use Rattle.refusal.specs.declared.Refusal.{Refusal}
 use Rattle.refusal.specs.declared.Refusal.TheVariants.{BookTooLong}
-use Rattle.refusal.specs.declared.Outcome.TheVariants.{Done, Refused}
-use Rattle.refusal.specs.Answer.{Answer, given, refused, onward}
-use Rattle.refusal.proofs.Laws.{refused_alike, Done≢Refused}
-use Rattle.refusal.proofs.Answers.{onward_given, check_given, given_same}
+use Rattle.refusal.specs.Answer.{Answer, onward}
+use Rattle.refusal.proofs.Answers.{onward_given, check_given, given_same, refused_same, given_refused}
 use Rattle.nameset.specs.Places.{places}
 use Rattle.nameset.proofs.Tests.{both, and_left, and_right}
 use Rattle.nameset.proofs.Count.{count_bounds}
 use Rattle.name.specs.Rule.{is_name}
-use Rattle.name_order.specs.declared.Order.TheVariants.{Below, Same}
+use Rattle.std.specs.declared.cmp.Ordering.TheVariants.{Less, Equal}
 use Rattle.name_order.specs.Order.{order_of}
 use Rattle.name_order.proofs.Ordering.{rises_below, below_trans, same_refl}
 use Rattle.book.specs.declared.Layout.{Layout}
-use Rattle.book.specs.declared.Reading.{Reading}
 use Rattle.book.specs.Field.{Field, count_size}
 use Rattle.book.specs.Book.{Block, Book, all_below, longest_book, name_section, block_section, book_of, names_in, blocks_in}
 use Rattle.book.specs.Bytes.{name_bytes, names_bytes}
-use Rattle.book.specs.Layout.{offsets_from, no_offsets, offset_table, layout_of, no_reading, reading_of}
+use Rattle.book.specs.Layout.{offsets_from, no_offsets, offset_table, layout_of, reading_of}
 use Rattle.book.specs.Access.{LaidOut}
 use Rattle.book.specs.Stops.{Rising, none, one, BlocksBelow}
 use Rattle.book.proofs.Parts.{byte_at}
@@ -52,11 +50,11 @@ pub record BookTold (s : List ℕ) (b : Book) : Type 0 where
   pub after_names : List ℕ
   pub names_stand : drop count_size s ≡ names_bytes b.names after_names
 
-pub book_told : (s : List ℕ) (b : Book) → book_of s ≡ given b → BookTold s b
+pub book_told : (s : List ℕ) (b : Book) → book_of s ≡ Ok b → BookTold s b
 unfolding book_of
 book_told s b e = named (check_given (ltb longest_book (length s)) BookTooLong _ b e)
   where
-    whole : (f : Field (List (List ℕ))) (bs : List Block) → length s ≤ longest_book → name_section s ≡ given f → block_section (length f.value) f.rest ≡ given bs →
+    whole : (f : Field (List (List ℕ))) (bs : List Block) → length s ≤ longest_book → name_section s ≡ Ok f → block_section (length f.value) f.rest ≡ Ok bs →
         BookTold s (record { names = f.value; blocks = bs })
     whole f bs l p q =
         let t = name_section_told s f p in
@@ -72,12 +70,12 @@ book_told s b e = named (check_given (ltb longest_book (length s)) BookTooLong _
           names_stand = t.bytes;
         }
 
-    blocked : length s ≤ longest_book → (f : Field (List (List ℕ))) → name_section s ≡ given f →
-        ((bs : List Block) × (block_section (length f.value) f.rest ≡ given bs) × (given (record { names = f.value; blocks = bs }) ≡ given b)) → BookTold s b
+    blocked : length s ≤ longest_book → (f : Field (List (List ℕ))) → name_section s ≡ Ok f →
+        ((bs : List Block) × (block_section (length f.value) f.rest ≡ Ok bs) × (◌≡◌ {A = Answer Book} (Ok (record { names = f.value; blocks = bs })) (Ok b))) → BookTold s b
     blocked l f p (bs, q, e) = subst (BookTold s) (given_same _ b e) (whole f bs l p q)
 
     named : ((ltb longest_book (length s) ≡ false) × (onward (name_section s) (λ names.
-        onward (block_section (length names.value) names.rest) (λ blocks. given (record { names = names.value; blocks = blocks }))) ≡ given b)) →
+        onward (block_section (length names.value) names.rest) (λ blocks. Ok (record { names = names.value; blocks = blocks }))) ≡ Ok b)) →
         BookTold s b
     named (l, e) =
         let o = onward_given (name_section s) _ b e in
@@ -86,12 +84,12 @@ book_told s b e = named (check_given (ltb longest_book (length s)) BookTooLong _
 -- ---- its names
 
 -- number order is byte order
-pub names_rise : (before : List ℕ) (xs : List (List ℕ)) → Rising before xs → (i j : ℕ) → i < j → j < length xs → order_of (get_or xs i []) (get_or xs j []) ≡ Below
+pub names_rise : (before : List ℕ) (xs : List (List ℕ)) → Rising before xs → (i j : ℕ) → i < j → j < length xs → order_of (get_or xs i []) (get_or xs j []) ≡ Less
 names_rise before [] none i j h l = absurd (omega arith)
 names_rise before (x ∷ xs) (one a b c r) zero zero h l = absurd (omega arith)
 names_rise before (x ∷ xs) (one a b c r) zero (suc j) h l = first x xs r j (le_of_suc-le-suc l)
   where
-    first : (x : List ℕ) (xs : List (List ℕ)) → Rising x xs → (j : ℕ) → j < length xs → order_of x (get_or xs j []) ≡ Below
+    first : (x : List ℕ) (xs : List (List ℕ)) → Rising x xs → (j : ℕ) → j < length xs → order_of x (get_or xs j []) ≡ Less
     first x [] none j l = absurd (omega arith)
     first x (y ∷ ys) (one a b c r) zero l = rises_below x y c
     first x (y ∷ ys) (one a b c r) (suc j) l = below_trans x y (get_or ys j []) (rises_below x y c) (first y ys r j (le_of_suc-le-suc l))
@@ -102,9 +100,9 @@ names_rise before (x ∷ xs) (one a b c r) (suc i) (suc j) h l = names_rise x xs
 pub one_number : (before : List ℕ) (xs : List (List ℕ)) → Rising before xs → (i j : ℕ) → i < length xs → j < length xs → get_or xs i [] ≡ get_or xs j [] → i ≡ j
 one_number before xs r i j hi hj e = go (dec_lt i j) (dec_lt j i)
   where
-    differ : (a b : List ℕ) → a ≡ b → order_of a b ≡ Below → ⊥
+    differ : (a b : List ℕ) → a ≡ b → order_of a b ≡ Less → ⊥
     differ a b p q =
-        let s : order_of a b ≡ Same = ap (order_of a) (sym p) ∙ same_refl a in
+        let s : order_of a b ≡ Equal = ap (order_of a) (sym p) ∙ same_refl a in
         false≢true cc
 
     go : Dec (i < j) → Dec (j < i) → i ≡ j
@@ -195,15 +193,15 @@ module _ (s : List ℕ) (l : Layout) (laid : LaidOut s l) where
       rw (names_in_lem, e) (name_laid_at s (get_or (offsets_from count_size laid.book.names) i 0) (get_or laid.book.names i []) t.0 t.1)
 
 -- what the reading of an answer tells of it: the book that was given, with its layout, or the refusal
-pub reading_done : (a : Answer Book) (r : Reading) → r ≡ reading_of a → r.outcome ≡ Done → (b : Book) × (a ≡ given b) × (r.layout ≡ layout_of b)
-unfolding reading_of no_reading
-reading_done (given b) r e d = (b, refl, ap (λ (x : Reading). x.layout) e)
-reading_done (refused f) r e d = absurd (Done≢Refused f (sym d ∙ ap (λ (x : Reading). x.outcome) e))
+pub reading_done : (a : Answer Book) (l : Layout) → Ok l ≡ reading_of a → (b : Book) × (a ≡ Ok b) × (l ≡ layout_of b)
+unfolding reading_of
+reading_done (Ok b) l e = (b, refl, given_same _ _ e)
+reading_done (Err f) l e = absurd (given_refused l f e)
 
-pub reading_refused : (a : Answer Book) (r : Reading) (f : Refusal) → r ≡ reading_of a → r.outcome ≡ Refused f → a ≡ refused f
-unfolding reading_of no_reading
-reading_refused (given b) r f e o = absurd (Done≢Refused f (sym (ap (λ (x : Reading). x.outcome) e) ∙ o))
-reading_refused (refused g) r f e o = ap refused (refused_alike g f (sym (ap (λ (x : Reading). x.outcome) e) ∙ o))
+pub reading_refused : (a : Answer Book) (f : Refusal) → Err f ≡ reading_of a → a ≡ Err f
+unfolding reading_of
+reading_refused (Ok b) f e = absurd (given_refused (layout_of b) f (sym e))
+reading_refused (Err g) f e = ap Err (sym (refused_same {A = Layout} f g e))
 
 -- ---- its words
 

@@ -1,5 +1,6 @@
 -- What is known of the two sections of a book that were read.
 -- Assumes nothing.
+use Rattle.std.specs.Prelude.{Ok}
 use Prim.Native.Nat.{ℕ, ◌+◌, ◌≤◌, ◌<◌}
 use mathlib.Core.Path.{◌≡◌, refl, sym, ◌∙◌, ap, subst}
 use mathlib.Core.Bool.{true, not}
@@ -10,7 +11,7 @@ use lib.Dec.{ltb}
 use lib.ListN.{length, drop}
 use borrow.Author.Tests.{not-false, ltb-false}
 use Rattle.refusal.specs.declared.Refusal.TheVariants.{BytesMissing, BadNameCount, BytesLeftOver}
-use Rattle.refusal.specs.Answer.{given, onward, refuse_if}
+use Rattle.refusal.specs.Answer.{onward, refuse_if}
 use Rattle.refusal.proofs.Answers.{onward_given, check_given, given_same, given_refused}
 use Rattle.nameset.specs.Places.{good_count}
 use Rattle.book.specs.Field.{Field, field, count_size, count_at, count_of}
@@ -36,7 +37,7 @@ pub record CountTold (s : List ℕ) (f : Field ℕ) : Type 0 where
   pub value : count_at s 0 ≡ f.value
   pub rest : drop count_size s ≡ f.rest
 
-pub count_told : (s : List ℕ) (f : Field ℕ) → count_of s ≡ given f → CountTold s f
+pub count_told : (s : List ℕ) (f : Field ℕ) → count_of s ≡ Ok f → CountTold s f
 count_told s f e = go (dec_lt (length s) count_size)
   where
     go : Dec (length s < count_size) → CountTold s f
@@ -54,11 +55,11 @@ pub record NameSectionTold (s : List ℕ) (f : Field (List (List ℕ))) : Type 0
   pub bytes : drop count_size s ≡ names_bytes f.value f.rest
   pub rising : Rising [] f.value
 
-pub name_section_told : (s : List ℕ) (f : Field (List (List ℕ))) → name_section s ≡ given f → NameSectionTold s f
+pub name_section_told : (s : List ℕ) (f : Field (List (List ℕ))) → name_section s ≡ Ok f → NameSectionTold s f
 unfolding name_section
 name_section_told s f e = go (onward_given (count_of s) _ f e)
   where
-    go : ((n : Field ℕ) × (count_of s ≡ given n) × (refuse_if (not (good_count n.value)) BadNameCount (names_of n.value [] n.rest) ≡ given f)) →
+    go : ((n : Field ℕ) × (count_of s ≡ Ok n) × (refuse_if (not (good_count n.value)) BadNameCount (names_of n.value [] n.rest) ≡ Ok f)) →
         NameSectionTold s f
     go (n, h, e) =
         let c = check_given (not (good_count n.value)) BadNameCount (names_of n.value [] n.rest) f e in
@@ -83,14 +84,14 @@ nothing_left : (r : List ℕ) → length r ≤ 0 → r ≡ []
 nothing_left [] h = refl
 nothing_left (x ∷ r) h = absurd (omega arith)
 
-pub block_section_told : (n : ℕ) (s : List ℕ) (bs : List Block) → block_section n s ≡ given bs → BlockSectionTold n s bs
+pub block_section_told : (n : ℕ) (s : List ℕ) (bs : List Block) → block_section n s ≡ Ok bs → BlockSectionTold n s bs
 unfolding block_section
 block_section_told n s bs e = counted (onward_given (count_of s) _ bs e)
   where
-    ended : (m : Field ℕ) (f : Field (List Block)) → count_of s ≡ given m → blocks_of n m.value m.rest ≡ given f →
-        refuse_if (ltb 0 (length f.rest)) BytesLeftOver (given f.value) ≡ given bs → BlockSectionTold n s bs
+    ended : (m : Field ℕ) (f : Field (List Block)) → count_of s ≡ Ok m → blocks_of n m.value m.rest ≡ Ok f →
+        refuse_if (ltb 0 (length f.rest)) BytesLeftOver (Ok f.value) ≡ Ok bs → BlockSectionTold n s bs
     ended m f h b e =
-        let c = check_given (ltb 0 (length f.rest)) BytesLeftOver (given f.value) bs e in
+        let c = check_given (ltb 0 (length f.rest)) BytesLeftOver (Ok f.value) bs e in
         let k = count_told s m h in
         let t = blocks_told n m.value m.rest f b in
         let none : f.rest ≡ [] = nothing_left f.rest (ltb-false 0 (length f.rest) c.0) in
@@ -102,7 +103,7 @@ block_section_told n s bs e = counted (onward_given (count_of s) _ bs e)
           within = t.within;
         })
 
-    counted : ((m : Field ℕ) × (count_of s ≡ given m)
-        × (onward (blocks_of n m.value m.rest) (λ blocks. refuse_if (ltb 0 (length blocks.rest)) BytesLeftOver (given blocks.value)) ≡ given bs)) →
+    counted : ((m : Field ℕ) × (count_of s ≡ Ok m)
+        × (onward (blocks_of n m.value m.rest) (λ blocks. refuse_if (ltb 0 (length blocks.rest)) BytesLeftOver (Ok blocks.value)) ≡ Ok bs)) →
         BlockSectionTold n s bs
     counted (m, h, e) = let o = onward_given (blocks_of n m.value m.rest) _ bs e in ended m o.0 h o.1 o.2

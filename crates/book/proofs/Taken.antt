@@ -1,5 +1,6 @@
 -- The laws of a book that the calls take. What is checked of a whole book is opened in the first part alone.
 -- Assumes nothing.
+use Rattle.std.specs.Prelude.{Ok, Err}
 use Prim.Native.Nat.{ℕ, ◌≤◌, ◌<◌}
 use mathlib.Core.Path.{◌≡◌, refl, ◌∙◌, ap, subst}
 use mathlib.Core.Bool.{true, false, not}
@@ -11,12 +12,10 @@ use lib.ListN.{length}
 use borrow.Author.Tests.{lt-ltb, le-ltb, ltb-true, ltb-false, not-true, not-false}
 use Rattle.refusal.specs.declared.Refusal.{Refusal}
 use Rattle.refusal.specs.declared.Refusal.TheVariants.{UnusedName}
-use Rattle.refusal.specs.declared.Outcome.TheVariants.{Done, Refused}
 use Rattle.refusal.specs.Table.{of_book}
-use Rattle.refusal.specs.Answer.{Answer, given, refused, onward}
+use Rattle.refusal.specs.Answer.{Answer, onward}
 use Rattle.refusal.proofs.Answers.{given_same, given_refused, onward_given, onward_refused, check_given, check_refused}
 use Rattle.book.specs.declared.Layout.{Layout}
-use Rattle.book.specs.declared.Reading.{Reading}
 use Rattle.book.specs.Book.{Book, book_of, IsBook, names_in, blocks_in}
 use Rattle.book.specs.Layout.{layout_of, reading_of}
 use Rattle.book.specs.Access.{LaidOut}
@@ -30,13 +29,13 @@ use Rattle.book.proofs.Used.{unused_law, all_used_law}
 -- ---- which bytes are taken, and which are refused
 
 -- what the check of a whole book gives
-pub checked_given : (b c : Book) → checked_book b ≡ given c → (has_unused b ≡ false) × (b ≡ c)
+pub checked_given : (b c : Book) → checked_book b ≡ Ok c → (has_unused b ≡ false) × (b ≡ c)
 unfolding checked_book
-checked_given b c e = let h = check_given (has_unused b) UnusedName (given b) c e in (h.0, given_same b c h.1)
+checked_given b c e = let h = check_given (has_unused b) UnusedName (Ok b) c e in (h.0, given_same b c h.1)
 
-checked_refused : (b : Book) (f : Refusal) → checked_book b ≡ refused f → (has_unused b ≡ true) × (UnusedName ≡ f)
+checked_refused : (b : Book) (f : Refusal) → checked_book b ≡ Err f → (has_unused b ≡ true) × (UnusedName ≡ f)
 unfolding checked_book
-checked_refused b f e = ⊎_elim (λ h. h) (λ h. absurd (given_refused b f h.1)) (check_refused (has_unused b) UnusedName (given b) f e)
+checked_refused b f e = ⊎_elim (λ h. h) (λ h. absurd (given_refused b f h.1)) (check_refused (has_unused b) UnusedName (Ok b) f e)
 
 module _ (s : List ℕ) where
   -- Bytes are taken as b exactly where they are the book b and each name of it is used.
@@ -44,14 +43,14 @@ module _ (s : List ℕ) where
   unfolding taken_book checked_book
   taken_law b = (λ e. to (onward_given (book_of s) checked_book b e), λ (q, u). rw (q, (all_used_law b).1 u))
     where
-      to : ((x : Book) × (book_of s ≡ given x) × (checked_book x ≡ given b)) → IsBook s b × AllUsed b
-      to (x, q, h) = let k = checked_given x b h in (q ∙ ap given k.1, subst AllUsed k.1 ((all_used_law x).0 k.0))
+      to : ((x : Book) × (book_of s ≡ Ok x) × (checked_book x ≡ Ok b)) → IsBook s b × AllUsed b
+      to (x, q, h) = let k = checked_given x b h in (q ∙ ap Ok k.1, subst AllUsed k.1 ((all_used_law x).0 k.0))
 
   pub is_book : (b : Book) → TakenAs s b → IsBook s b
   is_book b e = ((taken_law b).0 e).0
 
   -- They are refused by a number that comes while a book is read exactly where its condition holds,
-  pub taken_refused : (f : Refusal) → ¬ (UnusedName ≡ f) → (taken_book s ≡ refused f) ↔ Stops s f
+  pub taken_refused : (f : Refusal) → ¬ (UnusedName ≡ f) → (taken_book s ≡ Err f) ↔ Stops s f
   unfolding taken_book
   taken_refused f d = (
     λ e. (book_refused s f).0 (⊎_elim (λ q. q) (λ (b, q, h). absurd (d (checked_refused b f h).1)) (onward_refused (book_of s) checked_book f e)),
@@ -59,18 +58,18 @@ module _ (s : List ℕ) where
   )
 
   -- and by 17 exactly where they are a book with an unused name;
-  pub taken_unused : (taken_book s ≡ refused UnusedName) ↔ ((b : Book) × IsBook s b × ((i : ℕ) × Unused b i))
+  pub taken_unused : (taken_book s ≡ Err UnusedName) ↔ ((b : Book) × IsBook s b × ((i : ℕ) × Unused b i))
   unfolding taken_book checked_book
   taken_unused = (λ e. ⊎_elim never to (onward_refused (book_of s) checked_book UnusedName e), λ (b, q, u). rw (q, (unused_law b).1 u))
     where
-      never : book_of s ≡ refused UnusedName → (b : Book) × IsBook s b × ((i : ℕ) × Unused b i)
+      never : book_of s ≡ Err UnusedName → (b : Book) × IsBook s b × ((i : ℕ) × Unused b i)
       never q = absurd ((book_stops s UnusedName q).1 refl)
 
-      to : ((b : Book) × (book_of s ≡ given b) × (checked_book b ≡ refused UnusedName)) → (b : Book) × IsBook s b × ((i : ℕ) × Unused b i)
+      to : ((b : Book) × (book_of s ≡ Ok b) × (checked_book b ≡ Err UnusedName)) → (b : Book) × IsBook s b × ((i : ℕ) × Unused b i)
       to (b, q, h) = (b, q, (unused_law b).0 (checked_refused b UnusedName h).0)
 
   -- so by the numbers of a book and by no other.
-  pub taken_stops : (f : Refusal) → taken_book s ≡ refused f → of_book f ≡ true
+  pub taken_stops : (f : Refusal) → taken_book s ≡ Err f → of_book f ≡ true
   unfolding taken_book
   taken_stops f e =
       ⊎_elim (λ q. (book_stops s f q).0) (λ (b, q, h). subst (λ (r : Refusal). of_book r ≡ true) (checked_refused b f h).1 refl)
@@ -88,38 +87,42 @@ good_parent b p = let n = length b.names in (λ e. ltb-true p n (not-false (ltb 
 
 -- ---- a call that took a book: it is refused so, or it goes on from a book that is laid out
 
-module _ (s : List ℕ) (r : Reading) (read : r ≡ reading_of (taken_book s)) where
-  pub take_refused : {A : Type 0} (next : Book → Answer A) (f : Refusal) → r.outcome ≡ Refused f → onward (taken_book s) next ≡ refused f
-  take_refused next f o = rw (reading_refused (taken_book s) r f read o)
+module _ (s : List ℕ) where
+  pub take_refused : {A : Type 0} (next : Book → Answer A) (f : Refusal) → Err f ≡ reading_of (taken_book s) → onward (taken_book s) next ≡ Err f
+  take_refused next f e = rw (reading_refused (taken_book s) f e)
 
-  module _ (done : r.outcome ≡ Done) where
+  module _ (l : Layout) (read : Ok l ≡ reading_of (taken_book s)) where
     pub book : Book
-    book = (reading_done (taken_book s) r read done).0
+    book = (reading_done (taken_book s) l read).0
 
     pub taken : TakenAs s book
     unfolding book
-    taken = (reading_done (taken_book s) r read done).1
+    taken = (reading_done (taken_book s) l read).1
 
-    pub laid : LaidOut s r.layout
+    pub laid : LaidOut s l
     unfolding book
-    laid = record { book = book; read = is_book s book taken; same = (reading_done (taken_book s) r read done).2 }
+    laid = record { book = book; read = is_book s book taken; same = (reading_done (taken_book s) l read).2 }
+
+    pub layout_is : l ≡ layout_of book
+    unfolding book
+    layout_is = (reading_done (taken_book s) l read).2
 
     -- the layout's count is that of the names
-    pub names_are : r.layout.names ≡ length book.names
+    pub names_are : l.names ≡ length book.names
     unfolding laid layout_of
     names_are = ap (λ (x : Layout). x.names) laid.same
 
     pub names_taken : names_in s ≡ book.names
     unfolding laid
-    names_taken = names_in_lem s r.layout laid
+    names_taken = names_in_lem s l laid
 
     pub blocks_taken : blocks_in s ≡ book.blocks
     unfolding laid
-    blocks_taken = blocks_in_lem s r.layout laid
+    blocks_taken = blocks_in_lem s l laid
 
     -- the parent asked for, by the layout's count
-    pub parent_refused : (p : ℕ) → r.layout.names ≤ p → bad_parent book p ≡ true
-    parent_refused p l = (bad_parent_lem book p).1 (omega (arith, names_are))
+    pub parent_refused : (p : ℕ) → l.names ≤ p → bad_parent book p ≡ true
+    parent_refused p h = (bad_parent_lem book p).1 (omega (arith, names_are))
 
-    pub parent_passed : (p : ℕ) → p < r.layout.names → bad_parent book p ≡ false
-    parent_passed p l = (good_parent book p).1 (omega (arith, names_are))
+    pub parent_passed : (p : ℕ) → p < l.names → bad_parent book p ≡ false
+    parent_passed p h = (good_parent book p).1 (omega (arith, names_are))

@@ -1,14 +1,11 @@
 -- A means: where the parts of a book are among its bytes, so that a name or a block is found again without reading from
 -- the start. The laws of crates/book/proofs/Laws.antt join it to the book.
 -- Assumes nothing.
-use Rattle.std.specs.Prelude.{ℕ, ◌+◌, List, [], ◌∷◌, length, replicate}
+use Rattle.std.specs.Prelude.{ℕ, ◌+◌, List, [], ◌∷◌, length, replicate, Ok, Err}
 use Rattle.std.proofs.lemmas.List.Edits.{sets}
-use Rattle.refusal.specs.declared.Refusal.{Refusal}
-use Rattle.refusal.specs.declared.Outcome.TheVariants.{Done, Refused}
-use Rattle.refusal.specs.Answer.{Answer, given, refused}
+use Rattle.refusal.specs.Answer.{Answer}
 use Rattle.nameset.specs.Places.{places}
 use Rattle.book.specs.declared.Layout.{Layout}
-use Rattle.book.specs.declared.Reading.{Reading}
 use Rattle.book.specs.Field.{count_size}
 use Rattle.book.specs.Book.{Book}
 
@@ -40,15 +37,7 @@ layout_of b =
       blocks = length b.blocks;
     }
 
--- what stands in the place of the layout of a refused book
-unfoldable pub no_layout : Layout
-no_layout = record { names = 0; offsets = no_offsets; body = 0; blocks = 0 }
-
--- the answer to a refused book
-unfoldable pub no_reading : Refusal → Reading
-no_reading r = record { outcome = Refused r; layout = no_layout }
-
--- The answer to every book.
-unfoldable pub reading_of : Answer Book → Reading
-reading_of (given b) = record { outcome = Done; layout = layout_of b }
-reading_of (refused r) = no_reading r
+-- The answer to every book: its layout, or the refusal that comes first.
+unfoldable pub reading_of : Answer Book → Answer Layout
+reading_of (Ok b) = Ok (layout_of b)
+reading_of (Err r) = Err r

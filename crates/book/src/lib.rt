@@ -2,7 +2,6 @@
 #![tactic(auto)]
 
 use nameset::PLACES;
-use refusal::Outcome;
 
 // The bytes of a block before its children, and where among them the text byte and the number of the children stand.
 pub const HEAD_SIZE: usize = 3;
@@ -22,18 +21,4 @@ pub struct Layout {
     pub body: usize,
     // how many blocks there are: paper 01's M
     pub blocks: usize,
-}
-
-// A book that was read; the layout of a refused one is all 0.
-#[derive(Clone, Copy)]
-pub struct Reading {
-    pub outcome: Outcome,
-    pub layout: Layout,
-}
-
-// The number of a name, or that no name has these bytes.
-#[derive(Clone, Copy)]
-pub enum Found {
-    At(usize),
-    Nothing,
 }

@@ -13,7 +13,7 @@ pub const COUNT_SIZE: usize = 2;
 pub fn wide(byte: u8) -> usize
     ensures { (result ≡ byte) × (result < 256) }
 {
-    byte as usize
+    usize::from(byte)
 }
 
 // The count at a place, the low byte first.
@@ -21,7 +21,7 @@ pub fn count_at(bytes: &[u8], at: usize) -> usize
     requires { at + count_size ≤ length bytes.now }
     ensures { (result ≡ count_at bytes.now at) × (result < 65536) }
 {
-    wide(bytes[at]) + 256 * wide(bytes[at + 1])
+    usize::from(u16::from_le_bytes([bytes[at], bytes[at + 1]]))
 }
 
 // The bytes from one place up to another.
@@ -33,9 +33,10 @@ pub fn part(bytes: &[u8], from: usize, to: usize) -> &[u8]
 }
 
 // Whether each number of a word is below n.
+#[tactic(auto, using(crate::proofs::Below::judged))]
 pub fn all_below(word: &[u8], n: usize) -> bool
     requires { 0 < n }
     ensures { result ≡ all_below n word.now }
 {
-    wide(largest_from(word, 0)) < n
+    usize::from(largest_from(word, 0)) < n
 }

@@ -1,5 +1,6 @@
 -- A book taken in three steps is the book taken: what the answer of the first tells, and that of the last.
 -- Assumes nothing.
+use Rattle.std.specs.Prelude.{Ok, Err}
 use Prim.Native.Nat.{ℕ, ◌+◌, ◌-◌, ◌≤◌, ◌<◌}
 use mathlib.Core.Path.{◌≡◌, refl, sym, ◌∙◌, ap, subst}
 use mathlib.Core.Bool.{Bool, true, false, not, cond}
@@ -12,19 +13,16 @@ use lib.Seq.{drop-drop}
 use borrow.Author.Tests.{lt-ltb, le-ltb, ltb-false}
 use Rattle.refusal.specs.declared.Refusal.{Refusal}
 use Rattle.refusal.specs.declared.Refusal.TheVariants.{BookTooLong, BytesLeftOver, UnusedName}
-use Rattle.refusal.specs.declared.Outcome.TheVariants.{Done, Refused}
-use Rattle.refusal.specs.Answer.{Answer, given, refused, onward, refuse_if, value_or}
-use Rattle.refusal.proofs.Laws.{refused_alike, Done≢Refused}
-use Rattle.refusal.proofs.Answers.{onward_given, check_given, given_same}
+use Rattle.refusal.specs.Answer.{Answer, onward, refuse_if, value_or}
+use Rattle.refusal.proofs.Answers.{onward_given, check_given, given_same, refused_same, given_refused}
 use Rattle.nameset.specs.declared.NameSet.{NameSet}
 use Rattle.nameset.specs.Places.{places}
 use Rattle.nameset.specs.Set.{below, is_empty}
 use Rattle.nameset.proofs.Count.{count_bounds}
 use Rattle.book.specs.declared.Layout.{Layout}
-use Rattle.book.specs.declared.Reading.{Reading}
 use Rattle.book.specs.Field.{Field, count_size, count_of}
 use Rattle.book.specs.Book.{Block, Book, longest_book, name_section, blocks_of, block_section, book_of}
-use Rattle.book.specs.Layout.{offset_table, end_from, layout_of, no_reading, reading_of}
+use Rattle.book.specs.Layout.{offset_table, end_from, layout_of, reading_of}
 use Rattle.book.specs.Used.{some_unused, has_unused}
 use Rattle.book.specs.Taken.{checked_book, taken_book}
 use Rattle.book.proofs.Told.{blocks_told}
@@ -33,7 +31,6 @@ use Rattle.book.proofs.Sections.{name_section_told, count_told, behind_names_lem
 use Rattle.book_unused.specs.Unused.{without_blocks}
 use Rattle.book_unused.proofs.Laws.{all_taken_out}
 use Rattle.book_blocks.specs.declared.BlocksEnd.{BlocksEnd}
-use Rattle.book_blocks.specs.declared.BlocksEnd.TheVariants.{End}
 use Rattle.book_blocks.specs.Tables.{behind_blocks, blocks_end}
 use Rattle.book_blocks.specs.Gathers.{blocks_from, GathersAll}
 use Rattle.book_blocks.proofs.Steps.{behind_blocks_lem}
@@ -44,10 +41,10 @@ use Rattle.book_reading.specs.Opening.{Head, head_of, body_of, blocks_read, head
 
 -- the parts of both, by name
 abbrev headed : List (List ℕ) → Field ℕ → Answer Head
-headed names m = given (record { names = names; count = m.value; rest = m.rest })
+headed names m = Ok (record { names = names; count = m.value; rest = m.rest })
 
 abbrev whole : List (List ℕ) → List Block → Answer Book
-whole names blocks = given (record { names = names; blocks = blocks })
+whole names blocks = Ok (record { names = names; blocks = blocks })
 
 abbrev checked : List (List ℕ) → List Block → Answer Book
 checked names blocks = checked_book (record { names = names; blocks = blocks })
@@ -62,12 +59,12 @@ abbrev sectioned : Field (List (List ℕ)) → Answer Book
 sectioned names = onward (block_section (length names.value) names.rest) (whole names.value)
 
 by_end : (names : List (List ℕ)) (a : Answer (Field (List Block))) →
-    onward a (λ blocks. ended blocks (checked names)) ≡ onward (onward (onward a (λ blocks. ended blocks given)) (whole names)) checked_book
-by_end names (refused r) = refl
-by_end names (given blocks) = go (ltb 0 (length blocks.rest))
+    onward a (λ blocks. ended blocks (checked names)) ≡ onward (onward (onward a (λ blocks. ended blocks Ok)) (whole names)) checked_book
+by_end names (Err r) = refl
+by_end names (Ok blocks) = go (ltb 0 (length blocks.rest))
   where
     go : (left : Bool) →
-        refuse_if left BytesLeftOver (checked names blocks.value) ≡ onward (onward (refuse_if left BytesLeftOver (given blocks.value)) (whole names)) checked_book
+        refuse_if left BytesLeftOver (checked names blocks.value) ≡ onward (onward (refuse_if left BytesLeftOver (Ok blocks.value)) (whole names)) checked_book
     go true = refl
     go false = refl
 
@@ -76,17 +73,17 @@ unfolding body_of block_section
 by_count names = go (count_of names.rest)
   where
     go : (a : Answer (Field ℕ)) → onward (onward a (headed names.value)) body_of
-        ≡ onward (onward (onward a (λ m. onward (blocks_of (length names.value) m.value m.rest) (λ blocks. ended blocks given))) (whole names.value)) checked_book
-    go (refused r) = refl
-    go (given m) = by_end names.value (blocks_of (length names.value) m.value m.rest)
+        ≡ onward (onward (onward a (λ m. onward (blocks_of (length names.value) m.value m.rest) (λ blocks. ended blocks Ok))) (whole names.value)) checked_book
+    go (Err r) = refl
+    go (Ok m) = by_end names.value (blocks_of (length names.value) m.value m.rest)
 
 pub taken_by_head : (s : List ℕ) → onward (head_of s) body_of ≡ taken_book s
 unfolding head_of book_of taken_book
 taken_by_head s = long (ltb longest_book (length s))
   where
     names_first : (a : Answer (Field (List (List ℕ)))) → onward (onward a named) body_of ≡ onward (onward a sectioned) checked_book
-    names_first (refused r) = refl
-    names_first (given names) = by_count names
+    names_first (Err r) = refl
+    names_first (Ok names) = by_count names
 
     long : (t : Bool) → onward (refuse_if t BookTooLong (onward (name_section s) named)) body_of ≡ onward (refuse_if t BookTooLong (onward (name_section s) sectioned)) checked_book
     long true = refl
@@ -101,12 +98,12 @@ pub record HeadTold (s : List ℕ) (h : Head) : Type 0 where
   pub fits : end_from count_size h.names + count_size ≤ length s
   pub rest : drop (end_from count_size h.names + count_size) s ≡ h.rest
 
-pub head_told : (s : List ℕ) (h : Head) → head_of s ≡ given h → HeadTold s h
+pub head_told : (s : List ℕ) (h : Head) → head_of s ≡ Ok h → HeadTold s h
 unfolding head_of
 head_told s h e = found (check_given (ltb longest_book (length s)) BookTooLong _ h e)
   where
-    counted : length s ≤ longest_book → (f : Field (List (List ℕ))) → name_section s ≡ given f →
-        ((m : Field ℕ) × (count_of f.rest ≡ given m) × (headed f.value m ≡ given h)) → HeadTold s h
+    counted : length s ≤ longest_book → (f : Field (List (List ℕ))) → name_section s ≡ Ok f →
+        ((m : Field ℕ) × (count_of f.rest ≡ Ok m) × (headed f.value m ≡ Ok h)) → HeadTold s h
     counted l f p (m, q, e) =
         let t = name_section_told s f p in
         let c = count_bounds (length f.value) t.good in
@@ -123,31 +120,31 @@ head_told s h e = found (check_given (ltb longest_book (length s)) BookTooLong _
           rest = sym (drop-drop count_size (end_from count_size f.value) s) ∙ ap (drop count_size) z.1 ∙ k.rest;
         })
 
-    found : ((ltb longest_book (length s) ≡ false) × (onward (name_section s) named ≡ given h)) → HeadTold s h
+    found : ((ltb longest_book (length s) ≡ false) × (onward (name_section s) named ≡ Ok h)) → HeadTold s h
     found (l, e) =
         let o = onward_given (name_section s) _ h e in
         counted (ltb-false longest_book (length s) l) o.0 o.1 (onward_given (count_of o.0.rest) _ h o.2)
 
-opening_done : (a : Answer Head) (r : Reading) → r ≡ opening_of a → r.outcome ≡ Done → (h : Head) × (a ≡ given h) × (r.layout ≡ head_layout h)
-unfolding opening_of no_reading
-opening_done (given h) r e d = (h, refl, ap (λ (x : Reading). x.layout) e)
-opening_done (refused f) r e d = absurd (Done≢Refused f (sym d ∙ ap (λ (x : Reading). x.outcome) e))
+opening_done : (a : Answer Head) (l : Layout) → Ok l ≡ opening_of a → (h : Head) × (a ≡ Ok h) × (l ≡ head_layout h)
+unfolding opening_of
+opening_done (Ok h) l e = (h, refl, given_same _ _ e)
+opening_done (Err f) l e = absurd (given_refused l f e)
 
-opening_refused : (a : Answer Head) (r : Reading) (f : Refusal) → r ≡ opening_of a → r.outcome ≡ Refused f → a ≡ refused f
-unfolding opening_of no_reading
-opening_refused (given h) r f e o = absurd (Done≢Refused f (sym (ap (λ (x : Reading). x.outcome) e) ∙ o))
-opening_refused (refused g) r f e o = ap refused (refused_alike g f (sym (ap (λ (x : Reading). x.outcome) e) ∙ o))
+opening_refused : (a : Answer Head) (f : Refusal) → Err f ≡ opening_of a → a ≡ Err f
+unfolding opening_of
+opening_refused (Ok h) f e = absurd (given_refused (head_layout h) f (sym e))
+opening_refused (Err g) f e = ap Err (sym (refused_same {A = Layout} f g e))
 
 -- ---- the end
 
 -- what is left of the bytes, and of the names, decides whether the book ends well
 closed : (s : List ℕ) (l : Layout) (b : Book) (blocks : Field (List Block)) (at : ℕ) (unused : NameSet) → blocks.value ≡ b.blocks → l ≡ layout_of b →
-    length blocks.rest ≡ length s - at → is_empty unused ≡ not (has_unused b) → closing (length s) l (End at unused) ≡ reading_of (ended blocks (checked b.names))
+    length blocks.rest ≡ length s - at → is_empty unused ≡ not (has_unused b) → closing (length s) l (Ok (record { at = at; unused = unused })) ≡ reading_of (ended blocks (checked b.names))
 unfolding closing reading_of checked_book
 closed s l b blocks at unused eb el er eu = go (dec_lt at (length s)) (has_unused b) refl
   where
     go : Dec (at < length s) → (t : Bool) → has_unused b ≡ t →
-        cond (ltb at (length s)) (no_reading BytesLeftOver) (cond (is_empty unused) (record { outcome = Done; layout = l }) (no_reading UnusedName)) ≡ reading_of (ended blocks (checked b.names))
+        cond (ltb at (length s)) (Err BytesLeftOver) (cond (is_empty unused) (Ok l) (Err UnusedName)) ≡ reading_of (ended blocks (checked b.names))
     go (yes h) t q = rw (lt-ltb at (length s) h, lt-ltb 0 (length blocks.rest) (omega arith))
     go (no h) true q = rw (le-ltb at (length s) (omega arith), le-ltb 0 (length blocks.rest) (omega arith), eb, eu, q)
     go (no h) false q = rw (le-ltb at (length s) (omega arith), le-ltb 0 (length blocks.rest) (omega arith), eb, eu, q, el)
@@ -158,46 +155,46 @@ same_layout h bs e = λ i. record { names = length h.names; offsets = offset_tab
 
 -- ---- the three steps
 
-module _ (s : List ℕ) (r : Reading) (opened : r ≡ opening_of (head_of s)) where
+module _ (s : List ℕ) where
   -- a head that is refused
-  module _ (f : Refusal) (stop : r.outcome ≡ Refused f) where
-    pub no_head : no_reading f ≡ reading_of (taken_book s)
+  module _ (f : Refusal) (stop : Err f ≡ opening_of (head_of s)) where
+    pub no_head : Err f ≡ reading_of (taken_book s)
     unfolding reading_of
-    no_head = ap reading_of (sym (ap (λ (a : Answer Head). onward a body_of) (opening_refused (head_of s) r f opened stop)) ∙ taken_by_head s)
+    no_head = ap reading_of (sym (ap (λ (a : Answer Head). onward a body_of) (opening_refused (head_of s) f stop)) ∙ taken_by_head s)
 
     none_read : [] ≡ blocks_read s
     unfolding blocks_read
-    none_read = rw (opening_refused (head_of s) r f opened stop)
+    none_read = rw (opening_refused (head_of s) f stop)
 
     -- nothing is gathered
     pub gathered_none : (K : List Block → List ℕ → Type 0) (t : List ℕ) → K [] t → K (blocks_read s) t
     gathered_none K t k = subst (λ (bs : List Block). K bs t) none_read k
 
   -- a head that was read
-  module _ (done : r.outcome ≡ Done) where
+  module _ (l : Layout) (opened : Ok l ≡ opening_of (head_of s)) where
     pub head : Head
-    head = (opening_done (head_of s) r opened done).0
+    head = (opening_done (head_of s) l opened).0
 
-    read : head_of s ≡ given head
+    read : head_of s ≡ Ok head
     unfolding head
-    read = (opening_done (head_of s) r opened done).1
+    read = (opening_done (head_of s) l opened).1
 
     told : HeadTold s head
     told = head_told s head read
 
-    layout_is : r.layout ≡ head_layout head
+    layout_is : l ≡ head_layout head
     unfolding head
-    layout_is = (opening_done (head_of s) r opened done).2
+    layout_is = (opening_done (head_of s) l opened).2
 
-    names_are : r.layout.names ≡ length head.names
+    names_are : l.names ≡ length head.names
     unfolding head_layout
     names_are = ap (λ (x : Layout). x.names) layout_is
 
-    body_is : r.layout.body ≡ end_from count_size head.names + count_size
+    body_is : l.body ≡ end_from count_size head.names + count_size
     unfolding head_layout
     body_is = ap (λ (x : Layout). x.body) layout_is
 
-    count_is : r.layout.blocks ≡ head.count
+    count_is : l.blocks ≡ head.count
     unfolding head_layout
     count_is = ap (λ (x : Layout). x.blocks) layout_is
 
@@ -205,59 +202,59 @@ module _ (s : List ℕ) (r : Reading) (opened : r ≡ opening_of (head_of s)) wh
     pub short : length s ≤ longest_book
     short = told.short
 
-    pub within : r.layout.body ≤ length s
+    pub within : l.body ≤ length s
     within = rw body_is told.fits
 
-    pub some : 0 < r.layout.names
+    pub some : 0 < l.names
     some = rw names_are told.some
 
-    pub few : r.layout.names ≤ places
+    pub few : l.names ≤ places
     few = rw names_are told.few
 
     -- the blocks as the loop reads them
-    due : blocks_of r.layout.names r.layout.blocks (drop r.layout.body s) ≡ blocks_of (length head.names) head.count head.rest
+    due : blocks_of l.names l.blocks (drop l.body s) ≡ blocks_of (length head.names) head.count head.rest
     due = (λ i. blocks_of (names_are i) (count_is i) (drop (body_is i) s)) ∙ ap (blocks_of (length head.names) head.count) told.rest
 
-    all_read : blocks_from r.layout.names r.layout.blocks (drop r.layout.body s) ≡ blocks_read s
+    all_read : blocks_from l.names l.blocks (drop l.body s) ≡ blocks_read s
     unfolding blocks_read
     all_read =
         (λ i. blocks_from (names_are i) (count_is i) (drop (body_is i) s))
         ∙ ap (blocks_from (length head.names) head.count) told.rest
-        ∙ sym (ap (λ (a : Answer Head). value_or [] (onward a (λ h. given (blocks_from (length h.names) h.count h.rest)))) read)
+        ∙ sym (ap (λ (a : Answer Head). value_or [] (onward a (λ h. Ok (blocks_from (length h.names) h.count h.rest)))) read)
 
     -- what is gathered is what the blocks that were read show
-    pub gathered_all : (K : List Block → List ℕ → Type 0) (t u : List ℕ) → K [] t → GathersAll K (blocks_from r.layout.names r.layout.blocks (drop r.layout.body s)) t u → K (blocks_read s) u
+    pub gathered_all : (K : List Block → List ℕ → Type 0) (t u : List ℕ) → K [] t → GathersAll K (blocks_from l.names l.blocks (drop l.body s)) t u → K (blocks_read s) u
     gathered_all K t u k g = subst (λ (bs : List Block). K bs u) all_read (g [] k)
 
     closes : (a : Answer (Field (List Block))) → blocks_of (length head.names) head.count head.rest ≡ a →
-        closing (length s) r.layout (blocks_end r.layout.body (below r.layout.names) a) ≡ reading_of (onward a (λ blocks. ended blocks (checked head.names)))
+        closing (length s) l (blocks_end l.body (below l.names) a) ≡ reading_of (onward a (λ blocks. ended blocks (checked head.names)))
     unfolding closing blocks_end reading_of has_unused
-    closes (refused f) e = refl
-    closes (given blocks) e =
+    closes (Err f) e = refl
+    closes (Ok blocks) e =
         let t = blocks_told (length head.names) head.count head.rest blocks e in
-        let behind : drop (behind_blocks r.layout.body blocks.value) s ≡ blocks.rest =
-        behind_blocks_lem s r.layout.body blocks.value blocks.rest (ap (λ (k : ℕ). drop k s) body_is ∙ told.rest ∙ t.bytes) in
-        closed s r.layout (record { names = head.names; blocks = blocks.value }) blocks (behind_blocks r.layout.body blocks.value)
-        (without_blocks (below r.layout.names) blocks.value) refl (layout_is ∙ same_layout head blocks.value t.many)
-        (ap length (sym behind) ∙ length-drop (behind_blocks r.layout.body blocks.value) s)
-        (all_taken_out r.layout.names blocks.value few ∙ ap (λ (n : ℕ). not (some_unused n blocks.value)) names_are)
+        let behind : drop (behind_blocks l.body blocks.value) s ≡ blocks.rest =
+        behind_blocks_lem s l.body blocks.value blocks.rest (ap (λ (k : ℕ). drop k s) body_is ∙ told.rest ∙ t.bytes) in
+        closed s l (record { names = head.names; blocks = blocks.value }) blocks (behind_blocks l.body blocks.value)
+        (without_blocks (below l.names) blocks.value) refl (layout_is ∙ same_layout head blocks.value t.many)
+        (ap length (sym behind) ∙ length-drop (behind_blocks l.body blocks.value) s)
+        (all_taken_out l.names blocks.value few ∙ ap (λ (n : ℕ). not (some_unused n blocks.value)) names_are)
 
     -- A book is taken as the last step says.
-    pub closed_book : (end : BlocksEnd) → end ≡ blocks_end r.layout.body (below r.layout.names) (blocks_of r.layout.names r.layout.blocks (drop r.layout.body s)) →
-        closing (length s) r.layout end ≡ reading_of (taken_book s)
+    pub closed_book : (end : Answer BlocksEnd) → end ≡ blocks_end l.body (below l.names) (blocks_of l.names l.blocks (drop l.body s)) →
+        closing (length s) l end ≡ reading_of (taken_book s)
     unfolding body_of
     closed_book end e =
-        ap (closing (length s) r.layout) (e ∙ ap (blocks_end r.layout.body (below r.layout.names)) due)
+        ap (closing (length s) l) (e ∙ ap (blocks_end l.body (below l.names)) due)
         ∙ closes (blocks_of (length head.names) head.count head.rest) refl
         ∙ ap reading_of (sym (ap (λ (a : Answer Head). onward a body_of) read) ∙ taken_by_head s)
 
 -- ---- the blocks read of a book that is taken are all of its blocks
 
-pub taken_blocks : (s : List ℕ) (b : Book) → taken_book s ≡ given b → blocks_read s ≡ b.blocks
+pub taken_blocks : (s : List ℕ) (b : Book) → taken_book s ≡ Ok b → blocks_read s ≡ b.blocks
 unfolding blocks_read body_of
 taken_blocks s b e = headed (onward_given (head_of s) body_of b (taken_by_head s ∙ e))
   where
-    headed : ((h : Head) × (head_of s ≡ given h) × (body_of h ≡ given b)) → blocks_read s ≡ b.blocks
+    headed : ((h : Head) × (head_of s ≡ Ok h) × (body_of h ≡ Ok b)) → blocks_read s ≡ b.blocks
     headed (h, p, q) =
         let o = onward_given (blocks_of (length h.names) h.count h.rest) _ b q in
         let c = check_given (ltb 0 (length o.0.rest)) BytesLeftOver _ b o.2 in

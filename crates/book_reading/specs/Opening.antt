@@ -2,19 +2,16 @@
 -- needs while they are read. `closed_book` in proofs/Closing.antt joins the steps to `taken_book`. To be believed is
 -- `blocks_read`, and for refused books `head_of` with it.
 -- Assumes nothing.
-use Rattle.std.specs.Prelude.{ℕ, ◌+◌, cond, List, [], ltb, length}
+use Rattle.std.specs.Prelude.{ℕ, ◌+◌, cond, List, [], ltb, length, Ok, Err}
 use Rattle.refusal.specs.declared.Refusal.TheVariants.{BookTooLong, BytesLeftOver, UnusedName}
-use Rattle.refusal.specs.declared.Outcome.TheVariants.{Done}
-use Rattle.refusal.specs.Answer.{Answer, given, refused, onward, refuse_if, value_or}
+use Rattle.refusal.specs.Answer.{Answer, onward, refuse_if, value_or}
 use Rattle.nameset.specs.Set.{is_empty}
 use Rattle.book.specs.declared.Layout.{Layout}
-use Rattle.book.specs.declared.Reading.{Reading}
 use Rattle.book.specs.Field.{count_size, count_of}
 use Rattle.book.specs.Book.{Block, Book, longest_book, name_section, blocks_of}
-use Rattle.book.specs.Layout.{offset_table, end_from, no_reading}
+use Rattle.book.specs.Layout.{offset_table, end_from}
 use Rattle.book.specs.Taken.{checked_book}
 use Rattle.book_blocks.specs.declared.BlocksEnd.{BlocksEnd}
-use Rattle.book_blocks.specs.declared.BlocksEnd.TheVariants.{End, Stopped}
 use Rattle.book_blocks.specs.Gathers.{blocks_from}
 
 -- What comes before the first block: the names and the count M; `rest` follows them.
@@ -29,7 +26,7 @@ head_of bytes =
     refuse_if (ltb longest_book (length bytes)) BookTooLong
     (onward (name_section bytes) (λ names.
     onward (count_of names.rest) (λ m.
-    given (record { names = names.value; count = m.value; rest = m.rest }))))
+    Ok (record { names = names.value; count = m.value; rest = m.rest }))))
 
 -- The blocks behind a head, then the book's end ("7: bytes left over"), then what is checked of a whole book (17).
 unfoldable pub body_of : Head → Answer Book
@@ -41,7 +38,7 @@ body_of h =
 -- The blocks that are read of these bytes before the call stops: all blocks of a book that is not refused
 -- (`taken_blocks` in proofs/Closing.antt), and of one that is refused those before the fault.
 unfoldable pub blocks_read : List ℕ → List Block
-blocks_read bytes = value_or [] (onward (head_of bytes) (λ h. given (blocks_from (length h.names) h.count h.rest)))
+blocks_read bytes = value_or [] (onward (head_of bytes) (λ h. Ok (blocks_from (length h.names) h.count h.rest)))
 
 -- The layout of a book with this head.
 unfoldable pub head_layout : Head → Layout
@@ -54,13 +51,12 @@ head_layout h =
     }
 
 -- The answer to the first step.
-unfoldable pub opening_of : Answer Head → Reading
-opening_of (given h) = record { outcome = Done; layout = head_layout h }
-opening_of (refused r) = no_reading r
+unfoldable pub opening_of : Answer Head → Answer Layout
+opening_of (Ok h) = Ok (head_layout h)
+opening_of (Err r) = Err r
 
 -- The answer to the last step, for a book of so many bytes with this layout, whose blocks ended so.
-unfoldable pub closing : ℕ → Layout → BlocksEnd → Reading
-closing size layout (End at unused) =
-    cond (ltb at size) (no_reading BytesLeftOver)
-    (cond (is_empty unused) (record { outcome = Done; layout = layout }) (no_reading UnusedName))
-closing size layout (Stopped r) = no_reading r
+unfoldable pub closing : ℕ → Layout → Answer BlocksEnd → Answer Layout
+closing size layout (Ok end) =
+    cond (ltb end.at size) (Err BytesLeftOver) (cond (is_empty end.unused) (Ok layout) (Err UnusedName))
+closing size layout (Err r) = Err r

@@ -8,7 +8,6 @@ ghost use Rattle.book.specs.Bytes.{head_size};
 ghost use Rattle.book_unused.specs.Unused.{without_word, without_block, block_at};
 
 use book::HEAD_SIZE;
-use book_bytes::{part, wide};
 use nameset::NameSet;
 
 // A set without the numbers of a word.
@@ -17,10 +16,8 @@ fn without_word(set: NameSet, word: &[u8]) -> NameSet
     ensures { result ≡ without_word set word.now }
 {
     let mut left = set;
-    let mut i = 0;
-    while i < word.len() {
-        left = left.without(wide(word[i]));
-        i += 1;
+    for &name in word {
+        left = left.without(usize::from(name));
     }
     left
 }
@@ -32,5 +29,6 @@ pub fn without_block(set: NameSet, bytes: &[u8], at: usize, size: usize) -> Name
     ensures { result ≡ without_block set (block_at bytes.now at size) }
 {
     let from = at + HEAD_SIZE;
-    without_word(set.without(wide(bytes[at])), part(bytes, from, from + size))
+    let parent = usize::from(bytes[at]);
+    without_word(set.without(parent), &bytes[from..from + size])
 }

@@ -5,16 +5,14 @@ ghost use Rattle.std.specs.Prelude.{◌+◌, ◌≤◌, length};
 ghost use Rattle.byte_buffer.specs.Put.{Put, shown};
 
 // All of the bytes.
+#[tactic(auto, using(crate::proofs::Puts::put_over))]
 pub fn put_all(buffer: &mut [u8], at: usize, bytes: &[u8]) -> usize
     requires { at + length bytes.now ≤ length buffer.old }
     ensures { Put buffer.old at bytes.now result buffer.new }
 {
-    let mut i = 0;
-    while i < bytes.len() {
-        buffer[at + i] = bytes[i];
-        i += 1;
-    }
-    at + i
+    let to = at + bytes.len();
+    buffer[at..to].copy_from_slice(bytes);
+    to
 }
 
 // One byte, or nothing for 0.

@@ -7,7 +7,7 @@ ghost use Rattle.byte_row.specs.Largest.{largest};
 pub fn larger(a: u8, b: u8) -> u8
     ensures { result ≡ max a b }
 {
-    if a < b { b } else { a }
+    a.max(b)
 }
 
 // The largest of the bytes from a place on, 0 where there is none. No early end: the loop runs over many bytes at once.
@@ -15,10 +15,8 @@ pub fn largest_from(row: &[u8], from: usize) -> u8
     ensures { result ≡ largest (drop from row.now) }
 {
     let mut top: u8 = 0;
-    let mut i = from;
-    while i < row.len() {
-        top = larger(top, row[i]);
-        i += 1;
+    for x in &row[from.min(row.len())..] {
+        top = top.max(*x);
     }
     top
 }

@@ -64,13 +64,6 @@ pub meet_law : (a b s : NameSet) (r : Bool) → ((j : ℕ) → member s j ≡ (m
 unfolding meets
 meet_law a b s r law e = some_set s r e ∙ ap (any_below places) (fun_ext law)
 
--- the three tests of a step over a level, one after the other
-pub over_end : (empty a b r : Bool) → empty ≡ false → r ≡ a → r ≡ true → true ≡ (empty || (a || b))
-over_end empty a b r n e t = rw (n, ← e, t)
-
-pub over_rest : (empty a b r q : Bool) → empty ≡ false → r ≡ a → r ≡ false → q ≡ b → q ≡ (empty || (a || b))
-over_rest empty a b r q n e t f = rw (n, ← e, t) f
-
 -- stepped has the names that start, or a name of the set lower, leads to
 pub record Stepped (starts : NameSet) (follows : List ℕ) (lower stepped : NameSet) : Type 0 where
   pub law : (b : ℕ) → member stepped b ≡ (member starts b || in_rows places (in_row follows) (member lower) b)

@@ -19,6 +19,7 @@ use model::Chain;
 use nameset::{NameSet, row_at};
 
 // Whether a name is in both sets.
+#[tactic(auto, using(crate::proofs::Sets::meet_law))]
 fn meets(a: NameSet, b: NameSet) -> bool
     ensures { result ≡ meets places (member a) (member b) }
 {
@@ -31,13 +32,7 @@ fn steps_over(empty: bool, ends: NameSet, stepped: NameSet, lower: NameSet, high
     ensures { result ≡ (empty || (meets places (member ends) (member lower)
         || meets places (member stepped) (member higher))) }
 {
-    if empty {
-        return true;
-    }
-    if meets(ends, lower) {
-        return true;
-    }
-    meets(stepped, higher)
+    empty || meets(ends, lower) || meets(stepped, higher)
 }
 
 // The names that stand behind none of the others: of those that are left, the next level. What stands behind a name
@@ -49,6 +44,7 @@ fn next_level(behind: &[u64], higher: NameSet, likely: NameSet) -> NameSet
 {
     let mut level = higher;
     let mut left = higher;
+    // No `for` over the names: each turn takes all that stand behind one off those that are left.
     while !left.is_empty() {
         let a = pick(left, likely);
         let row = row_at(behind, a);
@@ -70,11 +66,12 @@ pub fn chain(starts: NameSet, ends: NameSet, follows: &[u64], empty: bool, n: us
     let mut lower = NameSet::empty();
     let mut higher = with_rows(starts, follows, n);
     let mut stepped = starts;
+    // No `for` over the names: each turn takes a whole level off them.
     while !higher.is_empty() {
         let level = next_level(&loops.behind, higher, stepped);
         let above = higher.minus(level);
         let skipped = steps_over(empty, ends, stepped, lower, above);
-        let next = with_level(
+        m = with_level(
             m,
             &reach,
             &loops.behind,
@@ -82,7 +79,6 @@ pub fn chain(starts: NameSet, ends: NameSet, follows: &[u64], empty: bool, n: us
             level.both(loops.leaders),
             skipped,
         );
-        m = next;
         stepped = stepped.union(rows_of(follows, level));
         lower = lower.union(level);
         higher = above;

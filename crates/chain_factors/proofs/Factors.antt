@@ -12,6 +12,8 @@ use Rattle.nameset.specs.Places.{places}
 use Rattle.nameset.specs.declared.NameSet.{NameSet}
 use Rattle.nameset.specs.Set.{member, first}
 use Rattle.nameset.specs.Promise.{Emptiness}
+use Rattle.nameset.specs.Names.{Given, Ended}
+use Rattle.nameset.proofs.Turns.{given_member, given_rest, given_least, none_left}
 use Rattle.model.specs.declared.Chain.{Chain}
 use Rattle.model.specs.Build.{with_factor}
 use Rattle.chain_levels.specs.Below.{any_below, count_below}
@@ -64,16 +66,25 @@ pub record Appended (leaders left : NameSet) (holds : ℕ → ℕ → Bool) (mod
   pub same : out ≡ with_each (member leaders) holds mode upto m
   pub rest : (x : ℕ) → member left x ≡ (leb upto x && member leaders x)
 
-pub append_none : (leaders : NameSet) (holds : ℕ → ℕ → Bool) (mode : ℕ) (m : Chain) → Appended leaders leaders holds mode m m
+pub append_none : (leaders left : NameSet) (holds : ℕ → ℕ → Bool) (mode : ℕ) (m : Chain) → left ≡ leaders → Appended leaders left holds mode m m
 unfolding with_each
-append_none leaders holds mode m = record { upto = 0; few = omega arith; same = refl; rest = λ x. sym (rw (le-leb 0 x (omega arith))) }
+append_none leaders left holds mode m e = record { upto = 0; few = omega arith; same = refl; rest = λ x. ap (λ (s : NameSet). member s x) e ∙ sym (rw (le-leb 0 x (omega arith))) }
 
 module _ {leaders left : NameSet} {holds : ℕ → ℕ → Bool} {mode : ℕ} {m out : Chain} (a : Appended leaders left holds mode m out) where
   -- a leader that is not left stands below
   absent : (x : ℕ) → a.upto ≤ x → member left x ≡ false → member leaders x ≡ false
   absent x l e = sym (sym e ∙ a.rest x ∙ rw (le-leb a.upto x l))
 
-  module _ (k : ℕ) (h : k < places) (e : member left k ≡ true) (least : (j : ℕ) → j < k → member left j ≡ false) where
+  module _ {k : ℕ} {others : NameSet} (g : Given left k others) where
+    h : k < places
+    h = (given_member g).0
+
+    e : member left k ≡ true
+    e = (given_member g).1
+
+    least : (j : ℕ) → j < k → member left j ≡ false
+    least = given_least g
+
     there : (a.upto ≤ k) × (member leaders k ≡ true)
     there = let p = (and_is (leb a.upto k) (member leaders k)).0 (sym (a.rest k) ∙ e) in (leb-true a.upto k p.0, p.1)
 
@@ -104,21 +115,20 @@ module _ {leaders left : NameSet} {holds : ℕ → ℕ → Bool} {mode : ℕ} {m
         let w : member left x ≡ false = a.rest x ∙ rw y in
         rw (w, z)
 
-    pub append_more : (rest : NameSet) (next : Chain) → k ≡ first left → ((x : ℕ) → member rest x ≡ (member left x && not (eqb (first left) x))) →
-        next ≡ with_factor out (holds k) mode → Appended leaders rest holds mode m next
-    append_more rest next f law n =
+    pub append_more : (next : Chain) → next ≡ with_factor out (holds k) mode → Appended leaders others holds mode m next
+    append_more next n =
         record {
           upto = suc k;
           few = h;
           same = n ∙ step;
-          rest = λ x. law x ∙ ap (λ (j : ℕ). member left x && not (eqb j x)) (sym f) ∙ left_next x (ℕ_discrete k x) (dec_le a.upto x);
+          rest = λ x. given_rest g x ∙ left_next x (ℕ_discrete k x) (dec_le a.upto x);
         }
       where
         step : with_factor out (holds k) mode ≡ with_each (member leaders) holds mode (suc k) m
         step = ap (λ (o : Chain). with_factor o (holds k) mode) at_k ∙ sym (next_each (member leaders) holds mode k m there.1)
 
-  pub append_all : ((x : ℕ) → member left x ≡ false) → out ≡ with_each (member leaders) holds mode places m
-  append_all e = a.same ∙ sym (each_upto (member leaders) holds mode a.upto places m a.few (λ x l i. absent x l (e x)))
+  pub append_all : {t : NameSet} → Ended left t → out ≡ with_each (member leaders) holds mode places m
+  append_all e = a.same ∙ sym (each_upto (member leaders) holds mode a.upto places m a.few (λ x l i. absent x l (none_left e x)))
 
 pub holds_group : (reach behind : List ℕ) (k : ℕ) (g : NameSet) (m n : Chain) (mode : ℕ) → g ≡ group_in reach behind k → n ≡ with_factor m (member g) mode → n ≡ with_factor m (holds_in reach behind k) mode
 unfolding holds_in
@@ -136,13 +146,12 @@ pub level_groups : (m first : Chain) (singles leaders : NameSet) (mode : ℕ) �
 unfolding factors
 level_groups m first singles leaders mode e h = omega (arith, ap (λ (o : Chain). o.count) e, any_count places (member singles) mode m)
 
-pub level_both : (m first out : Chain) (singles leaders : NameSet) (holds : ℕ → ℕ → Bool) (skipped one fixed : Bool) (plain group : ℕ) →
-    one ≡ eqb (factors places (member singles) (member leaders)) 1 → fixed ≡ (not skipped && one) → plain ≡ cond fixed 0 1 → group ≡ cond fixed 2 3 →
+pub level_both : (m first out : Chain) (singles leaders : NameSet) (holds : ℕ → ℕ → Bool) (skipped fixed : Bool) (plain group : ℕ) →
+    fixed ≡ (not skipped && eqb (factors places (member singles) (member leaders)) 1) → plain ≡ cond fixed 0 1 → group ≡ cond fixed 2 3 →
     first ≡ with_any places (member singles) plain m → out ≡ with_each (member leaders) holds group places first →
     out ≡ with_both places (not skipped && eqb (factors places (member singles) (member leaders)) 1) (member singles) (member leaders) holds m
 unfolding with_both singles_mode group_mode
-level_both m first out singles leaders holds skipped one fixed plain group a b c d e f =
-    let z : fixed ≡ (not skipped && eqb (factors places (member singles) (member leaders)) 1) = b ∙ ap (λ (x : Bool). not skipped && x) a in
+level_both m first out singles leaders holds skipped fixed plain group z c d e f =
     f
     ∙ ap₂ (λ (g : ℕ) (o : Chain). with_each (member leaders) holds g places o) d (e ∙ ap (λ (p : ℕ). with_any places (member singles) p m) c)
     ∙ ap (λ (x : Bool). with_each (member leaders) holds (cond {A = ℕ} x 2 3) places (with_any places (member singles) (cond {A = ℕ} x 0 1) m)) z

@@ -17,11 +17,7 @@ use nameset::NameSet;
 fn just_one(s: NameSet) -> bool
     ensures { result ≡ eqb (count_below places (member s)) 1 }
 {
-    if s.is_empty() {
-        false
-    } else {
-        s.rest().is_empty()
-    }
+    !s.is_empty() && s.rest().is_empty()
 }
 
 // Whether a level with these singles and smallest names of groups has just one factor.
@@ -33,19 +29,6 @@ fn one_factor(singles: NameSet, leaders: NameSet) -> bool
     } else {
         leaders.is_empty()
     }
-}
-
-// Whether the names of a level must come: it is not skipped and has just one factor.
-fn is_fixed(skipped: bool, one: bool) -> bool
-    ensures { result ≡ (not skipped && one) }
-{
-    if skipped { false } else { one }
-}
-
-fn mode(fixed: bool, plain: u8, optional: u8) -> u8
-    ensures { result ≡ cond fixed plain optional }
-{
-    if fixed { plain } else { optional }
 }
 
 // The record with the names of the set as one factor, if there are any.
@@ -66,12 +49,8 @@ fn with_groups(m: Chain, reach: &[u64], behind: &[u64], leaders: NameSet, mode: 
     ensures { result ≡ with_each (member leaders) (holds_in reach.now behind.now) mode places m }
 {
     let mut out = m;
-    let mut left = leaders;
-    while !left.is_empty() {
-        let k = left.first();
-        let next = out.with_factor(group(reach, behind, k), mode);
-        out = next;
-        left = left.rest();
+    for k in leaders.names() {
+        out = out.with_factor(group(reach, behind, k), mode);
     }
     out
 }
@@ -88,7 +67,9 @@ pub fn with_level(
     requires { (m.count + factors places (member singles) (member leaders) ≤ places) × IsRows places reach.now × IsRows places behind.now }
     ensures { result ≡ with_both places (not skipped && eqb (factors places (member singles) (member leaders)) 1) (member singles) (member leaders) (holds_in reach.now behind.now) m }
 {
-    let fixed = is_fixed(skipped, one_factor(singles, leaders));
-    let first = with_any(m, singles, mode(fixed, 0, 1));
-    with_groups(first, reach, behind, leaders, mode(fixed, 2, 3))
+    // The names of a level must come where it is not skipped and has just one factor.
+    let fixed = !skipped && one_factor(singles, leaders);
+    let (singles_mode, group_mode) = if fixed { (0, 2) } else { (1, 3) };
+    let first = with_any(m, singles, singles_mode);
+    with_groups(first, reach, behind, leaders, group_mode)
 }

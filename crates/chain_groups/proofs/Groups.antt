@@ -16,6 +16,8 @@ use Rattle.nameset.specs.Set.{member, minus}
 use Rattle.nameset.specs.Rows.{IsRows, HasRow, row_at, put_row}
 use Rattle.nameset.proofs.Laws.{member_minus}
 use Rattle.nameset.proofs.Rows.{length_put}
+use Rattle.nameset.specs.Names.{Given, Ended}
+use Rattle.nameset.proofs.Turns.{given_member, given_rest, none_left}
 use Rattle.nameset.proofs.Tests.{same_test}
 use Rattle.chain_levels.specs.Below.{any_below, count_below}
 use Rattle.chain_levels.proofs.Tests.{some_is, both_ways, refuted, and_is, not_is}
@@ -50,10 +52,16 @@ pub joining_none : (reach : List ℕ) (a : ℕ) (row s : NameSet) → row ≡ ro
 unfolding together
 joining_none reach a row s e none = record { law = λ b. sym (rw (none b, row_is reach a row e b)) }
 
-pub joining_more : {reach : List ℕ} {a : ℕ} {left s : NameSet} → Joining reach a left s → {b : ℕ} → (b < places) × (member left b ≡ true) → (row r others : NameSet) (more : Bool) →
-    row ≡ row_at reach b → more ≡ member row a → ((j : ℕ) → member r j ≡ (member s j || (more && eqb b j))) → ((j : ℕ) → member others j ≡ (member left j && not (eqb b j))) → Joining reach a others r
-joining_more {reach} {a} {left} {s} p {b} (h, m) row r others more e f law rest = record { law = λ j. p.law j ∙ at j (ℕ_discrete b j) }
+pub joining_more : {reach : List ℕ} {a : ℕ} {left s : NameSet} → Joining reach a left s → {b : ℕ} {others : NameSet} → Given left b others → {row r : NameSet} {more : Bool} →
+    row ≡ row_at reach b → more ≡ member row a → ((j : ℕ) → member r j ≡ (member s j || (more && eqb b j))) → Joining reach a others r
+joining_more {reach} {a} {left} {s} p {b} {others} g {row} {r} {more} e f law = record { law = λ j. p.law j ∙ at j (ℕ_discrete b j) }
   where
+    m : member left b ≡ true
+    m = (given_member g).1
+
+    rest : (j : ℕ) → member others j ≡ (member left j && not (eqb b j))
+    rest = given_rest g
+
     at : (j : ℕ) → Dec (b ≡ j) → (member s j || (member left j && in_row reach j a)) ≡ (member r j || (member others j && in_row reach j a))
     at j (yes q) =
         let z : eqb b b ≡ true = eq-eqb b b refl in
@@ -62,8 +70,8 @@ joining_more {reach} {a} {left} {s} p {b} (h, m) row r others more e f law rest 
         let z : eqb b j ≡ false = ne_eqb b j q in
         rw (law j, rest j, z, and-false more, and-true (member left j), or-false (member s j))
 
-pub joining_all : {reach : List ℕ} {a : ℕ} {left s : NameSet} → Joining reach a left s → ((j : ℕ) → member left j ≡ false) → (b : ℕ) → member s b ≡ together reach a b
-joining_all {reach} {a} {left} {s} p none b = sym (p.law b ∙ rw (none b, or-false (member s b)))
+pub joining_all : {reach : List ℕ} {a : ℕ} {left s t : NameSet} → Joining reach a left s → Ended left t → (b : ℕ) → member s b ≡ together reach a b
+joining_all {reach} {a} {left} {s} p e b = sym (p.law b ∙ rw (none_left e b, or-false (member s b)))
 
 -- ---- one set put in for a group
 
@@ -72,13 +80,22 @@ pub record Putting (old now : List ℕ) (group s left : NameSet) : Type 0 where
   pub size : IsRows places now
   pub law : (a b : ℕ) → cond (member left a) (member s b) (in_row now a b) ≡ cond (member group a) (member s b) (in_row old a b)
 
-pub put_none : (old : List ℕ) (group s : NameSet) → IsRows places old → Putting old old group s group
-put_none old group s h = record { size = h; law = λ a b. refl }
+pub put_none : (old : List ℕ) (group s left : NameSet) → IsRows places old → left ≡ group → Putting old old group s left
+put_none old group s left h e = record { size = h; law = λ a b. rw e refl }
 
-pub put_more : {old now : List ℕ} {group s left : NameSet} → Putting old now group s left → {i : ℕ} → (i < places) × (member left i ≡ true) → (next : List ℕ) (others : NameSet) →
-    next ≡ put_row now i s → ((j : ℕ) → member others j ≡ (member left j && not (eqb i j))) → Putting old next group s others
-put_more {old} {now} {group} {s} {left} p {i} (h, m) next others e rest = record { size = ap length e ∙ length_put now i s ∙ p.size; law = λ a b. ap (λ (t : List ℕ). cond (member others a) (member s b) (in_row t a b)) e ∙ at a b (ℕ_discrete a i) ∙ p.law a b }
+pub put_more : {old now : List ℕ} {group s left : NameSet} → Putting old now group s left → {i : ℕ} {others : NameSet} → Given left i others → {next : List ℕ} →
+    next ≡ put_row now i s → Putting old next group s others
+put_more {old} {now} {group} {s} {left} p {i} {others} g {next} e = record { size = ap length e ∙ length_put now i s ∙ p.size; law = λ a b. ap (λ (t : List ℕ). cond (member others a) (member s b) (in_row t a b)) e ∙ at a b (ℕ_discrete a i) ∙ p.law a b }
   where
+    h : i < places
+    h = (given_member g).0
+
+    m : member left i ≡ true
+    m = (given_member g).1
+
+    rest : (j : ℕ) → member others j ≡ (member left j && not (eqb i j))
+    rest = given_rest g
+
     at : (a b : ℕ) → Dec (a ≡ i) → cond (member others a) (member s b) (in_row (put_row now i s) a b) ≡ cond (member left a) (member s b) (in_row now a b)
     at a b (yes q) =
         let z : HasRow now i = rw p.size h in
@@ -88,8 +105,8 @@ put_more {old} {now} {group} {s} {left} p {i} (h, m) next others e rest = record
         let y : eqb i a ≡ false = ne_eqb i a (λ u. q (sym u)) in
         rw (rest a, y, and-true (member left a), put_other now i a s b q)
 
-pub put_all : {old now : List ℕ} {group s left : NameSet} → Putting old now group s left → ((j : ℕ) → member left j ≡ false) → PutEach old now group s
-put_all {old} {now} {group} {s} {left} p none = record { size = p.size; law = λ a b. sym (rw (none a)) ∙ p.law a b }
+pub put_all : {old now : List ℕ} {group s left t : NameSet} → Putting old now group s left → Ended left t → PutEach old now group s
+put_all {old} {now} {group} {s} {left} p e = record { size = p.size; law = λ a b. sym (rw (none_left e a)) ∙ p.law a b }
 
 -- ---- the groups one after the other
 

@@ -12,6 +12,7 @@ use chain_rows::{copied, with_if};
 use nameset::{NameSet, ROWS, put_row, row_at};
 
 // The loop group of a name.
+#[tactic(auto, unfolding(crate::specs::Groups::group_in))]
 pub fn group(reach: &[u64], behind: &[u64], a: usize) -> NameSet
     requires { (a < places) × IsRows places reach.now × IsRows places behind.now }
     ensures { result ≡ group_in reach.now behind.now a }
@@ -25,10 +26,8 @@ fn looping(reach: &[u64], n: usize) -> NameSet
     ensures { (a : ℕ) → member result a ≡ in_row reach.now a a }
 {
     let mut s = NameSet::empty();
-    let mut a = 0;
-    while a < n {
+    for a in 0..n {
         s = with_if(s, a, row_at(reach, a).has(a));
-        a += 1;
     }
     s
 }
@@ -39,11 +38,8 @@ fn group_of(reach: &[u64], a: usize) -> NameSet
     ensures { (b : ℕ) → member result b ≡ together reach.now a b }
 {
     let mut s = NameSet::empty();
-    let mut left = row_at(reach, a);
-    while !left.is_empty() {
-        let b = left.first();
+    for b in row_at(reach, a).names() {
         s = with_if(s, b, row_at(reach, b).has(a));
-        left = left.rest();
     }
     s
 }
@@ -53,11 +49,8 @@ fn put_each(rows: &mut [u64], group: NameSet, set: NameSet)
     requires { IsRows places rows.old }
     ensures { PutEach rows.old rows.new group set }
 {
-    let mut left = group;
-    while !left.is_empty() {
-        let a = left.first();
+    for a in group.names() {
         put_row(rows, a, set);
-        left = left.rest();
     }
 }
 
@@ -79,6 +72,7 @@ pub fn loop_groups(reach: &[u64], n: usize) -> Loops
     let mut behind = copied(reach);
     let mut leaders = NameSet::empty();
     let mut left = names;
+    // No `for` over the names: each turn takes a whole group off them.
     while !left.is_empty() {
         let a = left.first();
         let group = group_of(reach, a);

@@ -1,6 +1,6 @@
 -- Laws of reach by closing: what one name reaches, and the names closed one after the other.
 -- Assumes nothing.
-use Prim.Native.Nat.{ℕ, ◌+◌, ◌-◌, ◌≤◌, ◌<◌}
+use Prim.Native.Nat.{ℕ, ◌+◌, ◌≤◌, ◌<◌}
 use mathlib.Core.Path.{◌≡◌, refl, sym, ◌∙◌, ap, subst}
 use mathlib.Core.Bool.{Bool, true, false, ◌&&◌, ◌||◌, not}
 use mathlib.Core.List.{List}
@@ -156,14 +156,6 @@ module _ {follows : List ℕ} {a : ℕ} {s left : NameSet} (p : Gathered follows
       }
 
 -- ---- the names closed one after the other
-
-pub turn_down : (down : Bool) (n i : ℕ) → down ≡ true → n - 1 - i ≡ in_turn down n i
-unfolding in_turn
-turn_down down n i e = sym (rw e)
-
-pub turn_up : (down : Bool) (n i : ℕ) → down ≡ false → i ≡ in_turn down n i
-unfolding in_turn
-turn_up down n i e = sym (rw e)
 
 turn_below : (down : Bool) (n i : ℕ) → i < n → in_turn down n i < n
 unfolding in_turn

@@ -20,6 +20,7 @@ fn reach_of(follows: &[u64], rows: &[u64], closed: NameSet, a: usize) -> NameSet
 {
     let mut gathered = NameSet::empty();
     let mut left = row_at(follows, a);
+    // No `for` over the names: each turn adds some to those that are left.
     while !left.is_empty() {
         let b = pick(left, closed);
         gathered = gathered.union(row_at(rows, b).with(b));
@@ -28,25 +29,15 @@ fn reach_of(follows: &[u64], rows: &[u64], closed: NameSet, a: usize) -> NameSet
     gathered
 }
 
-fn one_if(yes: bool) -> usize
-    ensures { result ≤ 1 }
-{
-    if yes { 1 } else { 0 }
-}
-
 // Whether most of the first n names lead to larger names alone.
 fn mostly_up(follows: &[u64], n: usize) -> bool
     requires { (n ≤ places) × IsRows places follows.now }
 {
-    let mut up = 0;
-    let mut a = 0;
-    while a < n {
-        up += one_if(a < row_at(follows, a).first());
-        a += 1;
-    }
+    let up = (0..n).filter(|a| *a < row_at(follows, *a).first()).count();
     n < up + up
 }
 
+#[tactic(auto, unfolding(crate::specs::Reached::in_turn))]
 fn in_turn(down: bool, n: usize, i: usize) -> usize
     requires { i < n }
     ensures { (result ≡ in_turn down n i) × (result < n) }
@@ -63,13 +54,11 @@ pub fn reach_rows(follows: &[u64], n: usize) -> [u64; ROWS]
     let down = mostly_up(follows, n);
     let mut rows = [0u64; ROWS];
     let mut closed = NameSet::empty();
-    let mut i = 0;
-    while i < n {
+    for i in 0..n {
         let a = in_turn(down, n, i);
         let row = reach_of(follows, &rows, closed, a);
         put_row(&mut rows, a, row);
         closed = closed.with(a);
-        i += 1;
     }
     rows
 }

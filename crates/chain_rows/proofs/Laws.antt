@@ -1,27 +1,27 @@
--- Laws of rows: a table row by row, a set name by name, and rows joined one after the other.
+-- Laws of rows: a row that was put, a set name by name, and rows joined one after the other.
 -- Assumes nothing.
 use Prim.Native.Nat.{ℕ, ◌+◌, ◌≤◌, ◌<◌}
 use mathlib.Core.Path.{◌≡◌, refl, sym, ◌∙◌, ap}
-use mathlib.Core.Bool.{Bool, true, false, cond, ◌&&◌, ◌||◌, not, or-false, or_assoc, and-true, and-false}
+use mathlib.Core.Bool.{Bool, false, ◌&&◌, ◌||◌, or-false, or_assoc, and-true, and-false}
 use mathlib.Core.List.{List}
 use native.Mathlib.Omega.{arith}
 use native.Mathlib.Numerals.{add-one}
 use native.Mathlib.Decide.{ℕ_discrete, dec_lt}
 use borrow.Author.Tests.{lt-ltb, le-ltb, eq-eqb, ne_eqb}
 use lib.Dec.{eqb, ltb}
-use lib.ListN.{length}
 use Rattle.nameset.specs.Places.{places}
 use Rattle.nameset.specs.declared.NameSet.{NameSet}
 use Rattle.nameset.specs.Set.{member}
-use Rattle.nameset.specs.Promise.{Emptiness, Smallest}
-use Rattle.nameset.specs.Rows.{IsRows, HasRow, row_at, put_row, no_rows}
+use Rattle.nameset.specs.Rows.{HasRow, row_at, put_row, no_rows}
+use Rattle.nameset.specs.Names.{Given, Ended}
 use Rattle.nameset.proofs.Laws.{member_empty}
-use Rattle.nameset.proofs.Rows.{row_put, row_kept, length_put, no_rows_lem, row_past, row_of_none}
+use Rattle.nameset.proofs.Turns.{given_member, given_rest, none_left}
+use Rattle.nameset.proofs.Rows.{row_put, row_kept, row_of_none}
 use Rattle.chain_levels.specs.Below.{any_below}
-use Rattle.chain_levels.proofs.Tests.{and_is, refuted}
+use Rattle.chain_levels.proofs.Tests.{refuted}
 use Rattle.chain_peel.specs.Sets.{in_rows}
 use Rattle.chain_peel.proofs.Rows.{rows_none, rows_first}
-use Rattle.chain_rows.specs.Rows.{in_row, Copied, OnlyNames, among_rows}
+use Rattle.chain_rows.specs.Rows.{in_row, OnlyNames, among_rows}
 
 -- ---- rows
 
@@ -46,7 +46,7 @@ none_related a b = ap (λ (t : NameSet). member t b) (row_of_none places a) ∙ 
 pub past : {n : ℕ} {rows : List ℕ} → OnlyNames n rows → (a b : ℕ) → n ≤ a → in_row rows a b ≡ false
 past {n} {rows} o a b h = refuted (in_row rows a b) (λ e. omega (arith, (o.below a b e).0))
 
--- ---- a table, row by row
+-- ---- a set, name by name
 
 below_next : (a i : ℕ) → (a ≡ i → ⊥) → ltb a (i + 1) ≡ ltb a i
 below_next a i h = go (dec_lt a i)
@@ -54,44 +54,6 @@ below_next a i h = go (dec_lt a i)
     go : Dec (a < i) → ltb a (i + 1) ≡ ltb a i
     go (yes l) = lt-ltb a (i + 1) (omega arith) ∙ sym (lt-ltb a i l)
     go (no l) = le-ltb a (i + 1) (omega arith) ∙ sym (le-ltb a i (omega arith))
-
--- The rows below i have the names that pass the test; the others are those of `old`.
-pub record Filled (old new : List ℕ) (test : ℕ → ℕ → Bool) (i : ℕ) : Type 0 where
-  pub size : IsRows places new
-  pub law : (a b : ℕ) → in_row new a b ≡ cond (ltb a i) (test a b) (in_row old a b)
-
-pub fill_none : (old : List ℕ) (test : ℕ → ℕ → Bool) → IsRows places old → Filled old old test 0
-fill_none old test h = record { size = h; law = λ a b. sym (rw (le-ltb a 0 (omega arith))) }
-
-module _ {old new : List ℕ} {test : ℕ → ℕ → Bool} {i : ℕ} (r : Filled old new test i) where
-  pub fill_more : (s : NameSet) → i < places → ((b : ℕ) → member s b ≡ test i b) → (next : List ℕ) → next ≡ put_row new i s → Filled old next test (i + 1)
-  fill_more s h e next n = record { size = ap length n ∙ length_put new i s ∙ r.size; law = λ a b. ap (λ (t : List ℕ). in_row t a b) n ∙ at a b (ℕ_discrete a i) }
-    where
-      at : (a b : ℕ) → Dec (a ≡ i) → in_row (put_row new i s) a b ≡ cond (ltb a (i + 1)) (test a b) (in_row old a b)
-      at a b (yes q) =
-          let t : ltb a (i + 1) ≡ true = lt-ltb a (i + 1) (omega arith) in
-          let z : HasRow new i = rw r.size h in
-          rw (t, q) (put_same new i s b z ∙ e b)
-      at a b (no q) = put_other new i a s b q ∙ r.law a b ∙ rw (below_next a i q)
-
-  pub fill_all : (n : ℕ) → n ≤ i → ((a b : ℕ) → n ≤ a → in_row old a b ≡ test a b) → (a b : ℕ) → in_row new a b ≡ test a b
-  fill_all n h rest a b = r.law a b ∙ at (dec_lt a i)
-    where
-      at : Dec (a < i) → cond (ltb a i) (test a b) (in_row old a b) ≡ test a b
-      at (yes l) = rw (lt-ltb a i l)
-      at (no l) = rw (le-ltb a i (omega arith)) (rest a b (omega arith))
-
--- ---- a copy
-
-pub copy_none : (rows : List ℕ) → Filled (no_rows places) (no_rows places) (in_row rows) 0
-copy_none rows = fill_none (no_rows places) (in_row rows) (no_rows_lem places)
-
-pub copy_all : (old new : List ℕ) (i : ℕ) → IsRows places old → Filled (no_rows places) new (in_row old) i → places ≤ i → Copied old new
-unfolding in_row
-copy_all old new i o r h =
-    record { size = r.size; law = fill_all r places h (λ a b l. none_related a b ∙ sym (ap (λ (t : NameSet). member t b) (row_past places old a o l) ∙ member_empty b)) }
-
--- ---- a set, name by name
 
 -- s has the names below i that pass the test.
 pub record Picked (s : NameSet) (test : ℕ → Bool) (i : ℕ) : Type 0 where
@@ -129,20 +91,20 @@ pub record Joined (rows : List ℕ) (set left s : NameSet) : Type 0 where
 pub join_start : (rows : List ℕ) (set s : NameSet) → ((j : ℕ) → member s j ≡ false) → Joined rows set set s
 join_start rows set s none = record { law = λ b. sym (rw (none b)) }
 
-pub join_more : {rows : List ℕ} {set left s : NameSet} → Joined rows set left s → {a : ℕ} → (a < places) × (member left a ≡ true) →
-    (row r others : NameSet) → row ≡ row_at rows a → ((j : ℕ) → member r j ≡ (member s j || member row j)) → ((j : ℕ) → member others j ≡ (member left j && not (eqb a j))) →
-    Joined rows set others r
-join_more {rows} {set} {left} {s} p {a} (h, e) row r others q law rest = record { law = at }
+pub join_more : {rows : List ℕ} {set left s : NameSet} → Joined rows set left s → {a : ℕ} {others : NameSet} → Given left a others →
+    {row r : NameSet} → row ≡ row_at rows a → ((j : ℕ) → member r j ≡ (member s j || member row j)) → Joined rows set others r
+join_more {rows} {set} {left} {s} p {a} {others} g {row} {r} q law = record { law = at }
   where
     at : (b : ℕ) → in_rows places (in_row rows) (member set) b ≡ (member r b || in_rows places (in_row rows) (member others) b)
     at b =
+        let m = given_member g in
         p.law b
-        ∙ ap (λ (x : Bool). member s b || x) (rows_first places (in_row rows) (member left) (member others) a b h e rest)
+        ∙ ap (λ (x : Bool). member s b || x) (rows_first places (in_row rows) (member left) (member others) a b m.0 m.1 (given_rest g))
         ∙ sym (or_assoc (member s b) (in_row rows a b) (in_rows places (in_row rows) (member others) b))
         ∙ ap (λ (x : Bool). x || in_rows places (in_row rows) (member others) b) (ap (λ (x : Bool). member s b || x) (sym (row_is rows a row q b)) ∙ sym (law b))
 
-pub join_all : {rows : List ℕ} {set left s : NameSet} → Joined rows set left s → ((j : ℕ) → member left j ≡ false) → (b : ℕ) → member s b ≡ in_rows places (in_row rows) (member set) b
-join_all {rows} {set} {left} {s} p none b = sym (p.law b ∙ ap (λ (x : Bool). member s b || x) (rows_none places (in_row rows) (member left) b none) ∙ or-false (member s b))
+pub join_all : {rows : List ℕ} {set left s t : NameSet} → Joined rows set left s → Ended left t → (b : ℕ) → member s b ≡ in_rows places (in_row rows) (member set) b
+join_all {rows} {set} {left} {s} p e b = sym (p.law b ∙ ap (λ (x : Bool). member s b || x) (rows_none places (in_row rows) (member left) b (none_left e)) ∙ or-false (member s b))
 
 pub among_none : (rows : List ℕ) (b : ℕ) (x : Bool) → x ≡ (x || among_rows 0 rows b)
 unfolding among_rows any_below
@@ -152,19 +114,3 @@ pub among_more : (rows : List ℕ) (s r q : NameSet) (a b : ℕ) (x : Bool) → 
     member r b ≡ (member s b || member q b) → member r b ≡ (x || among_rows (a + 1) rows b)
 unfolding among_rows any_below
 among_more rows s r q a b x e f law = law ∙ rw (add-one a, e, row_is rows a q f b) (or_assoc x (any_below a (λ k. in_row rows k b)) (in_row rows a b))
-
--- ---- a name that is picked
-
-pub picked_both : (s wanted both : NameSet) → ((j : ℕ) → member both j ≡ (member s j && member wanted j)) → (none : Bool) → Emptiness both none → none ≡ false → (r : ℕ) → Smallest both r →
-    (r < places) × (member s r ≡ true)
-picked_both s wanted both law none e n r small =
-    let found = small.found (sym e.same ∙ n) in
-    (found.0, ((and_is (member s r) (member wanted r)).0 (sym (law r) ∙ found.1)).0)
-
--- ---- more or not
-
-pub more_yes : (x y more : Bool) → more ≡ true → (x || y) ≡ (x || (more && y))
-more_yes x y more e = rw e
-
-pub more_no : (x y more : Bool) → more ≡ false → x ≡ (x || (more && y))
-more_no x y more e = rw e (sym (or-false x))

@@ -8,7 +8,7 @@ ghost use Rattle.nameset.specs.Rows.{IsRows};
 ghost use Rattle.chain_peel.specs.Sets.{in_rows};
 ghost use Rattle.chain_rows.specs.Rows.{in_row, Copied, among_rows};
 
-use nameset::{NameSet, ROWS, put_row, row_at};
+use nameset::{NameSet, ROWS, row_at};
 
 // The set s, with the name i if `more` says so.
 pub fn with_if(s: NameSet, i: usize, more: bool) -> NameSet
@@ -38,12 +38,7 @@ pub fn copied(rows: &[u64]) -> [u64; ROWS]
     ensures { Copied rows.now result }
 {
     let mut out = [0u64; ROWS];
-    let mut a = 0;
-    while a < ROWS {
-        let row = row_at(rows, a);
-        put_row(&mut out, a, row);
-        a += 1;
-    }
+    out.copy_from_slice(rows);
     out
 }
 
@@ -53,25 +48,21 @@ pub fn rows_of(rows: &[u64], set: NameSet) -> NameSet
     ensures { (b : ℕ) → member result b ≡ in_rows places (in_row rows.now) (member set) b }
 {
     let mut s = NameSet::empty();
-    let mut left = set;
-    while !left.is_empty() {
-        let a = left.first();
+    for a in set.names() {
         s = s.union(row_at(rows, a));
-        left = left.rest();
     }
     s
 }
 
 // The set s, with the names in the first n rows.
+#[tactic(auto, using(crate::proofs::Laws::among_none, crate::proofs::Laws::among_more))]
 pub fn with_rows(s: NameSet, rows: &[u64], n: usize) -> NameSet
     requires { (n ≤ places) × IsRows places rows.now }
     ensures { (b : ℕ) → member result b ≡ (member s b || among_rows n rows.now b) }
 {
     let mut out = s;
-    let mut i = 0;
-    while i < n {
+    for i in 0..n {
         out = out.union(row_at(rows, i));
-        i += 1;
     }
     out
 }

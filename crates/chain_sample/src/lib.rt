@@ -18,10 +18,7 @@ pub fn shows_word(row: &[u64]) -> bool
     requires { length row.now ≡ row_size }
     ensures { (n : ℕ) → result ≡ show_word places (view_of n (facts_in row.now)) }
 {
-    if row[EMPTY] == 1 {
-        return true;
-    }
-    !row_at(row, STARTS).is_empty()
+    row[EMPTY] == 1 || !row_at(row, STARTS).is_empty()
 }
 
 // The chain that the facts of a row give.
@@ -52,13 +49,14 @@ pub fn row_model(row: &[u64], n: usize) -> Model
     ensures { result ≡ model_of places (view_of n (facts_in row.now)) (text_in row.now) }
 {
     if row[TEXT] == 1 {
-        return Model {
+        Model {
             chain: row_mixed(row, n),
             text: 1,
-        };
-    }
-    Model {
-        chain: row_chain(row, n),
-        text: 0,
+        }
+    } else {
+        Model {
+            chain: row_chain(row, n),
+            text: 0,
+        }
     }
 }

@@ -2,17 +2,14 @@
 -- Rattle, and the reply is x converted (crates/curlewsong_reply/specs/Reply.antt). What follows for a caller is stated
 -- at the end of crates/demands/proofs/Demands.antt.
 -- Assumes nothing.
-use Rattle.std.specs.Prelude.{ℕ, ◌≡◌, List}
-use Rattle.refusal.specs.declared.Outcome.{Outcome}
+use Rattle.std.specs.Prelude.{ℕ, ◌≡◌, List, ⊤}
 use Rattle.refusal.specs.declared.Acceptance.{Acceptance}
-use Rattle.refusal.specs.Answer.{outcome_number}
+use Rattle.refusal.specs.Answer.{Answer, answer_number}
 use Rattle.model.specs.declared.Model.{Model}
-use Rattle.declaration_writing.specs.declared.Written.{Written}
+use Rattle.declaration_spelling.specs.declared.Declared.{Declared}
 use Rattle.declaration_writing.specs.Write.{WritesDeclaration}
-use Rattle.declaration_record.specs.declared.Declaration.{Declaration}
 use Rattle.declaration_reading.specs.Read.{ReadsDeclaration}
 use Rattle.intake_within.specs.declared.Inclusion.{Inclusion}
-use Rattle.intake_sample.specs.declared.Inferred.{Inferred}
 use Rattle.intake_word.specs.Acceptance.{AcceptsWord}
 use Rattle.intake_document.specs.Document.{AcceptsDocument}
 use Rattle.intake_within.specs.Comparison.{ComparesModels}
@@ -29,7 +26,7 @@ use Rattle.curlewsong_reply.specs.declared.TextReply.{TextReply}
 use Rattle.curlewsong_reply.specs.Reply.{model_reply, verdict, inclusion_reply, length_reply, text_reply}
 
 abbrev pub RepliesModel : List ℕ → ℕ → ModelReply → Type 0
-RepliesModel bytes parent r = (x : Inferred) × InfersModel bytes parent x × (r ≡ model_reply x)
+RepliesModel bytes parent r = (x : Answer Model) × InfersModel bytes parent x × (r ≡ model_reply x)
 
 abbrev pub RepliesWord : ℕ → Model → List ℕ → Verdict → Type 0
 RepliesWord n m w r = (x : Acceptance) × AcceptsWord n m w x × (r ≡ verdict x)
@@ -42,20 +39,20 @@ abbrev pub RepliesWithin : ℕ → Model → Model → InclusionReply → List �
 RepliesWithin n first second r before after = (x : Inclusion) × ComparesModels n first second x before after × (r ≡ inclusion_reply x)
 
 abbrev pub RepliesWritten : List ℕ → ℕ → Model → LengthReply → List ℕ → List ℕ → Type 0
-RepliesWritten bytes parent m r before after = (x : Written) × WritesDeclaration bytes parent m x before after × (r ≡ length_reply x)
+RepliesWritten bytes parent m r before after = (x : Answer ℕ) × WritesDeclaration bytes parent m x before after × (r ≡ length_reply x)
 
 abbrev pub RepliesSample : List ℕ → ℕ → LengthReply → List ℕ → List ℕ → Type 0
-RepliesSample bytes parent r before after = (x : Written) × WritesSample bytes parent x before after × (r ≡ length_reply x)
+RepliesSample bytes parent r before after = (x : Answer ℕ) × WritesSample bytes parent x before after × (r ≡ length_reply x)
 
 abbrev pub RepliesDtd : List ℕ → LengthReply → List ℕ → List ℕ → Type 0
-RepliesDtd bytes r before after = (x : Written) × WritesDtd bytes x before after × (r ≡ length_reply x)
+RepliesDtd bytes r before after = (x : Answer ℕ) × WritesDtd bytes x before after × (r ≡ length_reply x)
 
 abbrev pub RepliesText : List ℕ → List ℕ → TextReply → Type 0
-RepliesText bytes text r = (x : Declaration) × ReadsDeclaration bytes text x × (r ≡ text_reply x)
+RepliesText bytes text r = (x : Answer Declared) × ReadsDeclaration bytes text x × (r ≡ text_reply x)
 
 -- The reply is the number alone.
 abbrev pub RepliesPut : ℕ → ℕ → Model → ℕ → List ℕ → List ℕ → Type 0
-RepliesPut n parent m k before after = (x : Outcome) × PutsModel n parent m x before after × (k ≡ outcome_number x)
+RepliesPut n parent m k before after = (x : Answer ⊤) × PutsModel n parent m x before after × (k ≡ answer_number x)
 
 abbrev pub RepliesModels : List ℕ → LengthReply → List ℕ → List ℕ → Type 0
-RepliesModels bytes r before after = (x : Written) × WritesModels bytes x before after × (r ≡ length_reply x)
+RepliesModels bytes r before after = (x : Answer ℕ) × WritesModels bytes x before after × (r ≡ length_reply x)

@@ -81,7 +81,7 @@ pub fn curlewsong_read_declaration(book: &[u8], text: &[u8]) -> TextReply
 pub fn curlewsong_put_model(names: usize, parent: usize, model: Model, models: &mut [u8]) -> u8
     ensures { RepliesPut names parent model result models.old models.new }
 {
-    refusal::outcome_number(intake::put_model(names, parent, model, models))
+    refusal::answer_number(&intake::put_model(names, parent, model, models))
 }
 
 // Fills a table of models from the samples of a book: 1 to 7, 16, 17, 12.

@@ -4,12 +4,10 @@
 ghost use Rattle.std.specs.Prelude.{◌≡◌};
 ghost use Rattle.curlewsong_reply.specs.Reply.{model_reply, verdict, inclusion_of, inclusion_reply, length_reply, text_reply};
 
-use declaration_record::Declaration;
-use declaration_writing::Written;
-use intake_sample::Inferred;
+use declaration_spelling::Declared;
 use intake_within::Inclusion;
 use model::Model;
-use refusal::Acceptance;
+use refusal::{Acceptance, Refusal};
 
 // A model, or the empty one and why.
 #[repr(C)]
@@ -66,8 +64,8 @@ pub fn verdict_of(answer: Acceptance) -> Verdict
             refusal: 0,
             yes: false,
         },
-        Acceptance::Refused(refusal) => Verdict {
-            refusal: refusal::number(refusal),
+        Acceptance::Refused(stop) => Verdict {
+            refusal: refusal::number(stop),
             yes: false,
         },
     }
@@ -96,37 +94,47 @@ pub fn inclusion_of(answer: Inclusion) -> InclusionReply
 }
 
 // The reply to a caller who had a text or rows written.
-pub fn length_of(answer: Written) -> LengthReply
+#[tactic(auto, unfolding(crate::specs::Reply::length_reply))]
+pub fn length_of(answer: Result<usize, Refusal>) -> LengthReply
     ensures { result ≡ length_reply answer }
 {
-    let outcome = answer.outcome;
-    LengthReply {
-        refusal: refusal::outcome_number(outcome),
-        length: answer.length,
+    match answer {
+        Ok(length) => LengthReply { refusal: 0, length },
+        Err(refusal) => LengthReply {
+            refusal: refusal::number(refusal),
+            length: 0,
+        },
     }
 }
 
 // The reply to a caller who asked for the model of a parent.
-pub fn model_of(answer: Inferred) -> ModelReply
+#[tactic(auto, unfolding(crate::specs::Reply::model_reply))]
+pub fn model_of(answer: Result<Model, Refusal>) -> ModelReply
     ensures { result ≡ model_reply answer }
 {
-    let outcome = answer.outcome;
-    let model = answer.model;
-    ModelReply {
-        refusal: refusal::outcome_number(outcome),
-        model,
+    match answer {
+        Ok(model) => ModelReply { refusal: 0, model },
+        Err(refusal) => ModelReply {
+            refusal: refusal::number(refusal),
+            model: Model::empty(),
+        },
     }
 }
 
 // The reply to a caller who had a text read.
-pub fn text_of(answer: Declaration) -> TextReply
+pub fn text_of(answer: Result<Declared, Refusal>) -> TextReply
     ensures { result ≡ text_reply answer }
 {
-    let outcome = answer.outcome;
-    let model = answer.model;
-    TextReply {
-        refusal: refusal::outcome_number(outcome),
-        parent: answer.parent,
-        model,
+    match answer {
+        Ok(Declared { parent, model }) => TextReply {
+            refusal: 0,
+            parent,
+            model,
+        },
+        Err(refusal) => TextReply {
+            refusal: refusal::number(refusal),
+            parent: 0,
+            model: Model::empty(),
+        },
     }
 }

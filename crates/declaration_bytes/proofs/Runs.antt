@@ -1,17 +1,19 @@
 -- The next byte of a text, and a run of bytes, step by step.
 -- Assumes nothing.
-use Prim.Native.Nat.{ℕ, ◌+◌, ◌≤◌, ◌<◌}
+use Prim.Native.Nat.{ℕ, zero, suc, ◌+◌, ◌-◌, ◌≤◌, ◌<◌}
 use mathlib.Core.Path.{◌≡◌, refl, sym, ◌∙◌, ap}
-use mathlib.Core.Bool.{Bool, true, false, false≢true}
-use mathlib.Core.List.{List}
+use mathlib.Core.Bool.{Bool, true, false, cond, false≢true}
+use mathlib.Core.List.{List, [], ◌∷◌}
 use native.Mathlib.Omega.{arith}
 use native.Mathlib.Numerals.{add-one}
 use native.Mathlib.Decide.{dec_lt}
-use lib.ListN.{length, get_or, drop, drop_of_length-le}
-use lib.Seq.{drop-cons}
+use lib.ListN.{length, get_or, take, drop, drop_of_length-le}
+use lib.Seq.{drop-cons, drop-nil}
+use Rattle.std.specs.List.{prefix_len}
+use Rattle.std.proofs.lemmas.List.{length-drop, take_rest}
+use Rattle.std.proofs.lemmas.List.Sums.{prefix_len-le-length}
 use Rattle.name.specs.Word.{word_byte}
 use Rattle.name.proofs.Words.{no_word_lem}
-use Rattle.declaration_spelling.specs.Token.{is_space}
 use Rattle.declaration_bytes.specs.Unread.{end_of_text, next_of, run_of}
 
 -- ---- the next byte
@@ -24,17 +26,30 @@ pub next_end : (s : List ℕ) (at : ℕ) → length s ≤ at → end_of_text ≡
 unfolding next_of
 next_end s at h = rw (drop_of_length-le s h)
 
-pub space_end_lem : is_space end_of_text ≡ false
-unfolding is_space
-space_end_lem = refl
+-- past the end of the list the next byte is what stands for it
+pub next_or_end : (s : List ℕ) (at : ℕ) → get_or s at end_of_text ≡ next_of (drop at s)
+unfolding next_of
+next_or_end [] at = rw (drop-nil {A = ℕ} at)
+next_or_end (b ∷ s) zero = refl
+next_or_end (b ∷ s) (suc at) = next_or_end s at
 
 pub word_end_lem : word_byte end_of_text ≡ false
 word_end_lem = no_word_lem.0
 
-pub past_bytes : (n : ℕ) → n ≤ end_of_text → end_of_text ≤ n → false ≡ word_byte n
-past_bytes n h k = let e : n ≡ end_of_text = omega arith in sym (ap word_byte e ∙ word_end_lem)
-
 -- ---- a run
+
+-- a run as the library counts it
+pub run_prefix : (test : ℕ → Bool) (t : List ℕ) → prefix_len test t ≡ run_of test t
+unfolding run_of
+run_prefix test [] = refl
+run_prefix test (b ∷ t) = let e : 1 + prefix_len test t ≡ suc (run_of test t) = omega (arith, run_prefix test t) in ap (λ (n : ℕ). cond (test b) n 0) e
+
+-- the place behind a run, counted from a place on
+pub run_end : (test : ℕ → Bool) (s : List ℕ) (at n : ℕ) → at ≤ length s → n ≡ prefix_len test (take (length s - at) (drop at s)) →
+    (at + n ≡ at + run_of test (drop at s)) × (at + n ≤ length s)
+run_end test s at n h e =
+    let d : n ≡ prefix_len test (drop at s) = e ∙ ap (prefix_len test) (take_rest s at) in
+    (ap (λ (k : ℕ). at + k) (d ∙ run_prefix test (drop at s)), omega (arith, d, prefix_len-le-length test (drop at s), length-drop at s))
 
 -- the place where the run that begins at i ends
 pub stop : (ℕ → Bool) → List ℕ → ℕ → ℕ

@@ -2,9 +2,11 @@
 // `declaration_scan`, and the next token by them.
 #![tactic(auto)]
 
-ghost use Rattle.std.specs.Prelude.{◌≡◌, ◌≤◌, length, drop};
+ghost use Rattle.std.specs.Prelude.{◌≡◌, ◌-◌, ◌≤◌, length, drop, unwrap_or};
 ghost use Rattle.declaration_bytes.specs.Unread.{end_of_text, next_of};
+ghost use Rattle.std.specs.Iterator.{at_most};
 ghost use Rattle.declaration_scan.specs.Piece.{space_end, piece_from, piece_at};
+ghost use Rattle.declaration_cursor.specs.Tokens.{Steps};
 
 use declaration_scan::Piece;
 
@@ -22,9 +24,9 @@ pub fn cursor_at<'a>(text: &'a [u8], at: usize) -> Cursor<'a>
     Cursor { text, at }
 }
 
-// The next unread byte, or 256 at the end of the text.
-pub fn next_byte<'a>(c: Cursor<'a>) -> usize
-    ensures { (result ≡ next_of (drop c.entry.at c.entry.text.now)) × (result ≤ end_of_text) }
+// The next unread byte, or none at the end of the text.
+pub fn next_byte<'a>(c: Cursor<'a>) -> Option<u8>
+    ensures { unwrap_or result end_of_text ≡ next_of (drop c.entry.at c.entry.text.now) }
 {
     declaration_bytes::next_unread(c.text, c.at)
 }
@@ -39,8 +41,8 @@ pub fn past_spaces<'a>(c: Cursor<'a>) -> Cursor<'a>
 }
 
 // The token at the cursor, which begins with the byte `first`; the white space before it begins at `start`.
-pub fn piece_here<'a>(c: Cursor<'a>, start: usize, first: usize) -> Piece
-    requires { (c.at ≤ length c.text.now) × (first ≡ next_of (drop c.at c.text.now)) × (first ≤ end_of_text) }
+pub fn piece_here<'a>(c: Cursor<'a>, start: usize, first: Option<u8>) -> Piece
+    requires { (c.at ≤ length c.text.now) × (unwrap_or first end_of_text ≡ next_of (drop c.at c.text.now)) }
     ensures { (result ≡ piece_from c.entry.text.now start c.entry.at) × (result.to ≤ length c.entry.text.now) }
 {
     declaration_scan::piece_from(c.text, start, c.at, first)
@@ -53,4 +55,23 @@ pub fn piece_at(text: &[u8], at: usize) -> Piece
 {
     let c = past_spaces(cursor_at(text, at));
     piece_here(c, at, next_byte(c))
+}
+
+// A loop over the tokens from the cursor on: `for piece in cursor_at(text, at)`.
+impl<'a> Iterator for Cursor<'a> {
+    type Item = Piece;
+
+    ghost next_gives = { λ s r t. Steps s r t };
+
+    ghost remaining = { λ s. at_most (length s.text.now - s.at) };
+
+    #[tactic(auto, using(declaration_scan::proofs::Pieces::piece_onward))]
+    fn next(&mut self) -> Option<Piece> {
+        if self.at >= self.text.len() {
+            return None;
+        }
+        let piece = piece_at(self.text, self.at);
+        self.at = piece.to;
+        Some(piece)
+    }
 }

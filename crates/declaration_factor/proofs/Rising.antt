@@ -13,6 +13,7 @@ use lib.ListN.{length}
 use Rattle.nameset.specs.declared.NameSet.{NameSet}
 use Rattle.nameset.specs.Set.{member, Sized, is_empty, first, rest}
 use Rattle.nameset.specs.Promise.{Smallest}
+use Rattle.nameset.specs.Names.{Given}
 use Rattle.nameset.proofs.Laws.{member_rest, sized_rest, is_empty_none, none_is_empty, first_bound, first_least, first_in}
 use Rattle.model.specs.declared.Chain.{Chain}
 use Rattle.model.specs.Record.{factor_of}
@@ -51,6 +52,10 @@ pub rising_next : (n : ℕ) (s : NameSet) (x : ℕ) → Smallest s x → is_empt
 rising_next n s x f e w =
     let m : member s x ≡ true = (f.found e).1 in
     rising_first s (rest s) x m f.least (λ j. member_rest s j ∙ ap (λ (y : ℕ). member s j && not (eqb y j)) (sym f.same)) 0 n (omega arith) (let l = w x m in omega arith)
+
+-- the same at a turn of a loop over the members
+pub rising_given : (n : ℕ) (s : NameSet) (x : ℕ) (t : NameSet) → Given s x t → MembersBelow n s → rising s 0 n ≡ x ∷ rising (rest s) 0 n
+rising_given n s x t g w = rising_next n s x g.least g.some w
 
 pub within_rest : (n : ℕ) (s t : NameSet) → t ≡ rest s → MembersBelow n s → MembersBelow n t
 within_rest n s t e w x m = w x (left (member s x) (not (eqb (first s) x)) (sym (ap (λ (u : NameSet). member u x) e ∙ member_rest s x) ∙ m))

@@ -13,28 +13,30 @@ ghost use Rattle.declaration_factor.specs.Parts.{lead_byte, close_byte, mode_byt
 use book::Layout;
 use byte_buffer::{put_all, put_some};
 use model::Chain;
-use nameset::{NameSet, PLACES};
+use nameset::NameSet;
 
 // The mode of factor i.
+#[tactic(auto, unfolding(model::specs::Record::mode_of))]
 fn mode_of(m: Chain, i: usize) -> u8
     ensures { result ≡ mode_of m i }
 {
-    let mode = m.mode;
-    if i < PLACES { mode[i] } else { 0 }
+    m.mode.get(i).copied().unwrap_or(0)
 }
 
 // What stands before a name of a factor: nothing where it is the only one.
+#[tactic(auto, unfolding(crate::specs::Parts::lead_byte))]
 fn lead(many: bool, some: bool) -> u8
     ensures { result ≡ lead_byte many some }
 {
-    if many {
-        if some { b'|' } else { b'(' }
-    } else {
-        0
+    match (many, some) {
+        (true, true) => b'|',
+        (true, false) => b'(',
+        (false, _) => 0,
     }
 }
 
 // What stands behind the names of a factor.
+#[tactic(auto, unfolding(crate::specs::Parts::close_byte))]
 fn closing(many: bool) -> u8
     ensures { result ≡ close_byte many }
 {
@@ -42,6 +44,7 @@ fn closing(many: bool) -> u8
 }
 
 // The mark of a mode, 0 for none.
+#[tactic(auto, unfolding(crate::specs::Parts::mode_byte, declaration_spelling::specs::Token::mark_byte))]
 fn mark(mode: u8) -> u8
     ensures { result ≡ mode_byte mode }
 {
@@ -49,7 +52,7 @@ fn mark(mode: u8) -> u8
         0 => 0,
         1 => b'?',
         2 => b'+',
-        3..=255 => b'*',
+        _ => b'*',
     }
 }
 
@@ -76,13 +79,10 @@ pub fn put_names(
 {
     let mut to = at;
     let mut later = some;
-    let mut left = names;
-    while !left.is_empty() {
-        let x = left.first();
+    for x in names.names() {
         to = put_some(buffer, to, lead(many, later));
         to = put_name(buffer, to, bytes, layout, x);
         later = true;
-        left = left.rest();
     }
     to
 }

@@ -23,7 +23,7 @@ use Rattle.declaration_scan.specs.Piece.{token_length, word_end, space_end, piec
 use Rattle.declaration_scan.proofs.Pieces.{piece_over, piece_first}
 use Rattle.declaration_form.specs.Step.{begins, token_at, advance, accepts_from}
 use Rattle.declaration_form.proofs.Begins.{strip_begins}
-use Rattle.declaration_form.proofs.Tokens.{here_word, here_on}
+use Rattle.declaration_form.proofs.Tokens.{here_word}
 
 -- ---- one piece
 
@@ -47,13 +47,6 @@ told s at = (refl, refl, omega arith)
 -- what the next piece tells
 pub piece_told : (s : List ℕ) (at : ℕ) (p : Piece) → p ≡ piece_at s at → (p.kind ≡ kind_of (next_of (drop p.from s))) × (p.to ≡ word_end s p.from) × (at ≤ p.from)
 piece_told s at p e = rw e (told s at)
-
--- a token takes the walk on
-pub piece_on : (s : List ℕ) (at : ℕ) (p : Piece) → p ≡ piece_at s at → p.from < length s → at < p.to
-piece_on s at p e h =
-    let t = piece_told s at p e in
-    let k = here_on s p.kind p.from p.to t.0 t.1 h in
-    omega arith
 
 module _ (s : List ℕ) (at : ℕ) (state : State) (bw : Bool) where
   -- behind the last token

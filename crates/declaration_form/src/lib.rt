@@ -15,33 +15,21 @@ use declaration_states::{
     BEFORE_PARENT, BEHIND_END, ENTRIES, NOWHERE, fits, good_word, next_state,
 };
 
-// Whether these bytes stand in the text from a place on.
-fn begins_at(text: &[u8], at: usize, bytes: &[u8]) -> bool
-    requires { at ≤ length text.now }
-    ensures { result ≡ begins bytes.now (drop at text.now) }
+// Whether these bytes stand at the start of a text.
+#[tactic(auto, using(crate::proofs::Begins::begins_is))]
+fn begins_with(text: &[u8], bytes: &[u8]) -> bool
+    ensures { result ≡ begins bytes.now text.now }
 {
-    let mut i = 0;
-    while i < bytes.len() {
-        if text.len() <= at + i {
-            return false;
-        }
-        if text[at + i] != bytes[i] {
-            return false;
-        }
-        i += 1;
-    }
-    true
+    text.starts_with(bytes)
 }
 
 // Whether these bytes stand from one place up to another.
+#[tactic(auto, using(crate::proofs::Begins::same_pointwise))]
 fn stands_at(text: &[u8], from: usize, to: usize, bytes: &[u8]) -> bool
     requires { (from ≤ to) × (to ≤ length text.now) }
     ensures { result ≡ same (take (to - from) (drop from text.now)) bytes.now }
 {
-    if to - from != bytes.len() {
-        return false;
-    }
-    begins_at(text, from, bytes)
+    &text[from..to] == bytes
 }
 
 // The kind of a word.
@@ -63,10 +51,7 @@ fn may_stand(classes: &[u8; 256], text: &[u8], from: usize, to: usize, kind: u8)
     requires { (classes.now ≡ class_table) × (from ≤ to) × (to ≤ length text.now) × (kind ≡ token_kind (word (take (to - from) (drop from text.now)))) }
     ensures { result ≡ may_stand (take (to - from) (drop from text.now)) }
 {
-    if kind == PCDATA {
-        return true;
-    }
-    good_word(classes, text, from, to)
+    kind == PCDATA || good_word(classes, text, from, to)
 }
 
 // The state behind a token, by the table of states and that of classes.
@@ -103,11 +88,9 @@ fn walks(text: &[u8], at: usize) -> bool
 {
     let states = declaration_states::state_table();
     let classes = name::class_table();
-    let mut i = at;
     let mut state = BEFORE_PARENT;
     let mut behind = true;
-    while i < text.len() {
-        let piece = declaration_cursor::piece_at(text, i);
+    for piece in declaration_cursor::cursor_at(text, at) {
         if text.len() <= piece.from {
             return false;
         }
@@ -116,7 +99,6 @@ fn walks(text: &[u8], at: usize) -> bool
             return false;
         }
         behind = piece.kind == WORD;
-        i = piece.to;
     }
     state == BEHIND_END
 }
@@ -125,9 +107,5 @@ fn walks(text: &[u8], at: usize) -> bool
 pub fn has_form(text: &[u8]) -> bool
     ensures { result ≡ has_form text.now }
 {
-    if begins_at(text, 0, b"<!ELEMENT") {
-        walks(text, 9)
-    } else {
-        false
-    }
+    begins_with(text, b"<!ELEMENT") && walks(text, 9)
 }

@@ -1,5 +1,6 @@
 -- The returns of the functions from `is_text` to `read_tokens`, over plain values.
 -- Assumes nothing.
+use Rattle.std.specs.Prelude.{Ok, Err}
 use Prim.Native.Nat.{ℕ, ◌-◌}
 use mathlib.Core.Path.{◌≡◌, ◌∙◌, ap}
 use mathlib.Core.Bool.{Bool, true, false, cond, not}
@@ -8,22 +9,20 @@ use lib.Dec.{eqb}
 use lib.ListN.{take, drop}
 use borrow.Author.Tests.{ne_eqb}
 use Rattle.refusal.specs.declared.Refusal.TheVariants.{NotADeclaration, UnknownName}
-use Rattle.refusal.specs.Answer.{given, refused, refuse_if}
+use Rattle.refusal.specs.Answer.{refuse_if}
 use Rattle.nameset.specs.Places.{places}
-use Rattle.book.specs.declared.Found.{Found}
-use Rattle.book.specs.declared.Found.TheVariants.{At, Nothing}
+use Rattle.std.specs.Prelude.{Option, Some, None}
 use Rattle.book.specs.Access.{number_in}
 use Rattle.model.specs.declared.Chain.{Chain}
-use Rattle.model.specs.Record.{model_with, empty_chain}
+use Rattle.model.specs.declared.Model.{Model}
+use Rattle.model.specs.Record.{model_with, empty_chain, empty_model}
 use Rattle.declaration_scan.specs.declared.Piece.{Piece}
 use Rattle.declaration_scan.specs.Piece.{piece_at}
 use Rattle.declaration_spelling.specs.Kind.{word_kind, pcdata_kind, bar_kind, token_kind}
 use Rattle.declaration_spelling.specs.Token.{word}
 use Rattle.declaration_spelling.specs.Read.{known, number_for, declared}
 use Rattle.declaration_walk.specs.Gather.{factors_answer, begins_with_word, begins_with, mixed_answer, content_answer, tokens_answer}
-use Rattle.declaration_record.specs.declared.Declaration.{Declaration}
 use Rattle.declaration_rows.specs.Place.{tokens_at, part_of, text_kind}
-use Rattle.declaration_record.specs.Answered.{declaration_of}
 use Rattle.declaration_rows.proofs.Places.{word_next, text_next, bar_next, one_on, two_on, answer_next}
 use Rattle.declaration_rows.proofs.Steps.{known_found, known_missing, number_found}
 
@@ -43,20 +42,20 @@ module _ (names : List (List ℕ)) (s : List ℕ) (at parent : ℕ) (p : Piece) 
   bar_at = rw is (bar_next s at)
 
   -- behind `(#PCDATA`
-  pub mixed_names : p.kind ≡ bar_kind → (r : Declaration) → r ≡ declaration_of (factors_answer places names parent 1 (tokens_at s at)) → r ≡ declaration_of (mixed_answer places names parent (tokens_at s at))
+  pub mixed_names : p.kind ≡ bar_kind → factors_answer places names parent 1 (tokens_at s at) ≡ mixed_answer places names parent (tokens_at s at)
   unfolding mixed_answer
-  mixed_names e r q = rw (bar_at, e) q
+  mixed_names e = rw (bar_at, e)
 
-  pub mixed_none : (p.kind ≡ bar_kind → ⊥) → (c : Chain) → c ≡ empty_chain places → (r : Declaration) → r ≡ declaration_of (given (declared parent (model_with c 1))) → r ≡ declaration_of (mixed_answer places names parent (tokens_at s at))
+  pub mixed_none : (p.kind ≡ bar_kind → ⊥) → (c : Chain) → c ≡ empty_chain places → Ok (declared parent (model_with c 1)) ≡ mixed_answer places names parent (tokens_at s at)
   unfolding mixed_answer
-  mixed_none d c e r q = rw (bar_at, ne_eqb p.kind bar_kind d, ← e) q
+  mixed_none d c e = rw (bar_at, ne_eqb p.kind bar_kind d, ← e)
 
   word_at : begins_with_word (tokens_at s at) ≡ eqb p.kind word_kind
   word_at = rw is (word_next s at)
 
-  pub model_empty : p.kind ≡ word_kind → (c : Chain) → c ≡ empty_chain places → (r : Declaration) → r ≡ declaration_of (given (declared parent (model_with c 0))) → r ≡ declaration_of (content_answer places names parent (tokens_at s at))
-  unfolding content_answer
-  model_empty e c z r q = rw (word_at, e, ← z) q
+  pub model_empty : p.kind ≡ word_kind → (m : Model) → m ≡ empty_model places → Ok (declared parent m) ≡ content_answer places names parent (tokens_at s at)
+  unfolding content_answer empty_model
+  model_empty e m z = rw (word_at, e, z)
 
   -- the piece behind the bracket
   module _ (d : p.kind ≡ word_kind → ⊥) (f : Piece) (first : f ≡ piece_at s p.to) (b : Bool) (told : b ≡ text_kind f.kind (part_of s f.from f.to)) where
@@ -71,13 +70,13 @@ module _ (names : List (List ℕ)) (s : List ℕ) (at parent : ℕ) (p : Piece) 
     text_at_lem : begins_with pcdata_kind (drop 1 (tokens_at s at)) ≡ b
     text_at_lem = ap (begins_with pcdata_kind) behind_one ∙ (rw (told, first) (text_next s p.to))
 
-    pub model_text : b ≡ true → (r : Declaration) → r ≡ declaration_of (mixed_answer places names parent (tokens_at s f.to)) → r ≡ declaration_of (content_answer places names parent (tokens_at s at))
+    pub model_text : b ≡ true → mixed_answer places names parent (tokens_at s f.to) ≡ content_answer places names parent (tokens_at s at)
     unfolding content_answer
-    model_text e r q = rw (word_at, ne_eqb p.kind word_kind d, text_at_lem, e, behind_two) q
+    model_text e = rw (word_at, ne_eqb p.kind word_kind d, text_at_lem, e, behind_two)
 
-    pub model_factors : b ≡ false → (r : Declaration) → r ≡ declaration_of (factors_answer places names parent 0 (tokens_at s at)) → r ≡ declaration_of (content_answer places names parent (tokens_at s at))
+    pub model_factors : b ≡ false → factors_answer places names parent 0 (tokens_at s at) ≡ content_answer places names parent (tokens_at s at)
     unfolding content_answer
-    model_factors e r q = rw (word_at, ne_eqb p.kind word_kind d, text_at_lem, e) q
+    model_factors e = rw (word_at, ne_eqb p.kind word_kind d, text_at_lem, e)
 
 -- ---- the parent
 
@@ -85,19 +84,19 @@ module _ (names : List (List ℕ)) (s : List ℕ) (at : ℕ) (p : Piece) (is : p
   answer_at : tokens_answer places names (tokens_at s at)
       ≡ cond (eqb p.kind word_kind)
       (refuse_if (not (known names (part_of s p.from p.to))) UnknownName (content_answer places names (number_for names (part_of s p.from p.to)) (tokens_at s p.to)))
-      (refused NotADeclaration)
+      (Err NotADeclaration)
   answer_at = rw is (answer_next places names s at)
 
-  pub tokens_none : (r : Declaration) → (p.kind ≡ word_kind → ⊥) → r ≡ declaration_of (refused NotADeclaration) → r ≡ declaration_of (tokens_answer places names (tokens_at s at))
-  tokens_none r d q = rw (answer_at, ne_eqb p.kind word_kind d) q
+  pub tokens_none : (p.kind ≡ word_kind → ⊥) → Err NotADeclaration ≡ tokens_answer places names (tokens_at s at)
+  tokens_none d = rw (answer_at, ne_eqb p.kind word_kind d)
 
-  module _ (e : p.kind ≡ word_kind) (part : List ℕ) (parts : part ≡ take (p.to - p.from) (drop p.from s)) (o : Found) (found : o ≡ number_in names part) where
+  module _ (e : p.kind ≡ word_kind) (part : List ℕ) (parts : part ≡ take (p.to - p.from) (drop p.from s)) (o : Option ℕ) (found : o ≡ number_in names part) where
     part_is : part ≡ part_of s p.from p.to
     unfolding part_of
     part_is = parts
 
-    pub tokens_unknown : (r : Declaration) → o ≡ Nothing → r ≡ declaration_of (refused UnknownName) → r ≡ declaration_of (tokens_answer places names (tokens_at s at))
-    tokens_unknown r n q = rw (answer_at, e, ← part_is, ← known_missing names part o found n) q
+    pub tokens_unknown : o ≡ None → Err UnknownName ≡ tokens_answer places names (tokens_at s at)
+    tokens_unknown n = rw (answer_at, e, ← part_is, ← known_missing names part o found n)
 
-    pub tokens_model : (x : ℕ) (r : Declaration) → o ≡ At x → r ≡ declaration_of (content_answer places names x (tokens_at s p.to)) → r ≡ declaration_of (tokens_answer places names (tokens_at s at))
-    tokens_model x r n q = rw (answer_at, e, ← part_is, ← known_found names part o found x n, ← number_found names part o found x n) q
+    pub tokens_model : (x : ℕ) → o ≡ Some x → content_answer places names x (tokens_at s p.to) ≡ tokens_answer places names (tokens_at s at)
+    tokens_model x n = rw (answer_at, e, ← part_is, ← known_found names part o found x n, ← number_found names part o found x n)

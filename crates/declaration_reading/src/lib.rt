@@ -7,14 +7,14 @@ ghost use Rattle.book.specs.Book.{names_in};
 ghost use Rattle.book.specs.Access.{LaidOut};
 ghost use Rattle.declaration_walk.specs.Gather.{mixed_answer, content_answer, tokens_answer};
 ghost use Rattle.declaration_rows.specs.Place.{tokens_at, part_of, text_kind};
-ghost use Rattle.declaration_record.specs.Answered.{declaration_of};
 ghost use Rattle.declaration_reading.specs.Read.{ReadsDeclaration};
 
-use book::{Found, Layout};
-use declaration_record::{Declaration, given, read_factors, refused};
+use book::Layout;
+use declaration_record::read_factors;
 use declaration_scan::{BAR, PCDATA, Piece, WORD};
-use model::Chain;
-use refusal::{Outcome, Refusal};
+use declaration_spelling::Declared;
+use model::{Chain, Model};
+use refusal::Refusal;
 
 // How many bytes `<!ELEMENT` has.
 const OPENING: usize = 9;
@@ -31,25 +31,42 @@ fn is_text(text: &[u8], piece: Piece) -> bool
 }
 
 // The model from the place behind `(#PCDATA` on: with names, or without.
-fn read_mixed(bytes: &[u8], layout: Layout, text: &[u8], at: usize, parent: usize) -> Declaration
+fn read_mixed(
+    bytes: &[u8],
+    layout: Layout,
+    text: &[u8],
+    at: usize,
+    parent: usize,
+) -> Result<Declared, Refusal>
     requires { LaidOut bytes.now layout × (at ≤ length text.now) }
-    ensures { result ≡ declaration_of (mixed_answer places (names_in bytes.now) parent (tokens_at text.now at)) }
+    ensures { result ≡ mixed_answer places (names_in bytes.now) parent (tokens_at text.now at) }
 {
     let piece = declaration_cursor::piece_at(text, at);
     if piece.kind == BAR {
         return read_factors(bytes, layout, text, at, parent, 1);
     }
-    given(parent, Chain::empty(), 1)
+    let model = Model {
+        chain: Chain::empty(),
+        text: 1,
+    };
+    Ok(Declared { parent, model })
 }
 
 // The model from a place on: `EMPTY`, with text, or factors without.
-fn read_model(bytes: &[u8], layout: Layout, text: &[u8], at: usize, parent: usize) -> Declaration
+fn read_model(
+    bytes: &[u8],
+    layout: Layout,
+    text: &[u8],
+    at: usize,
+    parent: usize,
+) -> Result<Declared, Refusal>
     requires { LaidOut bytes.now layout × (at ≤ length text.now) }
-    ensures { result ≡ declaration_of (content_answer places (names_in bytes.now) parent (tokens_at text.now at)) }
+    ensures { result ≡ content_answer places (names_in bytes.now) parent (tokens_at text.now at) }
 {
     let piece = declaration_cursor::piece_at(text, at);
     if piece.kind == WORD {
-        return given(parent, Chain::empty(), 0);
+        let model = Model::empty();
+        return Ok(Declared { parent, model });
     }
     let first = declaration_cursor::piece_at(text, piece.to);
     if is_text(text, first) {
@@ -60,32 +77,27 @@ fn read_model(bytes: &[u8], layout: Layout, text: &[u8], at: usize, parent: usiz
 
 // The parent and the model from a place on. In a text that has the form of a declaration a word stands there; without
 // one the answer is 13.
-fn read_tokens(bytes: &[u8], layout: Layout, text: &[u8], at: usize) -> Declaration
+fn read_tokens(bytes: &[u8], layout: Layout, text: &[u8], at: usize) -> Result<Declared, Refusal>
     requires { LaidOut bytes.now layout × (at ≤ length text.now) }
-    ensures { result ≡ declaration_of (tokens_answer places (names_in bytes.now) (tokens_at text.now at)) }
+    ensures { result ≡ tokens_answer places (names_in bytes.now) (tokens_at text.now at) }
 {
     let piece = declaration_cursor::piece_at(text, at);
     if piece.kind != WORD {
-        return refused(Refusal::NotADeclaration);
+        return Err(Refusal::NotADeclaration);
     }
     match book_access::find_name(bytes, layout, book_bytes::part(text, piece.from, piece.to)) {
-        Found::At(parent) => read_model(bytes, layout, text, piece.to, parent),
-        Found::Nothing => refused(Refusal::UnknownName),
+        Some(parent) => read_model(bytes, layout, text, piece.to, parent),
+        None => Err(Refusal::UnknownName),
     }
 }
 
 // The call: any bytes as the book, any text.
-pub fn read_declaration(bytes: &[u8], text: &[u8]) -> Declaration
+pub fn read_declaration(bytes: &[u8], text: &[u8]) -> Result<Declared, Refusal>
     ensures { ReadsDeclaration bytes.now text.now result }
 {
-    let reading = book_reading::take_book(bytes);
-    let outcome = reading.outcome;
-    if let Outcome::Refused(refusal) = outcome {
-        return refused(refusal);
-    }
-    let layout = reading.layout;
+    let layout = book_reading::take_book(bytes)?;
     if !declaration_form::has_form(text) {
-        return refused(Refusal::NotADeclaration);
+        return Err(Refusal::NotADeclaration);
     }
     read_tokens(bytes, layout, text, OPENING)
 }

@@ -1,5 +1,6 @@
--- The steps and returns of `read_factors` and `refused`, over plain values.
+-- The steps and returns of `read_factors`, over plain values.
 -- Assumes nothing.
+use Rattle.std.specs.Prelude.{Ok, Err}
 use Prim.Native.Nat.{ℕ, ◌+◌, ◌≤◌, ◌<◌}
 use mathlib.Core.Path.{◌≡◌, refl, sym, ◌∙◌, ap}
 use mathlib.Core.Bool.{Bool, true, false, cond, ◌&&◌, false≢true}
@@ -9,20 +10,15 @@ use native.Mathlib.Numerals.{add-one}
 use lib.Dec.{ltb}
 use lib.ListN.{length, replicate}
 use borrow.Author.Tests.{ltb-true}
-use Rattle.refusal.specs.declared.Refusal.{Refusal}
 use Rattle.refusal.specs.declared.Refusal.TheVariants.{UnknownName}
-use Rattle.refusal.specs.declared.Outcome.TheVariants.{Refused}
-use Rattle.refusal.specs.Answer.{given, refused}
 use Rattle.nameset.specs.Places.{places}
-use Rattle.model.specs.declared.Model.{Model}
-use Rattle.model.specs.Record.{no_factor, model_with, empty_model}
+use Rattle.model.specs.Record.{no_factor, model_with}
 use Rattle.declaration_scan.specs.declared.Piece.{Piece}
 use Rattle.declaration_scan.specs.Piece.{piece_at}
 use Rattle.declaration_spelling.specs.Read.{number_for, declared}
 use Rattle.declaration_walk.specs.Gather.{known_tokens, Rows, start_rows, and_then, gather_from, model_of, factors_answer}
-use Rattle.declaration_record.specs.declared.Declaration.{Declaration}
 use Rattle.declaration_rows.specs.Place.{tokens_at, part_of, kind_mode, take_kind, free_kind, factor_after, mode_after, index_after}
-use Rattle.declaration_record.specs.Answered.{parent_due, model_due, declaration_of, twice_or_unknown}
+use Rattle.declaration_record.specs.Answered.{twice_or_unknown}
 use Rattle.declaration_rows.proofs.Places.{tokens_over, take_next, take_rows}
 use Rattle.declaration_rows.proofs.Steps.{known_over}
 
@@ -72,22 +68,15 @@ left_over names s i index factor mode h = rw (tokens_over s i h)
 -- what the walk has come to at i: the words passed are known, and the rows are filled
 module _ (names : List (List ℕ)) (s : List ℕ) (at parent mixed i index : ℕ) (factor mode : List ℕ) (knowns : known_tokens names (tokens_at s at) ≡ known_tokens names (tokens_at s i))
     (inv : gather_from places names (tokens_at s at) (start_rows places) ≡ left names s i index factor mode) where
-  pub factors_done : length s ≤ i → (r : Declaration) → r ≡ declaration_of (given (declared parent (model_with record { count = index + 1; factor = factor; mode = mode } mixed)))
-      → r ≡ declaration_of (factors_answer places names parent mixed (tokens_at s at))
+  pub factors_done : length s ≤ i → Ok (declared parent (model_with record { count = index + 1; factor = factor; mode = mode } mixed)) ≡ factors_answer places names parent mixed (tokens_at s at)
   unfolding factors_answer model_of
-  factors_done h r q = rw (knowns ∙ sym (known_over names s i h), inv ∙ left_over names s i index factor mode h, ← add-one) q
+  factors_done h = rw (knowns ∙ sym (known_over names s i h), inv ∙ left_over names s i index factor mode h, add-one index)
 
-  pub factors_unknown : (r : Declaration) → false ≡ known_tokens names (tokens_at s i) → r ≡ declaration_of (refused UnknownName) → r ≡ declaration_of (factors_answer places names parent mixed (tokens_at s at))
+  pub factors_unknown : false ≡ known_tokens names (tokens_at s i) → Err UnknownName ≡ factors_answer places names parent mixed (tokens_at s at)
   unfolding factors_answer
-  factors_unknown r e q = rw (knowns ∙ sym e) q
+  factors_unknown e = rw (knowns ∙ sym e)
 
-  pub factors_twice : (r : Declaration) (b : Bool) → known_tokens names (tokens_at s i) ≡ b → left names s i index factor mode ≡ none → r ≡ declaration_of (refused (twice_or_unknown b)) → r ≡ declaration_of (factors_answer places names parent mixed (tokens_at s at))
+  pub factors_twice : (b : Bool) → known_tokens names (tokens_at s i) ≡ b → left names s i index factor mode ≡ none → Err (twice_or_unknown b) ≡ factors_answer places names parent mixed (tokens_at s at)
   unfolding factors_answer twice_or_unknown
-  factors_twice r true e n q = rw (knowns ∙ e, inv ∙ n) q
-  factors_twice r false e n q = rw (knowns ∙ e) q
-
--- ---- a refused call
-
-pub refused_is : (f : Refusal) (m : Model) → m ≡ empty_model places → record { outcome = Refused f; parent = 0; model = m } ≡ declaration_of (refused f)
-unfolding declaration_of parent_due model_due
-refused_is f m e = rw e
+  factors_twice true e n = rw (knowns ∙ e, inv ∙ n)
+  factors_twice false e n = rw (knowns ∙ e)

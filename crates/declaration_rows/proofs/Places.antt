@@ -1,5 +1,6 @@
 -- One token by its place in the text: what is known of it, what it does to the rows, and what is left behind it.
 -- Assumes nothing.
+use Rattle.std.specs.Prelude.{Err}
 use Prim.Native.Nat.{ℕ, zero, suc, ◌+◌, ◌-◌, ◌≤◌, ◌<◌}
 use mathlib.Core.Path.{◌≡◌, refl, sym, ap}
 use mathlib.Core.Bool.{Bool, true, false, cond, not, ◌&&◌}
@@ -14,12 +15,13 @@ use lib.ListN.{length, get_or, set, drop, drop_of_length-le}
 use lib.Seq.{drop-cons}
 use borrow.Author.Tests.{ne_eqb, lt-ltb}
 use Rattle.refusal.specs.declared.Refusal.TheVariants.{NotADeclaration, UnknownName}
-use Rattle.refusal.specs.Answer.{Answer, refused, refuse_if}
+use Rattle.refusal.specs.Answer.{Answer, refuse_if}
 use Rattle.declaration_spelling.specs.Token.{is_space, Token, word}
 use Rattle.declaration_spelling.specs.House.{empty_word, pcdata_word}
 use Rattle.declaration_spelling.specs.Cut.{same, Cut, at_front, cut, tokens}
 use Rattle.declaration_spelling.specs.Kind.{other_kind, word_kind, empty_kind, pcdata_kind, comma_kind, bar_kind, mark_kind, token_kind}
-use Rattle.declaration_spelling.specs.Read.{known, number_for, Declared}
+use Rattle.declaration_spelling.specs.declared.Declared.{Declared}
+use Rattle.declaration_spelling.specs.Read.{known, number_for}
 use Rattle.declaration_walk.specs.Walk.{is_word, passes, all_pass}
 use Rattle.declaration_bytes.specs.Unread.{next_of, run_of}
 use Rattle.declaration_scan.specs.Kind.{kind_of}
@@ -68,15 +70,6 @@ next_is s at = go (drop (space_end s at) s) refl
 pub piece_order : (s : List ℕ) (at : ℕ) → (piece_at s at).from ≤ (piece_at s at).to
 unfolding piece_at word_end
 piece_order s at = omega arith
-
--- the walk goes on
-pub piece_onward : (s : List ℕ) (at : ℕ) → at < length s → at < (piece_at s at).to
-unfolding piece_at word_end space_end
-piece_onward s at h = go (run_of is_space (drop at s)) refl
-  where
-    go : (k : ℕ) → run_of is_space (drop at s) ≡ k → at < at + k + token_length (drop (at + k) s)
-    go zero e = let z : at + 0 ≡ at = omega arith in rw (z, drop-cons s at 0 h) (omega (arith, token_some (get_or s at 0) (drop (suc at) s)))
-    go (suc k) e = omega arith
 
 -- ---- by kinds
 
@@ -194,13 +187,13 @@ two_on s at = go (next_is s at)
 
 -- the answer by the first token of a declaration, its parent, and the tokens behind it
 abbrev answer_by : ℕ → List (List ℕ) → List Token → ℕ → List ℕ → Answer Declared
-answer_by size names ts kind w = cond (eqb kind word_kind) (refuse_if (not (known names w)) UnknownName (content_answer size names (number_for names w) ts)) (refused NotADeclaration)
+answer_by size names ts kind w = cond (eqb kind word_kind) (refuse_if (not (known names w)) UnknownName (content_answer size names (number_for names w) ts)) (Err NotADeclaration)
 
 answer_agrees : (size : ℕ) (names : List (List ℕ)) (ts : List Token) → Agree (λ t. tokens_answer size names (t ∷ ts)) (answer_by size names ts)
 unfolding tokens_answer
 answer_agrees size names ts w b = (refl, refl, refl, refl, refl, refl, refl, refl, refl, refl)
 
-answer_end : (size : ℕ) (names : List (List ℕ)) → tokens_answer size names [] ≡ refused NotADeclaration
+answer_end : (size : ℕ) (names : List (List ℕ)) → tokens_answer size names [] ≡ Err NotADeclaration
 unfolding tokens_answer
 answer_end size names = refl
 

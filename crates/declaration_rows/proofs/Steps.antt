@@ -1,6 +1,6 @@
 -- The steps and returns of the functions for one token and of `all_known`, over plain values.
 -- Assumes nothing.
-use Prim.Native.Nat.{ℕ, zero, suc, ◌+◌, ◌-◌, ◌≤◌, ◌<◌}
+use Prim.Native.Nat.{ℕ, zero, suc, ◌-◌, ◌≤◌, ◌<◌}
 use mathlib.Core.Path.{◌≡◌, refl, sym, ◌∙◌, ap}
 use mathlib.Core.Bool.{Bool, true, false, cond, ◌&&◌}
 use mathlib.Core.List.{List, [], ◌∷◌}
@@ -11,34 +11,34 @@ use lib.ListN.{length, get_or, set, take, drop, length-set}
 use borrow.Author.Tests.{ne_eqb, eqb-true}
 use Rattle.nameset.specs.Places.{places}
 use Rattle.book.specs.declared.Layout.{Layout}
-use Rattle.book.specs.declared.Found.{Found}
-use Rattle.book.specs.declared.Found.TheVariants.{At, Nothing}
+use Rattle.std.specs.Prelude.{Option, Some, None}
 use Rattle.book.specs.Book.{names_in}
 use Rattle.book.specs.Access.{LaidOut, number_in}
 use Rattle.model.specs.Record.{no_factor}
 use Rattle.declaration_scan.specs.declared.Piece.{Piece}
 use Rattle.declaration_scan.specs.Piece.{piece_at}
-use Rattle.declaration_spelling.specs.Kind.{word_kind, comma_kind}
+use Rattle.declaration_scan.proofs.Pieces.{piece_onward}
+use Rattle.declaration_spelling.specs.Kind.{word_kind}
 use Rattle.declaration_spelling.specs.Read.{known, number_for}
 use Rattle.declaration_spelling.proofs.Names.{number_is}
 use Rattle.declaration_spelling.proofs.Books.{few}
 use Rattle.declaration_walk.specs.Walk.{all_pass}
 use Rattle.declaration_walk.specs.Gather.{known_tokens}
-use Rattle.declaration_rows.specs.Place.{tokens_at, part_of, known_kind, number_at, free_at, free_kind, factor_after, mode_after, index_after}
-use Rattle.declaration_rows.proofs.Places.{tokens_over, piece_order, piece_onward, known_next}
+use Rattle.declaration_rows.specs.Place.{tokens_at, part_of, known_kind, number_at, free_at, free_kind, factor_after, mode_after}
+use Rattle.declaration_rows.proofs.Places.{tokens_over, piece_order, known_next}
 
 -- ---- names by the book
 
-module _ (names : List (List ℕ)) (w : List ℕ) (o : Found) (is : o ≡ number_in names w) where
-  pub known_found : (x : ℕ) → o ≡ At x → true ≡ known names w
+module _ (names : List (List ℕ)) (w : List ℕ) (o : Option ℕ) (is : o ≡ number_in names w) where
+  pub known_found : (x : ℕ) → o ≡ Some x → true ≡ known names w
   unfolding known
   known_found x e = rw (← is, e)
 
-  pub known_missing : o ≡ Nothing → false ≡ known names w
+  pub known_missing : o ≡ None → false ≡ known names w
   unfolding known
   known_missing e = rw (← is, e)
 
-  pub number_found : (x : ℕ) → o ≡ At x → x ≡ number_for names w
+  pub number_found : (x : ℕ) → o ≡ Some x → x ≡ number_for names w
   unfolding number_for
   number_found x e = rw (← is, e)
 
@@ -50,15 +50,15 @@ number_sign names kind w d = rw (ne_eqb kind word_kind d)
 
 -- a word, looked up in the book s
 module _ (s : List ℕ) (l : Layout) (laid : LaidOut s l) (kind : ℕ) (e : kind ≡ word_kind) (text : List ℕ) (from to : ℕ) (part : List ℕ) (p : part ≡ take (to - from) (drop from text))
-    (o : Found) (is : o ≡ number_in (names_in s) part) where
-  pub number_word : (x : ℕ) → o ≡ At x → (x ≡ number_at (names_in s) kind (part_of text from to)) × (x ≤ places)
+    (o : Option ℕ) (is : o ≡ number_in (names_in s) part) where
+  pub number_word : (x : ℕ) → o ≡ Some x → (x ≡ number_at (names_in s) kind (part_of text from to)) × (x ≤ places)
   unfolding number_at part_of
   number_word x q =
       let k : true ≡ known (names_in s) part = known_found (names_in s) part o is x q in
       let v : x ≡ number_for (names_in s) part = number_found (names_in s) part o is x q in
       (rw (e, ← p, ← k) v, omega (arith, (number_is (names_in s) part (sym k)).0, v, few s l laid))
 
-  pub number_none : o ≡ Nothing → (places ≡ number_at (names_in s) kind (part_of text from to)) × (places ≤ places)
+  pub number_none : o ≡ None → (places ≡ number_at (names_in s) kind (part_of text from to)) × (places ≤ places)
   unfolding number_at part_of
   number_none q = (rw (e, ← p, ← known_missing (names_in s) part o is q) refl, omega arith)
 
@@ -130,14 +130,6 @@ mode_put (suc m) mode index d = (refl, length-set mode index (suc m))
 pub mode_kept : (m : ℕ) (mode : List ℕ) (index : ℕ) → m ≡ 0 → (mode ≡ mode_after m mode index) × (length mode ≡ length mode)
 unfolding mode_after
 mode_kept m mode index e = (rw e refl, refl)
-
-pub index_comma : (kind index : ℕ) → kind ≡ comma_kind → index + 1 ≡ index_after kind index
-unfolding index_after
-index_comma kind index e = rw e (omega arith)
-
-pub index_kept : (kind index : ℕ) → (kind ≡ comma_kind → ⊥) → index ≡ index_after kind index
-unfolding index_after
-index_kept kind index d = rw (ne_eqb kind comma_kind d)
 
 -- ---- every word is known
 

@@ -36,6 +36,7 @@ pub fn place_piece(factor: &mut [u8], kind: u8, x: usize, index: usize) -> bool
 }
 
 // The mode that a mark stands for: 0 for what is no mark.
+#[tactic(auto, unfolding(crate::specs::Place::kind_mode))]
 pub fn mode_of(kind: u8) -> u8
     ensures { result ≡ kind_mode kind }
 {
@@ -58,6 +59,7 @@ pub fn put_mode(mode: &mut [u8], index: usize, m: u8)
 }
 
 // The factor under way behind a token: a comma begins the next one.
+#[tactic(auto, unfolding(crate::specs::Place::index_after))]
 pub fn next_index(kind: u8, index: usize) -> usize
     requires { index < places }
     ensures { result ≡ index_after kind index }
@@ -69,5 +71,5 @@ pub fn next_index(kind: u8, index: usize) -> usize
 pub fn fine(free: bool, index: usize) -> bool
     ensures { result ≡ (free && ltb index places) }
 {
-    if free { index < PLACES } else { false }
+    free && index < PLACES
 }

@@ -6,7 +6,7 @@ ghost use Rattle.book.specs.Access.{LaidOut};
 ghost use Rattle.declaration_walk.specs.Gather.{known_tokens};
 ghost use Rattle.declaration_rows.specs.Place.{tokens_at, part_of, number_at};
 
-use book::{Found, Layout};
+use book::Layout;
 use declaration_scan::{Piece, WORD};
 use nameset::PLACES;
 
@@ -19,8 +19,8 @@ pub fn number_at(bytes: &[u8], layout: Layout, text: &[u8], piece: Piece) -> usi
         return 0;
     }
     match book_access::find_name(bytes, layout, book_bytes::part(text, piece.from, piece.to)) {
-        Found::At(x) => x,
-        Found::Nothing => PLACES,
+        Some(x) => x,
+        None => PLACES,
     }
 }
 
@@ -29,13 +29,10 @@ pub fn all_known(bytes: &[u8], layout: Layout, text: &[u8], at: usize) -> bool
     requires { LaidOut bytes.now layout × (at ≤ length text.now) }
     ensures { result ≡ known_tokens (names_in bytes.now) (tokens_at text.now at) }
 {
-    let mut i = at;
-    while i < text.len() {
-        let piece = declaration_cursor::piece_at(text, i);
+    for piece in declaration_cursor::cursor_at(text, at) {
         if number_at(bytes, layout, text, piece) == PLACES {
             return false;
         }
-        i = piece.to;
     }
     true
 }

@@ -19,6 +19,7 @@ use Rattle.declaration_bytes.proofs.Cuts.{some_of, cut_spaces, cut_sign, cut_wor
 use Rattle.declaration_scan.specs.Kind.{sign_kind, kind_of}
 use Rattle.declaration_scan.specs.Piece.{token_length, word_end, space_end, piece_from, piece_at, token_of}
 use Rattle.declaration_scan.proofs.Signs.{sign_no_word}
+use Rattle.declaration_scan.proofs.ByKind.{token_some}
 
 -- ---- where a token ends
 
@@ -123,3 +124,12 @@ piece_first s at b bs e =
     ∙ ap (λ (t : List ℕ). record { gap = ltb at (space_end s at); pieces = (cut t).pieces }) e
     ∙ ap (λ (c : Cut). record { gap = ltb at (space_end s at); pieces = c.pieces }) (first_token b bs q)
     ∙ ap (λ (t : List ℕ). record { gap = ltb at (space_end s at); pieces = (at_front (token_of (take (token_length (b ∷ bs)) (b ∷ bs))) (cut t)).pieces }) (sym d)
+
+-- the next token ends further on
+pub piece_onward : (s : List ℕ) (at : ℕ) → at < length s → at < (piece_at s at).to
+unfolding piece_at word_end space_end
+piece_onward s at h = go (run_of is_space (drop at s)) refl
+  where
+    go : (k : ℕ) → run_of is_space (drop at s) ≡ k → at < at + k + token_length (drop (at + k) s)
+    go zero e = let z : at + 0 ≡ at = omega arith in rw (z, drop-cons s at 0 h) (omega (arith, token_some (get_or s at 0) (drop (suc at) s)))
+    go (suc k) e = omega arith

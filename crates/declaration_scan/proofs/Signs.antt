@@ -1,13 +1,12 @@
 -- The kind of a token, by its first byte: of a word, and of each sign.
 -- Assumes nothing.
-use Prim.Native.Nat.{ℕ, suc}
-use mathlib.Core.Path.{◌≡◌, refl, sym, ◌∙◌, ap}
+use Prim.Native.Nat.{ℕ}
+use mathlib.Core.Path.{◌≡◌, refl, sym}
 use mathlib.Core.Bool.{Bool, true, false}
-use mathlib.Core.List.{List, [], ◌∷◌}
 use borrow.Author.Tests.{ne_eqb}
 use Rattle.name.specs.Word.{word_byte}
 use Rattle.name.proofs.Words.{no_word_lem}
-use Rattle.declaration_spelling.specs.Kind.{other_kind, word_kind, lpar_kind}
+use Rattle.declaration_spelling.specs.Kind.{other_kind, word_kind}
 use Rattle.declaration_spelling.proofs.Bytes.{other_byte}
 use Rattle.declaration_bytes.specs.Unread.{end_of_text}
 use Rattle.declaration_bytes.proofs.Runs.{word_end_lem}
@@ -21,22 +20,10 @@ pub kind_sign : (n k : ℕ) → word_byte n ≡ false → k ≡ sign_kind n → 
 unfolding kind_of
 kind_sign n k e q = rw e q
 
--- the kinds of the signs
-abbrev pub Kinds : List ℕ → ℕ → Type 0
-Kinds [] k = Unit {0}
-Kinds (b ∷ bs) k = (k ≡ sign_kind b) × Kinds bs (suc k)
-
-pub sign_kinds : Kinds (40 ∷ 41 ∷ 44 ∷ 124 ∷ 62 ∷ 63 ∷ 43 ∷ 42 ∷ []) lpar_kind
-unfolding sign_kind
-sign_kinds = (refl, (refl, (refl, (refl, (refl, (refl, (refl, (refl, tt))))))))
-
 -- what stands for the end of a text has no kind of its own
 pub end_kind_lem : other_kind ≡ kind_of end_of_text
 unfolding kind_of sign_kind
 end_kind_lem = rw word_end_lem
-
-pub kind_at : (n k v : ℕ) → n ≡ k → v ≡ sign_kind k → v ≡ sign_kind n
-kind_at n k v e q = q ∙ ap sign_kind (sym e)
 
 pub kind_other : (n : ℕ) → (n ≡ 40 → ⊥) → (n ≡ 41 → ⊥) → (n ≡ 44 → ⊥) → (n ≡ 124 → ⊥) → (n ≡ 62 → ⊥) → (n ≡ 63 → ⊥) → (n ≡ 43 → ⊥) → (n ≡ 42 → ⊥) → other_kind ≡ sign_kind n
 unfolding sign_kind

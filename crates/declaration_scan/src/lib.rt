@@ -1,7 +1,7 @@
 // The token that begins at a place of a text: its kind, and where it ends.
 #![tactic(auto)]
 
-ghost use Rattle.std.specs.Prelude.{◌≡◌, false, ◌+◌, ◌≤◌, length, drop};
+ghost use Rattle.std.specs.Prelude.{◌≡◌, false, ◌+◌, ◌≤◌, length, drop, unwrap_or};
 ghost use Rattle.name.specs.Word.{word_byte};
 ghost use Rattle.declaration_bytes.specs.Unread.{end_of_text, next_of, run_of};
 ghost use Rattle.declaration_scan.specs.Kind.{sign_kind};
@@ -45,24 +45,26 @@ pub struct Piece {
 }
 
 // The kind of a token that is no word, by its first byte.
-fn sign_kind(next: usize) -> u8
-    ensures { result ≡ sign_kind next }
+#[tactic(auto, unfolding(crate::specs::Kind::sign_kind))]
+fn sign_kind(first: Option<u8>) -> u8
+    ensures { result ≡ sign_kind (unwrap_or first end_of_text) }
 {
-    match next {
-        40 => LPAR,
-        41 => RPAR,
-        44 => COMMA,
-        124 => BAR,
-        62 => END,
-        63 => QUESTION,
-        43 => PLUS,
-        42 => STAR,
+    match first {
+        Some(b'(') => LPAR,
+        Some(b')') => RPAR,
+        Some(b',') => COMMA,
+        Some(b'|') => BAR,
+        Some(b'>') => END,
+        Some(b'?') => QUESTION,
+        Some(b'+') => PLUS,
+        Some(b'*') => STAR,
         _ => OTHER,
     }
 }
 
 // Where the run of the bytes of words at a place ends. None begins with a sign, so the table of classes is made for the
 // others alone.
+#[tactic(auto, using(crate::proofs::Pieces::sign_run))]
 fn run_end(text: &[u8], from: usize, sign: u8) -> usize
     requires { (from ≤ length text.now) × (sign ≡ sign_kind (next_of (drop from text.now))) }
     ensures { (result ≡ from + run_of word_byte (drop from text.now)) × (result ≤ length text.now) }
@@ -74,6 +76,7 @@ fn run_end(text: &[u8], from: usize, sign: u8) -> usize
 }
 
 // Where the token at a place ends that is no word.
+#[tactic(auto, using(crate::proofs::Pieces::end_sign, crate::proofs::Pieces::end_over))]
 fn sign_end(text: &[u8], from: usize) -> usize
     requires { (from ≤ length text.now) × (word_byte (next_of (drop from text.now)) ≡ false) }
     ensures { (result ≡ word_end text.now from) × (result ≤ length text.now) }
@@ -82,8 +85,8 @@ fn sign_end(text: &[u8], from: usize) -> usize
 }
 
 // The token that begins at `from` with the byte `first`, where the white space before it begins at `at`.
-pub fn piece_from(text: &[u8], at: usize, from: usize, first: usize) -> Piece
-    requires { (from ≤ length text.now) × (first ≡ next_of (drop from text.now)) × (first ≤ end_of_text) }
+pub fn piece_from(text: &[u8], at: usize, from: usize, first: Option<u8>) -> Piece
+    requires { (from ≤ length text.now) × (unwrap_or first end_of_text ≡ next_of (drop from text.now)) }
     ensures { (result ≡ piece_from text.now at from) × (result.to ≤ length text.now) }
 {
     let gap = at < from;

@@ -10,14 +10,15 @@ use native.Mathlib.Omega.{arith}
 use lib.Dec.{eqb}
 use lib.ListN.{length}
 use borrow.Author.Tests.{eqb-true, eq-eqb}
-use Rattle.name_order.specs.Order.{order_of, is_same}
+use Rattle.std.specs.Ordering.{is_eq}
+use Rattle.name_order.specs.Order.{order_of}
 use Rattle.name_order.proofs.Ordering.{same_refl, same_equal}
-use Rattle.book.specs.declared.Found.TheVariants.{At}
+use Rattle.std.specs.Prelude.{Some, is_some}
 use Rattle.book.specs.Access.{number_from, number_in}
 use Rattle.declaration_spelling.specs.House.{Factor, name_at}
 use Rattle.declaration_spelling.specs.Spelled.{times}
 use Rattle.declaration_spelling.specs.Stops.{Form, model_names, form_names, Twice}
-use Rattle.declaration_spelling.specs.Read.{is_found, known, number_for}
+use Rattle.declaration_spelling.specs.Read.{known, number_for}
 use Rattle.declaration_spelling.proofs.Record.{numbers_for, numbered, all_names, all_factors, all_form, total}
 use Rattle.declaration_spelling.proofs.Tests.{and_is}
 use Rattle.declaration_spelling.proofs.Names.{is_same_lem, number_is}
@@ -83,18 +84,18 @@ some_law test d = (
 
 -- ---- names of the book
 
-known_from : (names : List (List ℕ)) (i : ℕ) (w : List ℕ) → (is_found (number_from i w names) ≡ true) ↔ Memᴰ w names
+known_from : (names : List (List ℕ)) (i : ℕ) (w : List ℕ) → (is_some (number_from i w names) ≡ true) ↔ Memᴰ w names
 unfolding number_from
 known_from [] i w = (λ e. absurd (false≢true e), λ m. absurd (Memᴰ.not-nil m))
-known_from (v ∷ vs) i w = go (is_same (order_of v w)) refl (known_from vs (suc i) w)
+known_from (v ∷ vs) i w = go (is_eq (order_of v w)) refl (known_from vs (suc i) w)
   where
-    go : (b : Bool) → is_same (order_of v w) ≡ b → (is_found (number_from (suc i) w vs) ≡ true) ↔ Memᴰ w vs
-        → (is_found (cond b (At i) (number_from (suc i) w vs)) ≡ true) ↔ Memᴰ w (v ∷ vs)
+    go : (b : Bool) → is_eq (order_of v w) ≡ b → (is_some (number_from (suc i) w vs) ≡ true) ↔ Memᴰ w vs
+        → (is_some (cond b (Some i) (number_from (suc i) w vs)) ≡ true) ↔ Memᴰ w (v ∷ vs)
     go true q ih = (λ e. Memᴰ.head (sym (same_equal v w (is_same_lem (order_of v w) q))), λ m. refl)
     go false q ih = (λ e. Memᴰ.tail (ih.0 e), λ m. later (Memᴰ.cases_cons m))
       where
-        later : (w ≡ v) ⊎ Memᴰ w vs → is_found (number_from (suc i) w vs) ≡ true
-        later (inl p) = absurd (both_ways (is_same (order_of v w)) (rw (← p, same_refl w)) q)
+        later : (w ≡ v) ⊎ Memᴰ w vs → is_some (number_from (suc i) w vs) ≡ true
+        later (inl p) = absurd (both_ways (is_eq (order_of v w)) (rw (← p, same_refl w)) q)
         later (inr m) = ih.1 m
 
 -- a name is known exactly when the book has it

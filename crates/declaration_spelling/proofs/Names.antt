@@ -8,15 +8,16 @@ use native.Mathlib.Omega.{arith}
 use native.Mathlib.Nat.{le_of_suc-le-suc}
 use lib.ListN.{length}
 use Rattle.name.specs.Rule.{is_name}
-use Rattle.name_order.specs.declared.Order.{Order}
-use Rattle.name_order.specs.declared.Order.TheVariants.{Below as Lower, Same, Above}
-use Rattle.name_order.specs.Order.{order_of, is_same}
+use Rattle.std.specs.declared.cmp.Ordering.{Ordering}
+use Rattle.std.specs.declared.cmp.Ordering.TheVariants.{Less, Equal, Greater}
+use Rattle.std.specs.Ordering.{is_eq}
+use Rattle.name_order.specs.Order.{order_of}
 use Rattle.name_order.proofs.Ordering.{same_refl, same_equal}
-use Rattle.book.specs.declared.Found.{Found}
-use Rattle.book.specs.declared.Found.TheVariants.{At, Nothing}
+use Rattle.std.specs.Prelude.{Option, Some, None, is_some}
+use Rattle.std.specs.Option.{unwrap_or}
 use Rattle.book.specs.Access.{number_from, number_in}
 use Rattle.declaration_spelling.specs.House.{Factor, name_at, names_at, named}
-use Rattle.declaration_spelling.specs.Read.{is_found, found_or, known, number_for}
+use Rattle.declaration_spelling.specs.Read.{known, number_for}
 use Rattle.declaration_spelling.proofs.Record.{numbers_for, numbered, all_names, all_factors}
 use Rattle.declaration_spelling.proofs.Tests.{and_is}
 
@@ -29,38 +30,38 @@ abbrev pub AllBelow : ℕ → List (Factor ℕ) → Type 0
 AllBelow n [] = Unit {0}
 AllBelow n (f ∷ fs) = Below n f.names × AllBelow n fs
 
-pub is_same_lem : (o : Order) → is_same o ≡ true → o ≡ Same
-is_same_lem Lower e = absurd (false≢true e)
-is_same_lem Same e = refl
-is_same_lem Above e = absurd (false≢true e)
+pub is_same_lem : (o : Ordering) → is_eq o ≡ true → o ≡ Equal
+is_same_lem Less e = absurd (false≢true e)
+is_same_lem Equal e = refl
+is_same_lem Greater e = absurd (false≢true e)
 
 -- a number that is found is that of the name
-found_from : (names : List (List ℕ)) (i : ℕ) (w : List ℕ) (k : ℕ) → number_from i w names ≡ At k → (j : ℕ) × (k ≡ i + j) × (j < length names) × (name_at names j ≡ w)
+found_from : (names : List (List ℕ)) (i : ℕ) (w : List ℕ) (k : ℕ) → number_from i w names ≡ Some k → (j : ℕ) × (k ≡ i + j) × (j < length names) × (name_at names j ≡ w)
 unfolding number_from name_at
 found_from [] i w k e = absurd (false≢true cc)
-found_from (v ∷ vs) i w k e = go (is_same (order_of v w)) refl e (found_from vs (suc i) w k)
+found_from (v ∷ vs) i w k e = go (is_eq (order_of v w)) refl e (found_from vs (suc i) w k)
   where
     shift : ((j : ℕ) × (k ≡ suc i + j) × (j < length vs) × (name_at vs j ≡ w)) → (j : ℕ) × (k ≡ i + j) × (j < suc (length vs)) × (name_at (v ∷ vs) j ≡ w)
     shift (j, a, l, q) = (suc j, omega arith, omega arith, q)
 
-    go : (b : Bool) → is_same (order_of v w) ≡ b → cond b (At i) (number_from (suc i) w vs) ≡ At k
-        → (number_from (suc i) w vs ≡ At k → (j : ℕ) × (k ≡ suc i + j) × (j < length vs) × (name_at vs j ≡ w))
+    go : (b : Bool) → is_eq (order_of v w) ≡ b → cond b (Some i) (number_from (suc i) w vs) ≡ Some k
+        → (number_from (suc i) w vs ≡ Some k → (j : ℕ) × (k ≡ suc i + j) × (j < length vs) × (name_at vs j ≡ w))
         → (j : ℕ) × (k ≡ i + j) × (j < suc (length vs)) × (name_at (v ∷ vs) j ≡ w)
     go true q f ih = (0, (let z : i ≡ k = cc in omega arith), omega arith, same_equal v w (is_same_lem (order_of v w) q))
     go false q f ih = shift (ih f)
 
 -- a name of the list is found
-finds_from : (names : List (List ℕ)) (i : ℕ) (w : List ℕ) (j : ℕ) → j < length names → name_at names j ≡ w → (k : ℕ) × (number_from i w names ≡ At k)
+finds_from : (names : List (List ℕ)) (i : ℕ) (w : List ℕ) (j : ℕ) → j < length names → name_at names j ≡ w → (k : ℕ) × (number_from i w names ≡ Some k)
 unfolding number_from name_at
 finds_from [] i w j l e = absurd (omega arith)
 finds_from (v ∷ vs) i w zero l e = (i, rw (e, same_refl w))
-finds_from (v ∷ vs) i w (suc j) l e = go (is_same (order_of v w)) (finds_from vs (suc i) w j (le_of_suc-le-suc l) e)
+finds_from (v ∷ vs) i w (suc j) l e = go (is_eq (order_of v w)) (finds_from vs (suc i) w j (le_of_suc-le-suc l) e)
   where
-    go : (b : Bool) → ((k : ℕ) × (number_from (suc i) w vs ≡ At k)) → (k : ℕ) × (cond b (At i) (number_from (suc i) w vs) ≡ At k)
+    go : (b : Bool) → ((k : ℕ) × (number_from (suc i) w vs ≡ Some k)) → (k : ℕ) × (cond b (Some i) (number_from (suc i) w vs) ≡ Some k)
     go true h = (i, refl)
     go false h = h
 
-found_is : (names : List (List ℕ)) (w : List ℕ) (k : ℕ) → number_in names w ≡ At k → (k < length names) × (name_at names k ≡ w)
+found_is : (names : List (List ℕ)) (w : List ℕ) (k : ℕ) → number_in names w ≡ Some k → (k < length names) × (name_at names k ≡ w)
 unfolding number_in
 found_is names w k e = go (found_from names 0 w k e)
   where
@@ -79,21 +80,21 @@ pub record GoodNames (size : ℕ) (names : List (List ℕ)) : Type 0 where
   pub good : (x : ℕ) → x < length names → is_name (name_at names x) ≡ true
   pub distinct : Distinct names
 
-pub number_found : (names : List (List ℕ)) → Distinct names → (x : ℕ) → x < length names → number_in names (name_at names x) ≡ At x
+pub number_found : (names : List (List ℕ)) → Distinct names → (x : ℕ) → x < length names → number_in names (name_at names x) ≡ Some x
 unfolding number_in
 number_found names d x l = go (finds_from names 0 (name_at names x) x l refl)
   where
-    go : ((k : ℕ) × (number_from 0 (name_at names x) names ≡ At k)) → number_from 0 (name_at names x) names ≡ At x
-    go (k, e) = let p = found_is names (name_at names x) k e in e ∙ ap At (d k x p.0 l p.1)
+    go : ((k : ℕ) × (number_from 0 (name_at names x) names ≡ Some k)) → number_from 0 (name_at names x) names ≡ Some x
+    go (k, e) = let p = found_is names (name_at names x) k e in e ∙ ap Some (d k x p.0 l p.1)
 
 -- a known name has its number
 pub number_is : (names : List (List ℕ)) (w : List ℕ) → known names w ≡ true → (number_for names w < length names) × (name_at names (number_for names w) ≡ w)
 unfolding known number_for
 number_is names w e = go (number_in names w) refl e
   where
-    go : (f : Found) → number_in names w ≡ f → is_found f ≡ true → (found_or 0 f < length names) × (name_at names (found_or 0 f) ≡ w)
-    go (At k) q e = found_is names w k q
-    go Nothing q e = absurd (false≢true e)
+    go : (f : Option ℕ) → number_in names w ≡ f → is_some f ≡ true → (unwrap_or f 0 < length names) × (name_at names (unwrap_or f 0) ≡ w)
+    go (Some k) q e = found_is names w k q
+    go None q e = absurd (false≢true e)
 
 module _ (names : List (List ℕ)) (d : Distinct names) where
   pub name_number : (x : ℕ) → x < length names → number_for names (name_at names x) ≡ x

@@ -10,6 +10,7 @@ use Rattle.declaration_spelling.proofs.Record.{values_from}
 use Rattle.declaration_spelling.proofs.Numbers.{values_from_lem}
 use Rattle.declaration_spelling.specs.Kind.{star_kind}
 use Rattle.declaration_walk.specs.Walk.{State, nowhere, last_state, states, state_of, step, number_of}
+use Rattle.declaration_walk.proofs.States.{state_number}
 use Rattle.declaration_states.specs.Table.{kinds, row_of, rows_of, table}
 
 in_front : (l r : List ℕ) (k c d : ℕ) → k < length l → get_or (l ++ r) k c ≡ get_or l k d
@@ -46,3 +47,11 @@ rows_at (s ∷ ss) (suc i) k l h =
 pub table_at : (state kind : ℕ) → state ≤ last_state → kind ≤ star_kind → get_or table (12 * state + kind) 0 ≡ number_of (step (state_of state) kind)
 unfolding table state_of states
 table_at state kind h k = rows_at states state kind (omega arith) k
+
+-- an entry of the table is the number of a state, the one that the step leads to
+pub entry : (states : List ℕ) (state kind : ℕ) → states ≡ table → state ≤ last_state → kind ≤ star_kind →
+    (state_of (get_or states (12 * state + kind) 0) ≡ step (state_of state) kind) × (get_or states (12 * state + kind) 0 ≤ last_state)
+entry states state kind e h k =
+    let q = ap (λ (l : List ℕ). get_or l (12 * state + kind) 0) e ∙ table_at state kind h k in
+    let s = state_number (step (state_of state) kind) in
+    (ap state_of q ∙ s.0, omega (arith, s.1))

@@ -1,14 +1,14 @@
 // What the walk along a text asks of one token: the next state by the table, white space before it, a word's bytes.
 #![tactic(auto)]
 
-ghost use Rattle.std.specs.Prelude.{◌≡◌, true, cond, ◌-◌, ◌≤◌, length, take, drop};
+ghost use Rattle.std.specs.Prelude.{◌≡◌, ◌-◌, ◌≤◌, length, take, drop};
 ghost use Rattle.name.specs.Class.{class_table};
 ghost use Rattle.name.specs.Rule.{is_name};
 ghost use Rattle.declaration_spelling.specs.Kind.{star_kind};
 ghost use Rattle.declaration_walk.specs.Walk.{last_state, state_of, step, kind_fits};
 ghost use Rattle.declaration_states.specs.Table.{table};
 
-use declaration_scan::{END, LPAR, OTHER, QUESTION, RPAR, STAR, WORD};
+use declaration_scan::{LPAR, QUESTION, STAR, WORD};
 
 // Three of the states; the table has them all. They are numbered as in crates/declaration_walk/specs/Walk.antt.
 pub const BEFORE_PARENT: u8 = 0;
@@ -53,23 +53,15 @@ pub fn good_word(classes: &[u8; 256], text: &[u8], from: usize, to: usize) -> bo
     name::is_name(classes, book_bytes::part(text, from, to))
 }
 
-// Whether white space stands where it has to, behind a word.
-fn apart(behind: bool, gap: bool) -> bool
-    ensures { result ≡ cond behind gap true }
-{
-    if behind { gap } else { true }
-}
-
 // Whether the white space before a token of this kind may stand there.
+#[tactic(auto, unfolding(declaration_walk::specs::Walk::kind_fits, name::specs::Class::between))]
 pub fn fits(behind: bool, gap: bool, kind: u8) -> bool
     ensures { result ≡ kind_fits behind gap kind }
 {
     match kind {
-        OTHER => true,
-        WORD..=LPAR => apart(behind, gap),
-        RPAR..=END => true,
+        WORD..=LPAR => !behind || gap,
         QUESTION..=STAR => !gap,
-        12..=255 => true,
+        _ => true,
     }
 }
 

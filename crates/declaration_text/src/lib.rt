@@ -18,6 +18,7 @@ use model_factors::factor_rows;
 use nameset::row_at;
 
 // What stands before factor i.
+#[tactic(auto, unfolding(declaration_factor::specs::Parts::before_byte))]
 fn before(i: usize) -> u8
     ensures { result ≡ before_byte i }
 {
@@ -31,11 +32,9 @@ fn put_factors(buffer: &mut [u8], at: usize, bytes: &[u8], layout: Layout, m: Ch
 {
     let rows = factor_rows(m, layout.names);
     let mut to = at;
-    let mut i = 0;
-    while i < m.count {
+    for i in 0..m.count {
         to = put_some(buffer, to, before(i));
         to = put_factor(buffer, to, bytes, layout, m, i, row_at(&rows, i));
-        i += 1;
     }
     to
 }

@@ -1,5 +1,6 @@
 -- What is answered to a text: 13 without the form, else by its names and its repeats.
 -- Assumes nothing.
+use Rattle.std.specs.Prelude.{Ok, Err}
 use Prim.Native.Nat.{ℕ, zero, suc, ◌≤◌, ◌<◌}
 use mathlib.Core.Path.{◌≡◌, refl, sym, ◌∙◌, ap}
 use mathlib.Core.Bool.{Bool, true, false, cond, not, ◌&&◌, true≢false, false≢true}
@@ -12,7 +13,7 @@ use lib.Dec.{eqb}
 use lib.ListN.{length, replicate, length-replicate, drop}
 use borrow.Author.Tests.{not-true}
 use Rattle.refusal.specs.declared.Refusal.TheVariants.{NotADeclaration, UnknownName, NameTwice}
-use Rattle.refusal.specs.Answer.{Answer, given, refused, onward, refuse_if}
+use Rattle.refusal.specs.Answer.{Answer, onward, refuse_if}
 use Rattle.model.specs.declared.Chain.{Chain}
 use Rattle.model.specs.declared.Model.{Model}
 use Rattle.model.specs.Record.{no_factor, model_with, empty_chain}
@@ -23,7 +24,8 @@ use Rattle.declaration_spelling.specs.Spelled.{bars_tokens, IsPlain, IsMixed, Is
 use Rattle.declaration_spelling.specs.Kind.{word_kind, empty_kind, pcdata_kind, token_kind}
 use Rattle.declaration_spelling.specs.Cut.{same, cut, tokens}
 use Rattle.declaration_spelling.specs.Stops.{Form, HasForm}
-use Rattle.declaration_spelling.specs.Read.{known, number_for, Declared, declared, or_refuse}
+use Rattle.declaration_spelling.specs.declared.Declared.{Declared}
+use Rattle.declaration_spelling.specs.Read.{known, number_for, declared, or_refuse}
 use Rattle.declaration_spelling.proofs.Record.{numbered, all_names, all_factors, all_form, total, none_twice, values_from, place_from, mode_at, record_of}
 use Rattle.declaration_spelling.proofs.Tests.{and_is}
 use Rattle.declaration_spelling.proofs.Names.{AllBelow, factors_known}
@@ -45,7 +47,7 @@ unfoldable pub judged : ℕ → List (List ℕ) → Form → Answer Declared
 judged size names d =
     refuse_if (not (all_form (known names) d)) UnknownName
     (refuse_if (not (none_twice (length names) (numbered names d.factors))) NameTwice
-    (given (declared (number_for names d.parent) (model_with (record_of size (numbered names d.factors)) d.mixed))))
+    (Ok (declared (number_for names d.parent) (model_with (record_of size (numbered names d.factors)) d.mixed))))
 
 -- ---- the record that is filled
 
@@ -85,13 +87,13 @@ module _ (size n : ℕ) (fits : size ≤ 255) (some-place : 0 < size) (few : n �
       all_place size n fits few f fs record { index = 0; factor = replicate size no_factor; mode = replicate size 0 } (omega arith)
       (length-replicate {A = ℕ} size no_factor, length-replicate {A = ℕ} size 0) low o (λ y h. replicate_at size y no_factor)
 
-  pub placed_answer : (p t : ℕ) → onward (or_refuse NameTwice (and_then (place_factor f (start_rows size)) (place_others size fs))) (λ g. given (declared p (model_of t g)))
-      ≡ refuse_if (not (none_twice n (f ∷ fs))) NameTwice (given (declared p (model_with (record_of size (f ∷ fs)) t)))
+  pub placed_answer : (p t : ℕ) → onward (or_refuse NameTwice (and_then (place_factor f (start_rows size)) (place_others size fs))) (λ g. Ok (declared p (model_of t g)))
+      ≡ refuse_if (not (none_twice n (f ∷ fs))) NameTwice (Ok (declared p (model_with (record_of size (f ∷ fs)) t)))
   placed_answer p m = go (and_then (place_factor f (start_rows size)) (place_others size fs)) refl (none_twice n (f ∷ fs)) refl
     where
       go : (o : Option Rows) → and_then (place_factor f (start_rows size)) (place_others size fs) ≡ o → (b : Bool) → none_twice n (f ∷ fs) ≡ b →
-          onward (or_refuse NameTwice o) (λ g. given (declared p (model_of m g))) ≡ refuse_if (not b) NameTwice (given (declared p (model_with (record_of size (f ∷ fs)) m)))
-      go (some k) e true t = ap (λ (r : Model). given (declared p r)) (record_filled size (f ∷ fs) k (filled k e) m)
+          onward (or_refuse NameTwice o) (λ g. Ok (declared p (model_of m g))) ≡ refuse_if (not b) NameTwice (Ok (declared p (model_with (record_of size (f ∷ fs)) m)))
+      go (some k) e true t = ap (λ (r : Model). Ok (declared p r)) (record_filled size (f ∷ fs) k (filled k e) m)
       go (some k) e false t = absurd (true≢false (sym (once_all n (f ∷ fs) (filled k e).once) ∙ t))
       go none e false t = refl
       go none e true t =
@@ -114,11 +116,11 @@ empty_record size =
 
 module _ (size : ℕ) (names : List (List ℕ)) (fits : size ≤ 255) (some-place : 0 < size) (few : length names ≤ size) where
   abbrev Walked : ℕ → ℕ → Factor (List ℕ) → List (Factor (List ℕ)) → Answer Declared
-  Walked p t f fs = onward (or_refuse NameTwice (and_then (place_factor (by_number size names f) (start_rows size)) (place_others size (numbered names fs)))) (λ g. given (declared p (model_of t g)))
+  Walked p t f fs = onward (or_refuse NameTwice (and_then (place_factor (by_number size names f) (start_rows size)) (place_others size (numbered names fs)))) (λ g. Ok (declared p (model_of t g)))
 
   -- 15, else the record
   abbrev Single : ℕ → ℕ → List (Factor (List ℕ)) → Answer Declared
-  Single p t fs = refuse_if (not (none_twice (length names) (numbered names fs))) NameTwice (given (declared p (model_with (record_of size (numbered names fs)) t)))
+  Single p t fs = refuse_if (not (none_twice (length names) (numbered names fs))) NameTwice (Ok (declared p (model_with (record_of size (numbered names fs)) t)))
 
   -- 14 before it
   abbrev Due : ℕ → ℕ → List (Factor (List ℕ)) → Answer Declared
@@ -145,7 +147,7 @@ module _ (size : ℕ) (names : List (List ℕ)) (fits : size ≤ 255) (some-plac
   -- no factor: neither 14 nor 15
   none_answer : (p t : ℕ) → no_factors size p t ≡ Due p t []
   unfolding all_factors numbered
-  none_answer p t = rw (none_twice_nil (length names)) (ap (λ (c : Chain). given (declared p (model_with c t))) (sym (empty_record size)))
+  none_answer p t = rw (none_twice_nil (length names)) (ap (λ (c : Chain). Ok (declared p (model_with c t))) (sym (empty_record size)))
 
   -- ---- without text
 
@@ -222,19 +224,19 @@ module _ (size : ℕ) (names : List (List ℕ)) (fits : size ≤ 255) (some-plac
       rw (form_complete text d F) (ap (tokens_answer size names) (form_tokens text d F) ∙ tokens_answer_lem d F.spelled.tokens F.spelled.model (form_plain text d F))
 
 -- without it the answer is 13
-pub unformed_answer : (size : ℕ) (names : List (List ℕ)) (text : List ℕ) → ((d : Form) → HasForm text d → ⊥) → text_answer size names text ≡ refused NotADeclaration
+pub unformed_answer : (size : ℕ) (names : List (List ℕ)) (text : List ℕ) → ((d : Form) → HasForm text d → ⊥) → text_answer size names text ≡ Err NotADeclaration
 unfolding text_answer
 unformed_answer size names text h = go (has_form text) refl
   where
-    go : (b : Bool) → has_form text ≡ b → refuse_if (not (has_form text)) NotADeclaration (tokens_answer size names (tokens (cut (drop 9 text)).pieces)) ≡ refused NotADeclaration
+    go : (b : Bool) → has_form text ≡ b → refuse_if (not (has_form text)) NotADeclaration (tokens_answer size names (tokens (cut (drop 9 text)).pieces)) ≡ Err NotADeclaration
     go true q = let (d, F) = form_sound text q in absurd (h d F)
     go false q = rw q
 
 -- what is answered by another number than 13 has the form
-pub answer_formed : (size : ℕ) (names : List (List ℕ)) (text : List ℕ) → (text_answer size names text ≡ refused NotADeclaration → ⊥) → (d : Form) × HasForm text d
+pub answer_formed : (size : ℕ) (names : List (List ℕ)) (text : List ℕ) → (text_answer size names text ≡ Err NotADeclaration → ⊥) → (d : Form) × HasForm text d
 unfolding text_answer
 answer_formed size names text h = go (has_form text) refl h
   where
-    go : (b : Bool) → has_form text ≡ b → (refuse_if (not b) NotADeclaration (tokens_answer size names (tokens (cut (drop 9 text)).pieces)) ≡ refused NotADeclaration → ⊥) → (d : Form) × HasForm text d
+    go : (b : Bool) → has_form text ≡ b → (refuse_if (not b) NotADeclaration (tokens_answer size names (tokens (cut (drop 9 text)).pieces)) ≡ Err NotADeclaration → ⊥) → (d : Form) × HasForm text d
     go true q k = form_sound text q
     go false q k = absurd (k refl)

@@ -1,5 +1,6 @@
 -- The reader takes a text exactly when it is a spelling, and answers what it spells.
 -- Assumes nothing.
+use Rattle.std.specs.Prelude.{Ok, Err}
 use Prim.Native.Nat.{ℕ, ◌<◌}
 use mathlib.Core.Path.{◌≡◌, sym, ◌∙◌, ap, subst}
 use mathlib.Core.Bool.{true, not, false≢true}
@@ -8,7 +9,7 @@ use mathlib.Core.Logic.{◌↔◌}
 use lib.ListN.{length}
 use borrow.Author.Tests.{not-false}
 use Rattle.refusal.specs.declared.Refusal.TheVariants.{NotADeclaration, UnknownName, NameTwice}
-use Rattle.refusal.specs.Answer.{Answer, given, refused}
+use Rattle.refusal.specs.Answer.{Answer}
 use Rattle.refusal.proofs.Answers.{check_given, given_same}
 use Rattle.name.specs.Rule.{is_name}
 use Rattle.model.specs.declared.Model.{Model}
@@ -16,7 +17,8 @@ use Rattle.model.specs.Record.{model_with, IsModel}
 use Rattle.declaration_spelling.specs.House.{name_at, named, declaration}
 use Rattle.declaration_spelling.specs.Spelled.{Spelled}
 use Rattle.declaration_spelling.specs.Stops.{Form, HasForm}
-use Rattle.declaration_spelling.specs.Read.{known, number_for, Declared, declared}
+use Rattle.declaration_spelling.specs.declared.Declared.{Declared}
+use Rattle.declaration_spelling.specs.Read.{known, number_for, declared}
 use Rattle.declaration_spelling.proofs.Record.{numbered, all_factors, all_form, none_twice, record_of}
 use Rattle.declaration_spelling.proofs.Tests.{and_is}
 use Rattle.declaration_spelling.proofs.Names.{GoodNames, number_is, name_number, name_known, factors_known, factors_back, test_factors}
@@ -56,16 +58,16 @@ module _ (size : ℕ) (names : List (List ℕ)) (G : GoodNames size names) where
   formed = formed_answer size names G.small G.place G.few
 
   -- the text is a spelling of what the reader answers
-  read_sound : (text : List ℕ) (p : ℕ) (m : Model) → text_answer size names text ≡ given (declared p m) → Spelled size names text p m
+  read_sound : (text : List ℕ) (p : ℕ) (m : Model) → text_answer size names text ≡ Ok (declared p m) → Spelled size names text p m
   unfolding judged
   read_sound text p m e =
-      let (d, F) = answer_formed size names text (λ q. let z : ◌≡◌ {A = Answer Declared} (refused NotADeclaration) (given (declared p m)) = sym q ∙ e in false≢true cc) in
+      let (d, F) = answer_formed size names text (λ q. let z : ◌≡◌ {A = Answer Declared} (Err NotADeclaration) (Ok (declared p m)) = sym q ∙ e in false≢true cc) in
       let a = check_given (not (all_form (known names) d)) UnknownName _ (declared p m) (sym (formed text d F) ∙ e) in
       let b = check_given (not (none_twice (length names) (numbered names d.factors))) NameTwice _ (declared p m) a.1 in
       subst (λ (x : Declared). Spelled size names text x.parent x.model) (given_same _ _ b.1) (form_spelled text d F (not-false _ a.0) (not-false _ b.0))
 
   -- a spelling of a model is read as that model
-  read_complete : (text : List ℕ) (p : ℕ) (m : Model) → Spelled size names text p m → text_answer size names text ≡ given (declared p m)
+  read_complete : (text : List ℕ) (p : ℕ) (m : Model) → Spelled size names text p m → text_answer size names text ≡ Ok (declared p m)
   unfolding judged all_form
   read_complete text p m S =
       let n = length names in
@@ -89,11 +91,11 @@ module _ (size : ℕ) (names : List (List ℕ)) (G : GoodNames size names) where
       )
 
   -- a text is read exactly when it is a spelling of the declaration for what is then answered
-  pub read_exactly : (text : List ℕ) (p : ℕ) (m : Model) → (text_answer size names text ≡ given (declared p m)) ↔ Spelled size names text p m
+  pub read_exactly : (text : List ℕ) (p : ℕ) (m : Model) → (text_answer size names text ≡ Ok (declared p m)) ↔ Spelled size names text p m
   read_exactly text p m = (read_sound text p m, read_complete text p m)
 
   -- what is written is read back
-  pub read_written : (p : ℕ) (m : Model) → p < length names → IsModel size (length names) m → text_answer size names (declaration names p m) ≡ given (declared p m)
+  pub read_written : (p : ℕ) (m : Model) → p < length names → IsModel size (length names) m → text_answer size names (declaration names p m) ≡ Ok (declared p m)
   read_written p m l c = read_complete (declaration names p m) p m (house_spelled size names p m G.small l c)
 
   -- a text is a spelling of at most one declaration

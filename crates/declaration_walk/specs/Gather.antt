@@ -2,16 +2,17 @@
 -- filled, a name twice (15). `read_exactly` in proofs/Theorem.antt joins it to `Spelled`, proofs/Refusals.antt to the
 -- conditions of 13, 14 and 15.
 -- Assumes nothing.
-use Rattle.std.specs.Prelude.{ℕ, zero, suc, Bool, false, cond, not, List, [], ◌∷◌, eqb, ltb, get_or, set, replicate, drop}
+use Rattle.std.specs.Prelude.{ℕ, zero, suc, Bool, false, cond, not, List, [], ◌∷◌, eqb, ltb, get_or, set, replicate, drop, Ok, Err}
 use Rattle.std.proofs.Math.Option.{Option, none, some}
 use Rattle.refusal.specs.declared.Refusal.TheVariants.{NotADeclaration, UnknownName, NameTwice}
-use Rattle.refusal.specs.Answer.{Answer, given, refused, onward, refuse_if}
+use Rattle.refusal.specs.Answer.{Answer, onward, refuse_if}
 use Rattle.model.specs.declared.Model.{Model}
 use Rattle.model.specs.Record.{no_factor, model_with, empty_chain}
 use Rattle.declaration_spelling.specs.Token.{Token, word, lpar, rpar, comma, bar, end, mark, other}
 use Rattle.declaration_spelling.specs.Cut.{cut, tokens}
 use Rattle.declaration_spelling.specs.Kind.{pcdata_kind, bar_kind, token_kind}
-use Rattle.declaration_spelling.specs.Read.{known, number_for, Declared, declared, or_refuse}
+use Rattle.declaration_spelling.specs.declared.Declared.{Declared}
+use Rattle.declaration_spelling.specs.Read.{known, number_for, declared, or_refuse}
 use Rattle.declaration_walk.specs.Walk.{is_word, all_pass, has_form}
 
 -- ---- every name is in the book
@@ -79,11 +80,11 @@ model_of mixed g = model_with record { count = suc g.index; factor = g.factor; m
 unfoldable pub factors_answer : ℕ → List (List ℕ) → ℕ → ℕ → List Token → Answer Declared
 factors_answer size names p mixed ts =
     refuse_if (not (known_tokens names ts)) UnknownName
-    (onward (or_refuse NameTwice (gather_from size names ts (start_rows size))) (λ g. given (declared p (model_of mixed g))))
+    (onward (or_refuse NameTwice (gather_from size names ts (start_rows size))) (λ g. Ok (declared p (model_of mixed g))))
 
 -- A model without a factor: `EMPTY`, or with text.
 abbrev pub no_factors : ℕ → ℕ → ℕ → Answer Declared
-no_factors size p mixed = given (declared p (model_with (empty_chain size) mixed))
+no_factors size p mixed = Ok (declared p (model_with (empty_chain size) mixed))
 
 unfoldable pub begins_with_word : List Token → Bool
 begins_with_word [] = false
@@ -105,15 +106,15 @@ content_answer size names p ts =
 
 -- The parent, which is a name of the book, and the model.
 unfoldable pub tokens_answer : ℕ → List (List ℕ) → List Token → Answer Declared
-tokens_answer size names [] = refused NotADeclaration
+tokens_answer size names [] = Err NotADeclaration
 tokens_answer size names (word x ∷ ts) = refuse_if (not (known names x)) UnknownName (content_answer size names (number_for names x) ts)
-tokens_answer size names (lpar ∷ ts) = refused NotADeclaration
-tokens_answer size names (rpar ∷ ts) = refused NotADeclaration
-tokens_answer size names (comma ∷ ts) = refused NotADeclaration
-tokens_answer size names (bar ∷ ts) = refused NotADeclaration
-tokens_answer size names (end ∷ ts) = refused NotADeclaration
-tokens_answer size names (mark m ∷ ts) = refused NotADeclaration
-tokens_answer size names (other b ∷ ts) = refused NotADeclaration
+tokens_answer size names (lpar ∷ ts) = Err NotADeclaration
+tokens_answer size names (rpar ∷ ts) = Err NotADeclaration
+tokens_answer size names (comma ∷ ts) = Err NotADeclaration
+tokens_answer size names (bar ∷ ts) = Err NotADeclaration
+tokens_answer size names (end ∷ ts) = Err NotADeclaration
+tokens_answer size names (mark m ∷ ts) = Err NotADeclaration
+tokens_answer size names (other b ∷ ts) = Err NotADeclaration
 
 -- The text: 13, then what stands behind the nine bytes of `<!ELEMENT`.
 unfoldable pub text_answer : ℕ → List (List ℕ) → List ℕ → Answer Declared

@@ -1,7 +1,8 @@
 -- The calls that write: the declaration put together aside, 12, and the checks before it.
 -- Assumes nothing.
+use Rattle.std.specs.Prelude.{Ok, Err}
 use Prim.Native.Nat.{ℕ, ◌+◌, ◌-◌, ◌≤◌, ◌<◌}
-use mathlib.Core.Path.{◌≡◌, sym, ◌∙◌, ap, subst}
+use mathlib.Core.Path.{◌≡◌, refl, sym, ◌∙◌, ap, subst}
 use mathlib.Core.Bool.{true, false}
 use mathlib.Core.List.{List}
 use native.Mathlib.Omega.{arith}
@@ -9,11 +10,9 @@ use lib.ListN.{length, take, drop, replicate, length-replicate}
 use borrow.Author.Tests.{lt-ltb, le-ltb}
 use Rattle.refusal.specs.declared.Refusal.{Refusal}
 use Rattle.refusal.specs.declared.Refusal.TheVariants.{BadParent, NotAModel, BufferTooShort}
-use Rattle.refusal.specs.declared.Outcome.TheVariants.{Done, Refused}
-use Rattle.refusal.specs.Answer.{Answer, refused}
+use Rattle.refusal.specs.Answer.{Answer}
 use Rattle.nameset.specs.Places.{places}
 use Rattle.book.specs.declared.Layout.{Layout}
-use Rattle.book.specs.declared.Reading.{Reading}
 use Rattle.book.specs.Book.{names_in}
 use Rattle.book.specs.Layout.{reading_of}
 use Rattle.book.specs.Access.{LaidOut}
@@ -28,7 +27,6 @@ use Rattle.declaration_spelling.specs.Length.{longest_declaration}
 use Rattle.byte_buffer.specs.Put.{wrote, Put}
 use Rattle.byte_buffer.proofs.Puts.{wrote_none, wrote_back}
 use Rattle.declaration_text.proofs.Whole.{declaration_short}
-use Rattle.declaration_writing.specs.declared.Written.{Written}
 use Rattle.declaration_writing.specs.Write.{fitted, write_in, write_answer, written, buffer_after, Writes}
 
 -- ---- a model of a book that was read
@@ -60,55 +58,55 @@ module _ (aside text : List ℕ) (size : ℕ) (filled : List ℕ) (put : Put asi
   part_fits part d e h = let k : length part ≡ length text = ap length (part_is part e) in omega (arith, size_is)
 
   module _ (d : List ℕ) where
-    pub too_short : (r : Written) → length d < size → r ≡ written (refused BufferTooShort) → Writes (fitted (length d) text) r d d
+    pub too_short : length d < size → Writes (fitted (length d) text) (Err BufferTooShort) d d
     unfolding written buffer_after fitted
-    too_short r h e =
+    too_short h =
         let t : length d < length text = omega (arith, size_is) in
-        rw (lt-ltb (length d) (length text) t) (e, sym (wrote_none d 0))
+        rw (lt-ltb (length d) (length text) t) (refl, sym (wrote_none d 0))
 
     pub all_put : (part : List ℕ) (n : ℕ) (f : List ℕ) → size ≤ length d → part ≡ take (size - 0) (drop 0 filled) → Put d 0 part n f →
-        Writes (fitted (length d) text) (record { outcome = Done; length = size }) d f
+        Writes (fitted (length d) text) (Ok size) d f
     unfolding written buffer_after fitted
     all_put part n f h e q =
         let t : length text ≤ length d = omega (arith, size_is) in
-        rw (le-ltb (length d) (length text) t) (ap (λ (x : ℕ). record { outcome = Done; length = x }) size_is, q.holds ∙ ap (wrote d 0) (part_is part e))
+        rw (le-ltb (length d) (length text) t) (ap Ok size_is, q.holds ∙ ap (wrote d 0) (part_is part e))
 
 -- ---- the checks before
 
 -- a call that stops with this refusal
-pub stopped : (d : List ℕ) (w : Written) (f : Refusal) (a : Answer (List ℕ)) → w ≡ written (refused f) → a ≡ refused f → Writes a w d d
-unfolding buffer_after
-stopped d w f a e q = rw q (e, sym (wrote_none d 0))
+pub stopped : (d : List ℕ) (f : Refusal) (a : Answer (List ℕ)) → a ≡ Err f → Writes a (Err f) d d
+unfolding written buffer_after
+stopped d f a q = rw q (refl, sym (wrote_none d 0))
 
-module _ (s : List ℕ) (p : ℕ) (m : Model) (d : List ℕ) (r : Reading) (read : r ≡ reading_of (taken_book s)) where
-  pub stopped_book : (w : Written) (f : Refusal) → r.outcome ≡ Refused f → w ≡ written (refused f) → Writes (write_answer s p m (length d)) w d d
+module _ (s : List ℕ) (p : ℕ) (m : Model) (d : List ℕ) where
+  pub stopped_book : (f : Refusal) → Err f ≡ reading_of (taken_book s) → Writes (write_answer s p m (length d)) (Err f) d d
   unfolding write_answer
-  stopped_book w f o e = stopped d w f (write_answer s p m (length d)) e (Taken.take_refused s r read _ f o)
+  stopped_book f e = stopped d f (write_answer s p m (length d)) (Taken.take_refused s _ f e)
 
-  module _ (done : r.outcome ≡ Done) where
-    book_is : r.layout.names ≡ length (Taken.book s r read done).names
-    book_is = Taken.names_are s r read done
+  module _ (l : Layout) (read : Ok l ≡ reading_of (taken_book s)) where
+    book_is : l.names ≡ length (Taken.book s l read).names
+    book_is = Taken.names_are s l read
 
-    pub stopped_parent : (w : Written) → r.layout.names ≤ p → w ≡ written (refused BadParent) → Writes (write_answer s p m (length d)) w d d
+    pub stopped_parent : l.names ≤ p → Writes (write_answer s p m (length d)) (Err BadParent) d d
     unfolding write_answer write_in
-    stopped_parent w h e = stopped d w BadParent (write_answer s p m (length d)) e (rw (Taken.taken s r read done, Taken.parent_refused s r read done p h))
+    stopped_parent h = stopped d BadParent (write_answer s p m (length d)) (rw (Taken.taken s l read, Taken.parent_refused s l read p h))
 
-    module _ (below : p < r.layout.names) where
-      pub stopped_model : (w : Written) → is_model places r.layout.names m ≡ false → w ≡ written (refused NotAModel) → Writes (write_answer s p m (length d)) w d d
+    module _ (below : p < l.names) where
+      pub stopped_model : is_model places l.names m ≡ false → Writes (write_answer s p m (length d)) (Err NotAModel) d d
       unfolding write_answer write_in
-      stopped_model w h e =
+      stopped_model h =
           let k = subst (λ (n : ℕ). is_model places n m ≡ false) book_is h in
-          stopped d w NotAModel (write_answer s p m (length d)) e (rw (Taken.taken s r read done, Taken.parent_passed s r read done p below, k))
+          stopped d NotAModel (write_answer s p m (length d)) (rw (Taken.taken s l read, Taken.parent_passed s l read p below, k))
 
-      module _ (good : is_model places r.layout.names m ≡ true) where
-        pub writable : LaidOut s r.layout × (p < r.layout.names) × IsModel places r.layout.names m
-        writable = (Taken.laid s r read done, below, (model_law places r.layout.names m).0 good)
+      module _ (good : is_model places l.names m ≡ true) where
+        pub writable : LaidOut s l × (p < l.names) × IsModel places l.names m
+        writable = (Taken.laid s l read, below, (model_law places l.names m).0 good)
 
         answer_is : write_answer s p m (length d) ≡ fitted (length d) (declaration (names_in s) p m)
         unfolding write_answer write_in
         answer_is =
             let k = subst (λ (n : ℕ). is_model places n m ≡ true) book_is good in
-            rw (Taken.names_taken s r read done, Taken.taken s r read done, Taken.parent_passed s r read done p below, k)
+            rw (Taken.names_taken s l read, Taken.taken s l read, Taken.parent_passed s l read p below, k)
 
-        pub all_passed : (w : Written) (f : List ℕ) → Writes (fitted (length d) (declaration (names_in s) p m)) w d f → Writes (write_answer s p m (length d)) w d f
+        pub all_passed : (w : Answer ℕ) (f : List ℕ) → Writes (fitted (length d) (declaration (names_in s) p m)) w d f → Writes (write_answer s p m (length d)) w d f
         all_passed w f h = rw answer_is h

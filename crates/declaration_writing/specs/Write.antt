@@ -1,22 +1,21 @@
 -- A means: what the call that writes a declaration answers: 1 to 7, 16, 17, 8, 10, 12, in this order, else the
 -- declaration. `write_refusals`, `write_kept` and `write_done` in crates/demands/proofs/Demands.antt say what that is.
 -- Assumes nothing.
-use Rattle.std.specs.Prelude.{ℕ, ◌≡◌, not, List, [], ltb, length}
+use Rattle.std.specs.Prelude.{ℕ, ◌≡◌, not, List, [], ltb, length, Ok, Err}
 use Rattle.refusal.specs.declared.Refusal.TheVariants.{BadParent, NotAModel, BufferTooShort}
 use Rattle.refusal.specs.Table.{stopped_by}
-use Rattle.refusal.specs.Answer.{Answer, given, refused, onward, refuse_if, value_or, outcome_of}
+use Rattle.refusal.specs.Answer.{Answer, onward, refuse_if, value_or}
 use Rattle.nameset.specs.Places.{places}
 use Rattle.book.specs.Book.{Book}
 use Rattle.book.specs.Taken.{taken_book, bad_parent}
 use Rattle.model.specs.declared.Model.{Model}
 use Rattle.model.specs.Check.{is_model}
 use Rattle.declaration_spelling.specs.House.{declaration}
-use Rattle.declaration_writing.specs.declared.Written.{Written}
 use Rattle.byte_buffer.specs.Put.{wrote}
 
 -- "12: shorter than the declaration", or than the whole DTD or the rows of a table, for a buffer of so many bytes.
 unfoldable pub fitted : ℕ → List ℕ → Answer (List ℕ)
-fitted room text = refuse_if (ltb room (length text)) BufferTooShort (given text)
+fitted room text = refuse_if (ltb room (length text)) BufferTooShort (Ok text)
 
 -- 8, then "10: no chain over N names", or "a text record of any other shape", then 12, else the declaration.
 unfoldable pub write_in : Book → ℕ → Model → ℕ → Answer (List ℕ)
@@ -30,14 +29,15 @@ write_in b parent m room =
 unfoldable pub write_answer : List ℕ → ℕ → Model → ℕ → Answer (List ℕ)
 write_answer bytes parent m room = onward (taken_book bytes) (λ b. write_in b parent m room)
 
--- The text's length; "a length or parent number due is 0".
-abbrev pub length_due : Answer (List ℕ) → ℕ
-length_due (given text) = length text
-length_due (refused r) = (stopped_by r).length
+-- How the call ends: with the text's length, or refused.
+unfoldable pub written : Answer (List ℕ) → Answer ℕ
+written (Ok text) = Ok (length text)
+written (Err r) = Err r
 
--- How the call ends: the text's length, or the one due of a refused call.
-unfoldable pub written : Answer (List ℕ) → Written
-written a = record { outcome = outcome_of a; length = length_due a }
+-- The length beside the number of an answer; "a length or parent number due is 0".
+abbrev pub length_due : Answer ℕ → ℕ
+length_due (Ok n) = n
+length_due (Err r) = (stopped_by r).length
 
 -- The buffer then: the text stands at its start and all other bytes keep their values; a refused call leaves every
 -- byte.
@@ -46,9 +46,9 @@ buffer_after buffer a = wrote buffer 0 (value_or [] a)
 
 -- What a call that writes promises, for the text or refusal a that it is to give: its answer w, and what the buffer,
 -- which held `before`, then holds.
-abbrev pub Writes : Answer (List ℕ) → Written → List ℕ → List ℕ → Type 0
+abbrev pub Writes : Answer (List ℕ) → Answer ℕ → List ℕ → List ℕ → Type 0
 Writes a w before after = (w ≡ written a) × (after ≡ buffer_after before a)
 
 -- The whole promise of the call that writes a declaration with a record.
-abbrev pub WritesDeclaration : List ℕ → ℕ → Model → Written → List ℕ → List ℕ → Type 0
+abbrev pub WritesDeclaration : List ℕ → ℕ → Model → Answer ℕ → List ℕ → List ℕ → Type 0
 WritesDeclaration bytes parent m w before after = Writes (write_answer bytes parent m (length before)) w before after

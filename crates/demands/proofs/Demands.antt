@@ -7,8 +7,10 @@
 -- A theorem about an answer assumes one thing of it, `call`: the answer is as the call's contract (`ensures`) promises.
 -- The prover has shown that of every answer.
 -- The definitions in crates/demands/specs are to be believed, with those that they cite; docs/TRUST.md has the list.
--- k = 0 means not refused; `outcome_number r.outcome` is the number k of an answer r.
+-- k = 0 means not refused; `answer_number r` is the number k of an answer r, and `answer_model`, `length_due`,
+-- `parent_due` and `model_due` are what stands beside it, which paper 01 gives for a refused call too.
 -- Assumes nothing.
+use Rattle.std.specs.Prelude.{⊤, Ok}
 use Prim.Native.Nat.{ℕ, ◌*◌, ◌%◌, ◌≤◌, ◌<◌}
 use mathlib.Core.Path.{◌≡◌, refl, sym, ◌∙◌, ap, ap₂, subst}
 use mathlib.Core.Bool.{Bool, true, false}
@@ -16,11 +18,9 @@ use mathlib.Core.List.{List, [], ◌∷◌, ◌++◌, Memᴰ, map}
 use mathlib.Core.Logic.{◌↔◌, ◌⊎◌}
 use native.Mathlib.Omega.{arith}
 use lib.ListN.{length, take}
-use Rattle.refusal.specs.declared.Outcome.{Outcome}
 use Rattle.refusal.specs.declared.Acceptance.{Acceptance}
-use Rattle.refusal.specs.Answer.{given, value_or, outcome_number, answer_number, acceptance_number, acceptance_yes}
-use Rattle.refusal.proofs.Laws.{refused_by, done_by}
-use Rattle.refusal.proofs.Answers.{outcome_refused}
+use Rattle.refusal.specs.Answer.{Answer, answer_number, acceptance_number, acceptance_yes}
+use Rattle.refusal.proofs.Answers.{refused_by, given_by}
 use Rattle.nameset.specs.Places.{places}
 use Rattle.book.specs.Field.{Field}
 use Rattle.book.specs.Book.{Block, Book, IsBook}
@@ -35,9 +35,10 @@ use Rattle.book_blocks.specs.Gathers.{Gathers}
 use Rattle.book_reading.specs.Opening.{blocks_read}
 use Rattle.model.specs.declared.Chain.{Chain}
 use Rattle.model.specs.declared.Model.{Model}
-use Rattle.model.specs.Record.{factor_of, mode_of, IsChain, model_with, IsModel, empty_model, due_model}
+use Rattle.model.specs.Record.{factor_of, mode_of, IsChain, model_with, IsModel, empty_model}
 use Rattle.model.specs.Accept.{Accepts, Names}
-use Rattle.model_table.specs.Table.{lacks, has, row_size, entry_of}
+use Rattle.std.proofs.Common.{Some, None}
+use Rattle.model_table.specs.Table.{row_size, entry_of}
 use Rattle.model_language.specs.Word.{Point, name, end, Fact, AcceptsAll}
 use Rattle.model_language.specs.Reach.{Reach}
 use Rattle.model_inclusion.specs.Inclusion.{Within, Counterexample, longest_counterexample}
@@ -62,9 +63,9 @@ use Rattle.declaration_spelling.specs.Spelled.{Spelled}
 use Rattle.declaration_spelling.proofs.House.{house_spelled}
 use Rattle.declaration_spelling.proofs.Books.{good_names}
 use Rattle.declaration_walk.proofs.Theorem as Spelling
-use Rattle.declaration_writing.specs.declared.Written.{Written}
-use Rattle.declaration_writing.specs.Write.{written, WritesDeclaration}
-use Rattle.declaration_record.specs.declared.Declaration.{Declaration}
+use Rattle.declaration_spelling.specs.declared.Declared.{Declared}
+use Rattle.declaration_writing.specs.Write.{length_due, WritesDeclaration}
+use Rattle.declaration_record.specs.Answered.{parent_due, model_due}
 use Rattle.declaration_reading.specs.Read.{Reads, ReadsDeclaration}
 use Rattle.declaration_reading.proofs.Theorem as Reading
 use Rattle.document.specs.Tree.{Tree, document_of, Admitted}
@@ -76,10 +77,9 @@ use Rattle.document.proofs.Beginning.{beginning}
 use Rattle.document.proofs.Examples.{answered}
 use Rattle.intake_document.specs.Document.{document_answer, AcceptsDocument}
 use Rattle.intake_within.specs.declared.Inclusion.{Inclusion}
-use Rattle.intake_sample.specs.declared.Inferred.{Inferred}
 use Rattle.intake_word.specs.Acceptance.{Passes, AcceptsWord}
 use Rattle.intake_within.specs.Comparison.{inclusion_number, inclusion_yes, inclusion_length, PassesBoth, ComparesModels}
-use Rattle.intake_sample.specs.Inference.{sample_of, text_of, parent_model, model_answer, inferred, InfersModel}
+use Rattle.intake_sample.specs.Inference.{sample_of, text_of, parent_model, InfersModel, answer_model}
 use Rattle.intake_sample.specs.Writing.{WritesSample}
 use Rattle.intake_word.proofs.Theorem.{yes_exactly}
 use Rattle.intake_within.proofs.Theorem as Compare
@@ -127,39 +127,34 @@ within_refusals n first second r before after call =
     subst (WithinConditions n first second (length before)) (sym (Compare.number_is n first second r before after call))
     (Law.within_conditions n first second (length before))
 
-pub model_refusals : (bytes : List ℕ) (parent : ℕ) (r : Inferred) (call : InfersModel bytes parent r) →
-    ModelConditions bytes parent (outcome_number r.outcome)
-unfolding inferred
-model_refusals bytes parent r call = subst (ModelConditions bytes parent)
-    (sym (ap (λ (x : Inferred). outcome_number x.outcome) call)) (Law.model_conditions bytes parent)
+pub model_refusals : (bytes : List ℕ) (parent : ℕ) (r : Answer Model) (call : InfersModel bytes parent r) →
+    ModelConditions bytes parent (answer_number r)
+model_refusals bytes parent r call = subst (ModelConditions bytes parent) (sym (ap answer_number call)) (Law.model_conditions bytes parent)
 
-pub write_refusals : (bytes : List ℕ) (parent : ℕ) (m : Model) (w : Written) (before after : List ℕ)
+pub write_refusals : (bytes : List ℕ) (parent : ℕ) (m : Model) (w : Answer ℕ) (before after : List ℕ)
     (call : WritesDeclaration bytes parent m w before after) →
-    WriteConditions bytes parent m (length before) (outcome_number w.outcome)
-unfolding written
+    WriteConditions bytes parent m (length before) (answer_number w)
 write_refusals bytes parent m w before after call =
     subst (WriteConditions bytes parent m (length before))
-    (sym (ap (λ (x : Written). outcome_number x.outcome) call.0))
+    (sym (Text.writes_number _ w before after call))
     (Law.write_conditions bytes parent m (length before))
 
-pub sample_refusals : (bytes : List ℕ) (parent : ℕ) (w : Written) (before after : List ℕ)
+pub sample_refusals : (bytes : List ℕ) (parent : ℕ) (w : Answer ℕ) (before after : List ℕ)
     (call : WritesSample bytes parent w before after) →
-    SampleConditions bytes parent (length before) (outcome_number w.outcome)
-unfolding written
+    SampleConditions bytes parent (length before) (answer_number w)
 sample_refusals bytes parent w before after call =
     subst (SampleConditions bytes parent (length before))
-    (sym (ap (λ (x : Written). outcome_number x.outcome) call.0))
+    (sym (Text.writes_number _ w before after call))
     (Law.sample_conditions bytes parent (length before))
 
-pub dtd_refusals : (bytes : List ℕ) (w : Written) (before after : List ℕ) (call : WritesDtd bytes w before after) →
-    DtdConditions bytes (length before) (outcome_number w.outcome)
-unfolding written
+pub dtd_refusals : (bytes : List ℕ) (w : Answer ℕ) (before after : List ℕ) (call : WritesDtd bytes w before after) →
+    DtdConditions bytes (length before) (answer_number w)
 dtd_refusals bytes w before after call = subst (DtdConditions bytes (length before))
-    (sym (ap (λ (x : Written). outcome_number x.outcome) call.0)) (Law.dtd_conditions bytes (length before))
+    (sym (Text.writes_number _ w before after call)) (Law.dtd_conditions bytes (length before))
 
-pub read_refusals : (bytes text : List ℕ) (r : Declaration) (call : ReadsDeclaration bytes text r) →
-    ReadConditions bytes text (outcome_number r.outcome)
-read_refusals bytes text r call = subst (ReadConditions bytes text) (sym (ap outcome_number call.outcome))
+pub read_refusals : (bytes text : List ℕ) (r : Answer Declared) (call : ReadsDeclaration bytes text r) →
+    ReadConditions bytes text (answer_number r)
+read_refusals bytes text r call = subst (ReadConditions bytes text) (sym (ap answer_number call))
     (Law.read_conditions bytes text)
 
 -- The program likewise: it prints a refusal exactly where the condition of its number holds, and else the whole DTD.
@@ -187,32 +182,28 @@ pub within_kept : (n : ℕ) (first second : Model) (r : Inclusion) (before after
     0 < inclusion_number r → (inclusion_yes r ≡ false) × (inclusion_length r ≡ 0) × (after ≡ before)
 within_kept = Compare.refused_keeps
 
-pub model_kept : (bytes : List ℕ) (parent : ℕ) (r : Inferred) (call : InfersModel bytes parent r) →
-    0 < outcome_number r.outcome → r.model ≡ empty_model places
-unfolding inferred
-model_kept bytes parent r call l =
-    let (f, o) = refused_by r.outcome l in
-    let e = (outcome_refused (model_answer bytes parent) f).0 (sym (ap (λ (x : Inferred). x.outcome) call) ∙ o) in
-    ap (λ (x : Inferred). x.model) call ∙ ap (value_or due_model) e
+pub model_kept : (bytes : List ℕ) (parent : ℕ) (r : Answer Model) (call : InfersModel bytes parent r) →
+    0 < answer_number r → answer_model r ≡ empty_model places
+model_kept bytes parent r call l = let (f, e) = refused_by r l in ap answer_model e
 
-pub write_kept : (bytes : List ℕ) (parent : ℕ) (m : Model) (w : Written) (before after : List ℕ)
+pub write_kept : (bytes : List ℕ) (parent : ℕ) (m : Model) (w : Answer ℕ) (before after : List ℕ)
     (call : WritesDeclaration bytes parent m w before after) →
-    0 < outcome_number w.outcome → (w.length ≡ 0) × (after ≡ before)
+    0 < answer_number w → (length_due w ≡ 0) × (after ≡ before)
 write_kept bytes parent m w before after call = Text.writes_kept _ w before after call
 
-pub sample_kept : (bytes : List ℕ) (parent : ℕ) (w : Written) (before after : List ℕ)
+pub sample_kept : (bytes : List ℕ) (parent : ℕ) (w : Answer ℕ) (before after : List ℕ)
     (call : WritesSample bytes parent w before after) →
-    0 < outcome_number w.outcome → (w.length ≡ 0) × (after ≡ before)
+    0 < answer_number w → (length_due w ≡ 0) × (after ≡ before)
 sample_kept bytes parent w before after call = Text.writes_kept _ w before after call
 
-pub dtd_kept : (bytes : List ℕ) (w : Written) (before after : List ℕ) (call : WritesDtd bytes w before after) →
-    0 < outcome_number w.outcome → (w.length ≡ 0) × (after ≡ before)
+pub dtd_kept : (bytes : List ℕ) (w : Answer ℕ) (before after : List ℕ) (call : WritesDtd bytes w before after) →
+    0 < answer_number w → (length_due w ≡ 0) × (after ≡ before)
 dtd_kept bytes w before after call = Text.writes_kept _ w before after call
 
-pub read_kept : (bytes text : List ℕ) (r : Declaration) (call : ReadsDeclaration bytes text r) →
-    0 < outcome_number r.outcome →
-    (r.parent ≡ 0) × (r.model ≡ empty_model places)
-read_kept bytes text r call l = let (f, o) = refused_by r.outcome l in Reading.refused_due bytes text r call f o
+pub read_kept : (bytes text : List ℕ) (r : Answer Declared) (call : ReadsDeclaration bytes text r) →
+    0 < answer_number r →
+    (parent_due r ≡ 0) × (model_due r ≡ empty_model places)
+read_kept bytes text r call l = let (f, o) = refused_by r l in Reading.refused_due bytes text r call f o
 
 -- ==== demand 2
 
@@ -225,48 +216,48 @@ accepted_exactly n m w r call = let h = yes_exactly n m w r call in (λ e. h.0 (
 
 -- What a call that writes has done where it was not refused: the front of the buffer is the canonical form. From the
 -- sample it is that of the model x which the call for the model answers.
-pub write_done : (bytes : List ℕ) (parent : ℕ) (m : Model) (w : Written) (before after : List ℕ)
+pub write_done : (bytes : List ℕ) (parent : ℕ) (m : Model) (w : Answer ℕ) (before after : List ℕ)
     (call : WritesDeclaration bytes parent m w before after) →
-    outcome_number w.outcome ≡ 0 → (b : Book) × TakenAs bytes b × Wrote (declaration b.names parent m) w.length before after
+    answer_number w ≡ 0 → (b : Book) × TakenAs bytes b × Wrote (declaration b.names parent m) (length_due w) before after
 write_done = Text.write_done
 
-pub sample_done : (bytes : List ℕ) (parent : ℕ) (w : Written) (before after : List ℕ)
-    (call : WritesSample bytes parent w before after) → outcome_number w.outcome ≡ 0 →
-    (x : Inferred) → InfersModel bytes parent x → (b : Book) × TakenAs bytes b × Wrote (declaration b.names parent x.model)
-    w.length before after
-sample_done bytes parent w before after call z x asked = Text.write_done bytes parent x.model w before after (Text.as_written bytes parent w before after call z x asked) z
+pub sample_done : (bytes : List ℕ) (parent : ℕ) (w : Answer ℕ) (before after : List ℕ)
+    (call : WritesSample bytes parent w before after) → answer_number w ≡ 0 →
+    (x : Answer Model) → InfersModel bytes parent x → (b : Book) × TakenAs bytes b × Wrote (declaration b.names parent (answer_model x))
+    (length_due w) before after
+sample_done bytes parent w before after call z x asked = Text.write_done bytes parent (answer_model x) w before after (Text.as_written bytes parent w before after call z x asked) z
 
 -- The whole DTD: `dtd_of b` has the line of each parent with a block, in rising number (`program_line` below).
-pub dtd_done : (bytes : List ℕ) (w : Written) (before after : List ℕ) (call : WritesDtd bytes w before after) →
-    outcome_number w.outcome ≡ 0 → (b : Book) × TakenAs bytes b × Wrote (dtd_of b) w.length before after
+pub dtd_done : (bytes : List ℕ) (w : Answer ℕ) (before after : List ℕ) (call : WritesDtd bytes w before after) →
+    answer_number w ≡ 0 → (b : Book) × TakenAs bytes b × Wrote (dtd_of b) (length_due w) before after
 dtd_done = Text.dtd_done
 
 -- "A model written as a declaration reads back as the same model."
-pub written_reads_back : (bytes : List ℕ) (parent : ℕ) (m : Model) (w : Written) (before after : List ℕ)
+pub written_reads_back : (bytes : List ℕ) (parent : ℕ) (m : Model) (w : Answer ℕ) (before after : List ℕ)
     (call : WritesDeclaration bytes parent m w before after) →
-    outcome_number w.outcome ≡ 0 → (r : Declaration) → ReadsDeclaration bytes (take w.length after) r →
+    answer_number w ≡ 0 → (r : Answer Declared) → ReadsDeclaration bytes (take (length_due w) after) r →
     Reads r parent m
 written_reads_back = Text.written_reads_back
 
-pub sample_reads_back : (bytes : List ℕ) (parent : ℕ) (w : Written) (before after : List ℕ)
-    (call : WritesSample bytes parent w before after) → outcome_number w.outcome ≡ 0 →
-    (x : Inferred) → InfersModel bytes parent x → (r : Declaration) →
-    ReadsDeclaration bytes (take w.length after) r → Reads r parent x.model
+pub sample_reads_back : (bytes : List ℕ) (parent : ℕ) (w : Answer ℕ) (before after : List ℕ)
+    (call : WritesSample bytes parent w before after) → answer_number w ≡ 0 →
+    (x : Answer Model) → InfersModel bytes parent x → (r : Answer Declared) →
+    ReadsDeclaration bytes (take (length_due w) after) r → Reads r parent (answer_model x)
 sample_reads_back bytes parent w before after call z x asked =
-    Text.written_reads_back bytes parent x.model w before after (Text.as_written bytes parent w before after call z x asked) z
+    Text.written_reads_back bytes parent (answer_model x) w before after (Text.as_written bytes parent w before after call z x asked) z
 
 -- "A text is read exactly when it is a spelling, allowed by document 01, of the declaration then written": it is read
 -- as the parent p and the record m exactly when it is a spelling of them, and what was read is then written.
-pub read_exactly : (bytes text : List ℕ) (r : Declaration) (call : ReadsDeclaration bytes text r) (p : ℕ) (m : Model) →
+pub read_exactly : (bytes text : List ℕ) (r : Answer Declared) (call : ReadsDeclaration bytes text r) (p : ℕ) (m : Model) →
     Reads r p m ↔ ((b : Book) × TakenAs bytes b × Spelled places b.names text p m)
 read_exactly = Reading.read_exactly
 
-pub read_writes : (bytes text : List ℕ) (r : Declaration) (call : ReadsDeclaration bytes text r) →
-    outcome_number r.outcome ≡ 0 →
-    (w : Written) (before after : List ℕ) → WritesDeclaration bytes r.parent r.model w before after →
+pub read_writes : (bytes text : List ℕ) (r : Answer Declared) (call : ReadsDeclaration bytes text r) →
+    answer_number r ≡ 0 →
+    (w : Answer ℕ) (before after : List ℕ) → WritesDeclaration bytes (parent_due r) (model_due r) w before after →
     longest_declaration ≤ length before →
     (b : Book) × TakenAs bytes b ×
-    ((outcome_number w.outcome ≡ 0) × Wrote (declaration b.names r.parent r.model) w.length before after)
+    ((answer_number w ≡ 0) × Wrote (declaration b.names (parent_due r) (model_due r)) (length_due w) before after)
 read_writes = Text.read_writes
 
 -- The canonical form is one of the spellings, and no text is a spelling of two declarations.
@@ -284,10 +275,10 @@ spelled_once bytes b read = Spelling.spelled_once places b.names (good_names byt
 -- "Whatever words a parent's non-empty sample holds, in whatever order and however often", for every book that is not
 -- refused and every parent with a block in it and without text: the call is not refused, and its model is minimal
 -- (specs/Results). The model of a parent with text is stated below, at request U5.
-pub no_better_model : (bytes : List ℕ) (parent : ℕ) (r : Inferred) (b : Book) → Asked bytes parent r b → text_of b parent ≡ false →
-    (outcome_number r.outcome ≡ 0) × Minimal (length b.names) r.model (sample_of b parent)
+pub no_better_model : (bytes : List ℕ) (parent : ℕ) (r : Answer Model) (b : Book) → Asked bytes parent r b → text_of b parent ≡ false →
+    (answer_number r ≡ 0) × Minimal (length b.names) (answer_model r) (sample_of b parent)
 no_better_model bytes parent r b a plain = (
-  ap outcome_number (Model3.not_refused bytes parent r a.call b a.read a.block),
+  ap answer_number (Model3.not_refused bytes parent r a.call b a.read a.block),
   record {
     model = Model3.is_model_lem bytes parent r a.call b a.read a.block;
     no_text = Model3.no_text bytes parent r a.call b a.read a.block plain;
@@ -308,31 +299,31 @@ same_exactly n one other c d = (
 
 -- "That record is the chain which the levels above give": its factors, their order and their modes are those of the
 -- levels, over the steps that the words of the sample show; and it is the only chain of which that holds.
-pub model_is_placed : (bytes : List ℕ) (parent : ℕ) (r : Inferred) (b : Book) → Asked bytes parent r b → text_of b parent ≡ false →
-    Placed (Fact (sample_of b parent)) r.model.chain
+pub model_is_placed : (bytes : List ℕ) (parent : ℕ) (r : Answer Model) (b : Book) → Asked bytes parent r b → text_of b parent ≡ false →
+    Placed (Fact (sample_of b parent)) (answer_model r).chain
 model_is_placed bytes parent r b a = Model3.is_placed bytes parent r a.call b a.read a.block
 
-pub only_placed : (bytes : List ℕ) (parent : ℕ) (r : Inferred) (b : Book) → Asked bytes parent r b → text_of b parent ≡ false →
-    (m : Chain) → IsChain places (length b.names) m → Placed (Fact (sample_of b parent)) m → m ≡ r.model.chain
+pub only_placed : (bytes : List ℕ) (parent : ℕ) (r : Answer Model) (b : Book) → Asked bytes parent r b → text_of b parent ≡ false →
+    (m : Chain) → IsChain places (length b.names) m → Placed (Fact (sample_of b parent)) m → m ≡ (answer_model r).chain
 only_placed bytes parent r b a = Model3.only_placed bytes parent r a.call b a.read a.block
 
 -- The executable definition of the same chain, which the code is proved to compute. (`chain_of_words` is `chain_of` of the
 -- words' follow facts.)
-pub model_is_chain : (bytes : List ℕ) (parent : ℕ) (r : Inferred) (b : Book) → Asked bytes parent r b → text_of b parent ≡ false →
-    r.model ≡ model_with (chain_of_words places (length b.names) (sample_of b parent)) 0
+pub model_is_chain : (bytes : List ℕ) (parent : ℕ) (r : Answer Model) (b : Book) → Asked bytes parent r b → text_of b parent ≡ false →
+    answer_model r ≡ model_with (chain_of_words places (length b.names) (sample_of b parent)) 0
 model_is_chain bytes parent r b a plain = sym (Model3.plain_is bytes parent r a.call b a.read a.block plain)
 
 -- The model of any parent with a block, as built: with text or without, the record that `SampleConditions` of
 -- specs/Conditions, the lines of a DTD and the samples below name is the one that the call answers.
-pub model_is_built : (bytes : List ℕ) (parent : ℕ) (r : Inferred) (b : Book) → Asked bytes parent r b →
-    (r.model ≡ parent_model b parent) × (parent_model b parent ≡ model_of_words places (length b.names) (sample_of b parent) (text_of b parent))
+pub model_is_built : (bytes : List ℕ) (parent : ℕ) (r : Answer Model) (b : Book) → Asked bytes parent r b →
+    (answer_model r ≡ parent_model b parent) × (parent_model b parent ≡ model_of_words places (length b.names) (sample_of b parent) (text_of b parent))
 unfolding parent_model
 model_is_built bytes parent r b a = let e = Model3.model_is bytes parent r a.call b a.read a.block in (sym e, refl)
 
 -- A reader may skip the laws from here to `skipped_law`: they join executable definitions to the specified ones.
 -- What is computed on the way is what paper 01 says: the follow facts, who occurs, who reaches whom, the loop groups,
 -- the levels of names and of the end, the skipped levels.
-module _ (bytes : List ℕ) (parent : ℕ) (r : Inferred) (b : Book) (a : Asked bytes parent r b) where
+module _ (bytes : List ℕ) (parent : ℕ) (r : Answer Model) (b : Book) (a : Asked bytes parent r b) where
   abbrev words : List (List ℕ)
   words = sample_of b parent
 
@@ -369,8 +360,8 @@ module _ (bytes : List ℕ) (parent : ℕ) (r : Inferred) (b : Book) (a : Asked 
 
 -- "In whatever order and however often": samples of the same words, over as many names, with text in both or in
 -- neither, have the same model.
-pub same_model : (s t : List ℕ) (p q : ℕ) (x y : Inferred) (b c : Book) → Asked s p x b → Asked t q y c →
-    length b.names ≡ length c.names → text_of b p ≡ text_of c q → SameWords (sample_of b p) (sample_of c q) → x.model ≡ y.model
+pub same_model : (s t : List ℕ) (p q : ℕ) (x y : Answer Model) (b c : Book) → Asked s p x b → Asked t q y c →
+    length b.names ≡ length c.names → text_of b p ≡ text_of c q → SameWords (sample_of b p) (sample_of c q) → answer_model x ≡ answer_model y
 same_model s t p q x y b c one other names text same =
     sym (Model3.model_is s p x one.call b one.read one.block)
     ∙ ap₂ (λ (n : ℕ) (has : Bool). model_of_words places n (sample_of b p) has) names text
@@ -385,8 +376,8 @@ marked_samples = marked
 
 -- "It prints, for each parent with a block, in rising number, its declaration and a line feed" (`output_of` in
 -- crates/dtd_output/specs/Output.antt): the declaration has the model that the call for it answers.
-pub program_line : (bytes : List ℕ) (parent : ℕ) (r : Inferred) (b : Book) → Asked bytes parent r b →
-    line_of b parent ≡ declaration b.names parent r.model ++ (10 ∷ [])
+pub program_line : (bytes : List ℕ) (parent : ℕ) (r : Answer Model) (b : Book) → Asked bytes parent r b →
+    line_of b parent ≡ declaration b.names parent (answer_model r) ++ (10 ∷ [])
 unfolding line_of parent_model
 program_line bytes parent r b a =
     rw ((some_word_lem (sample_of b parent)).1 a.block)
@@ -407,7 +398,7 @@ program_dtd bytes b taken = ap output_of taken
 -- block, which keeps the blocks bs, and u the table after it, as `gather_block` of crates/follow_table promises
 -- (`Gathers Keeps`). Then the steps that u has for a parent are those that its words in bs and in this block show.
 pub after_each_block : (n : ℕ) (bs : List Block) (block : Field Block) (t u : List ℕ) → n ≤ places →
-    BlocksBelow n (bs ++ (block.value ∷ [])) → Keeps bs t → (call : Gathers Keeps (given block) t u) →
+    BlocksBelow n (bs ++ (block.value ∷ [])) → Keeps bs t → (call : Gathers Keeps (Ok block) t u) →
     (parent : ℕ) → parent < tabled → (x y : Point) →
     steps (table_facts n u parent).follow x y ↔ Fact (words_of parent (bs ++ (block.value ∷ []))) x y
 after_each_block n bs block t u few below kept call = So.facts_kept n (bs ++ (block.value ∷ [])) u few below (call bs kept)
@@ -415,7 +406,7 @@ after_each_block n bs block t u few below kept call = So.facts_kept n (bs ++ (bl
 -- "That a parent has text is a fact too" (U5): u has text for a parent exactly where a block of it, in bs or this one,
 -- has the text byte 1.
 pub text_after_each_block : (n : ℕ) (bs : List Block) (block : Field Block) (t u : List ℕ) → n ≤ places →
-    BlocksBelow n (bs ++ (block.value ∷ [])) → Keeps bs t → (call : Gathers Keeps (given block) t u) →
+    BlocksBelow n (bs ++ (block.value ∷ [])) → Keeps bs t → (call : Gathers Keeps (Ok block) t u) →
     (parent : ℕ) → parent < tabled →
     ((table_facts n u parent).text ≡ true) ↔
     ((k : Block) × Memᴰ k (bs ++ (block.value ∷ [])) × (k.parent ≡ parent) × (k.text ≡ 1))
@@ -482,10 +473,10 @@ text_exactly b parent = text_law parent b.blocks
 
 -- The model of a parent with text: "Text and no children anywhere: `(#PCDATA)`. Text and children: `(#PCDATA|a|b)*`,
 -- with exactly the names that stand in its words" (`IsTextModel`). There is no other such record.
-pub text_model : (bytes : List ℕ) (parent : ℕ) (r : Inferred) (b : Book) → Asked bytes parent r b → text_of b parent ≡ true →
-    (outcome_number r.outcome ≡ 0) × IsTextModel places (length b.names) (sample_of b parent) r.model
+pub text_model : (bytes : List ℕ) (parent : ℕ) (r : Answer Model) (b : Book) → Asked bytes parent r b → text_of b parent ≡ true →
+    (answer_number r ≡ 0) × IsTextModel places (length b.names) (sample_of b parent) (answer_model r)
 text_model bytes parent r b a text = (
-  ap outcome_number (Model3.not_refused bytes parent r a.call b a.read a.block),
+  ap answer_number (Model3.not_refused bytes parent r a.call b a.read a.block),
   Model3.is_text_model bytes parent r a.call b a.read a.block text,
 )
 
@@ -548,19 +539,19 @@ pub document_examples : map (λ e. walk 4 example_entries start e.pairs) example
 document_examples = answered
 
 -- A model put into a table: its refusals; a refused call changes nothing; else the table has the model (specs/Results).
-pub put_refusals : (n parent : ℕ) (m : Model) (r : Outcome) (before after : List ℕ) (call : PutsModel n parent m r before after) →
-    PutConditions n parent m (length before) (outcome_number r)
+pub put_refusals : (n parent : ℕ) (m : Model) (r : Answer ⊤) (before after : List ℕ) (call : PutsModel n parent m r before after) →
+    PutConditions n parent m (length before) (answer_number r)
 put_refusals n parent m r before after call =
-    subst (PutConditions n parent m (length before)) (sym (ap outcome_number call.0)) (Law.put_conditions n parent m before)
+    subst (PutConditions n parent m (length before)) (sym (ap answer_number call.0 ∙ Tables.ended_number _)) (Law.put_conditions n parent m before)
 
-pub put_kept : (n parent : ℕ) (m : Model) (r : Outcome) (before after : List ℕ) (call : PutsModel n parent m r before after) →
-    0 < outcome_number r → after ≡ before
+pub put_kept : (n parent : ℕ) (m : Model) (r : Answer ⊤) (before after : List ℕ) (call : PutsModel n parent m r before after) →
+    0 < answer_number r → after ≡ before
 put_kept n parent m r before after call l = let (f, e) = refused_by r l in Tables.put_kept n parent m r before after call f e
 
-pub put_done : (n parent : ℕ) (m : Model) (r : Outcome) (before after : List ℕ) (call : PutsModel n parent m r before after) →
-    outcome_number r ≡ 0 → HasPut parent m before after
+pub put_done : (n parent : ℕ) (m : Model) (r : Answer ⊤) (before after : List ℕ) (call : PutsModel n parent m r before after) →
+    answer_number r ≡ 0 → HasPut parent m before after
 put_done n parent m r before after call z =
-    let d = done_by r z in
+    let d = (given_by r z).1 in
     record {
       row = Tables.put_row_lem n parent m r before after call d;
       own = Tables.put_entry n parent m r before after call d;
@@ -572,32 +563,31 @@ put_done n parent m r before after call z =
 -- A table filled from the samples of a book: its refusals; a refused call changes nothing; else the rows of all names
 -- are at the front, 131 bytes for each, and the table has for each name x with a block the model that the call for x
 -- answers (y), and none for the others.
-pub fill_refusals : (bytes : List ℕ) (w : Written) (before after : List ℕ) (call : WritesModels bytes w before after) →
-    FillConditions bytes (length before) (outcome_number w.outcome)
-unfolding written
+pub fill_refusals : (bytes : List ℕ) (w : Answer ℕ) (before after : List ℕ) (call : WritesModels bytes w before after) →
+    FillConditions bytes (length before) (answer_number w)
 fill_refusals bytes w before after call = subst (FillConditions bytes (length before))
-    (sym (ap (λ (x : Written). outcome_number x.outcome) call.0)) (Law.fill_conditions bytes (length before))
+    (sym (Text.writes_number _ w before after call)) (Law.fill_conditions bytes (length before))
 
-pub fill_kept : (bytes : List ℕ) (w : Written) (before after : List ℕ) (call : WritesModels bytes w before after) →
-    0 < outcome_number w.outcome → (w.length ≡ 0) × (after ≡ before)
+pub fill_kept : (bytes : List ℕ) (w : Answer ℕ) (before after : List ℕ) (call : WritesModels bytes w before after) →
+    0 < answer_number w → (length_due w ≡ 0) × (after ≡ before)
 fill_kept bytes w before after call = Text.writes_kept _ w before after call
 
-pub fill_done : (bytes : List ℕ) (w : Written) (before after : List ℕ) (call : WritesModels bytes w before after) →
-    outcome_number w.outcome ≡ 0 → (b : Book) × TakenAs bytes b × Wrote (models_of b) w.length before after
+pub fill_done : (bytes : List ℕ) (w : Answer ℕ) (before after : List ℕ) (call : WritesModels bytes w before after) →
+    answer_number w ≡ 0 → (b : Book) × TakenAs bytes b × Wrote (models_of b) (length_due w) before after
 fill_done = Text.fill_done
 
-pub fill_length : (bytes : List ℕ) (w : Written) (before after : List ℕ) (call : WritesModels bytes w before after) →
-    outcome_number w.outcome ≡ 0 → (b : Book) → TakenAs bytes b → w.length ≡ length b.names * row_size
-fill_length bytes w before after call z = Tables.fill_length bytes w before after call (done_by w.outcome z)
+pub fill_length : (bytes : List ℕ) (w : Answer ℕ) (before after : List ℕ) (call : WritesModels bytes w before after) →
+    answer_number w ≡ 0 → (b : Book) → TakenAs bytes b → length_due w ≡ length b.names * row_size
+fill_length bytes w before after call z = Tables.fill_length bytes w before after call (given_by w z)
 
-pub fill_entry : (bytes : List ℕ) (w : Written) (before after : List ℕ) (call : WritesModels bytes w before after) →
-    outcome_number w.outcome ≡ 0 → (b : Book) → TakenAs bytes b → (x : ℕ) → x < length b.names →
-    ((y : Inferred) → Asked bytes x y b → entry_of after x ≡ has y.model) × (sample_of b x ≡ [] → entry_of after x ≡ lacks)
+pub fill_entry : (bytes : List ℕ) (w : Answer ℕ) (before after : List ℕ) (call : WritesModels bytes w before after) →
+    answer_number w ≡ 0 → (b : Book) → TakenAs bytes b → (x : ℕ) → x < length b.names →
+    ((y : Answer Model) → Asked bytes x y b → entry_of after x ≡ Some (answer_model y)) × (sample_of b x ≡ [] → entry_of after x ≡ None)
 unfolding parent_model
 fill_entry bytes w before after call z b taken x below =
-    let d = done_by w.outcome z in (
+    let d = given_by w z in (
       λ y a. Tables.fill_entry bytes w before after call d b taken x a.block
-          ∙ ap has (Model3.model_is bytes x y a.call b a.read a.block),
+          ∙ ap Some (Model3.model_is bytes x y a.call b a.read a.block),
       Tables.fill_lacks bytes w before after call d b taken x below,
     )
 
@@ -679,11 +669,11 @@ c_write bytes parent m r before after (x, call, e) =
 pub c_sample : (bytes : List ℕ) (parent : ℕ) (r : LengthReply) (before after : List ℕ)
     (call : RepliesSample bytes parent r before after) →
     SampleConditions bytes parent (length before) r.refusal × (0 < r.refusal → (r.length ≡ 0) × (after ≡ before)) ×
-    (r.refusal ≡ 0 → (y : Inferred) → InfersModel bytes parent y → (b : Book) × TakenAs bytes b × Wrote (declaration b.names parent y.model) r.length before after)
+    (r.refusal ≡ 0 → (y : Answer Model) → InfersModel bytes parent y → (b : Book) × TakenAs bytes b × Wrote (declaration b.names parent (answer_model y)) r.length before after)
 unfolding length_reply
 c_sample bytes parent r before after (x, call, e) =
     subst (λ (v : LengthReply). SampleConditions bytes parent (length before) v.refusal × (0 < v.refusal → (v.length ≡ 0) × (after ≡ before)) ×
-    (v.refusal ≡ 0 → (y : Inferred) → InfersModel bytes parent y → (b : Book) × TakenAs bytes b × Wrote (declaration b.names parent y.model) v.length before after)) (sym e)
+    (v.refusal ≡ 0 → (y : Answer Model) → InfersModel bytes parent y → (b : Book) × TakenAs bytes b × Wrote (declaration b.names parent (answer_model y)) v.length before after)) (sym e)
     (sample_refusals bytes parent x before after call, sample_kept bytes parent x before after call, sample_done bytes parent x before after call)
 
 pub c_dtd : (bytes : List ℕ) (r : LengthReply) (before after : List ℕ) (call : RepliesDtd bytes r before after) →
@@ -718,11 +708,11 @@ pub c_fill : (bytes : List ℕ) (r : LengthReply) (before after : List ℕ) (cal
     FillConditions bytes (length before) r.refusal × (0 < r.refusal → (r.length ≡ 0) × (after ≡ before)) ×
     (r.refusal ≡ 0 → (b : Book) × TakenAs bytes b × Wrote (models_of b) r.length before after) ×
     (r.refusal ≡ 0 → (b : Book) → TakenAs bytes b → (x : ℕ) → x < length b.names →
-    ((y : Inferred) → Asked bytes x y b → entry_of after x ≡ has y.model) × (sample_of b x ≡ [] → entry_of after x ≡ lacks))
+    ((y : Answer Model) → Asked bytes x y b → entry_of after x ≡ Some (answer_model y)) × (sample_of b x ≡ [] → entry_of after x ≡ None))
 unfolding length_reply
 c_fill bytes r before after (x, call, e) =
     subst (λ (v : LengthReply). FillConditions bytes (length before) v.refusal × (0 < v.refusal → (v.length ≡ 0) × (after ≡ before)) ×
     (v.refusal ≡ 0 → (b : Book) × TakenAs bytes b × Wrote (models_of b) v.length before after) ×
     (v.refusal ≡ 0 → (b : Book) → TakenAs bytes b → (x : ℕ) → x < length b.names →
-    ((y : Inferred) → Asked bytes x y b → entry_of after x ≡ has y.model) × (sample_of b x ≡ [] → entry_of after x ≡ lacks))) (sym e)
+    ((y : Answer Model) → Asked bytes x y b → entry_of after x ≡ Some (answer_model y)) × (sample_of b x ≡ [] → entry_of after x ≡ None))) (sym e)
     (fill_refusals bytes x before after call, fill_kept bytes x before after call, fill_done bytes x before after call, fill_entry bytes x before after call)

@@ -1,6 +1,7 @@
 -- Demand 1: each refusal is given for its condition and for no other, by the definition of each call's answer.
 -- Demands.antt says it of the calls.
 -- Assumes nothing.
+use Rattle.std.specs.Prelude.{Ok, Err}
 use Prim.Native.Nat.{ℕ, ◌+◌, ◌*◌, ◌≤◌, ◌<◌}
 use mathlib.Core.Path.{◌≡◌, refl, sym, ◌∙◌, ap, subst}
 use mathlib.Core.Bool.{Bool, true, false, not, false≢true}
@@ -12,7 +13,7 @@ use borrow.Author.Tests.{lt-ltb, le-ltb, ltb-true, ltb-false, le-leb, lt-leb, le
 use Rattle.refusal.specs.declared.Refusal.{Refusal}
 use Rattle.refusal.specs.declared.Refusal.TheVariants.{BookTooLong, BytesMissing, BadNameCount, BadName, NameNotAbove, NumberNotBelow, BytesLeftOver, BadParent, NoBlock, NotAModel, BadWord, BufferTooShort, NotADeclaration, UnknownName, NameTwice, BadText, UnusedName, BadDocument, TooDeep}
 use Rattle.refusal.specs.Table.{number_of, of_book}
-use Rattle.refusal.specs.Answer.{Answer, given, refused, onward, refuse_if, answer_number, yes_due}
+use Rattle.refusal.specs.Answer.{Answer, onward, refuse_if, answer_number, yes_due}
 use Rattle.refusal.proofs.Answers.{given_same, given_refused, check_law, number_refused, number_given}
 use Rattle.refusal.proofs.Checks.{other, own_check, next_check, pass_check, last_check, avoids, own, own_or_next, row, row_0, number_only}
 use Rattle.nameset.specs.Places.{places, good_count}
@@ -32,7 +33,8 @@ use Rattle.byte_buffer.specs.Put.{wrote}
 use Rattle.model_table.specs.Table.{row_size, model_row}
 use Rattle.declaration_spelling.specs.House.{declaration}
 use Rattle.declaration_spelling.specs.Spelled.{Spelled}
-use Rattle.declaration_spelling.specs.Read.{Declared, declared}
+use Rattle.declaration_spelling.specs.declared.Declared.{Declared}
+use Rattle.declaration_spelling.specs.Read.{declared}
 use Rattle.declaration_walk.specs.Gather.{text_answer}
 use Rattle.declaration_spelling.proofs.Books.{good_names}
 use Rattle.declaration_walk.proofs.Theorem as Spelling
@@ -87,7 +89,7 @@ count_law n = (count_bounds n, λ h. bounds_count n h.0 h.1)
 
 -- ---- 1 to 7, 16, 17
 
-book_rows : {A : Type 0} (bytes : List ℕ) (a : Answer A) → ((f : Refusal) → of_book f ≡ true → (a ≡ refused f) ↔ (taken_book bytes ≡ refused f)) → BookConditions bytes (answer_number a)
+book_rows : {A : Type 0} (bytes : List ℕ) (a : Answer A) → ((f : Refusal) → of_book f ≡ true → (a ≡ Err f) ↔ (taken_book bytes ≡ Err f)) → BookConditions bytes (answer_number a)
 book_rows bytes a law =
     record {
       one = at BookTooLong refl refl;
@@ -101,7 +103,7 @@ book_rows bytes a law =
       seventeen = by UnusedName refl (taken_unused bytes);
     }
   where
-    by : {C : Type 0} (f : Refusal) → of_book f ≡ true → (taken_book bytes ≡ refused f) ↔ C → (answer_number a ≡ number_of f) ↔ C
+    by : {C : Type 0} (f : Refusal) → of_book f ≡ true → (taken_book bytes ≡ Err f) ↔ C → (answer_number a ≡ number_of f) ↔ C
     by f l h = row a f (λ e. h.0 ((law f l).0 e), λ c. (law f l).1 (h.1 c))
 
     at : (f : Refusal) → of_book f ≡ true → eqb (number_of UnusedName) (number_of f) ≡ false → (answer_number a ≡ number_of f) ↔ Stops bytes f
@@ -119,7 +121,7 @@ module _ (n : ℕ) (m : Model) (w : List ℕ) where
     λ p. h.1 ((p.some, p.few), (p.model, (p.short, p.names))),
   )
 
-  word_only : (f : Refusal) → answer_of n m w ≡ refused f → (number_of f ≡ 3) ⊎ ((number_of f ≡ 10) ⊎ (number_of f ≡ 11))
+  word_only : (f : Refusal) → answer_of n m w ≡ Err f → (number_of f ≡ 3) ⊎ ((number_of f ≡ 10) ⊎ (number_of f ≡ 11))
   unfolding answer_of
   word_only f e =
       ⊎_elim (λ z. inl (ap number_of (sym z)))
@@ -132,7 +134,7 @@ module _ (n : ℕ) (m : Model) (w : List ℕ) where
       let t₁ = not (good_count n) in
       let t₂ = not (is_model places n m) in
       let t₃ = bad_word n w in
-      let a₃ = given (accepts m.chain w) in
+      let a₃ = Ok (accepts m.chain w) in
       let a₂ = refuse_if t₃ BadWord a₃ in
       let a₁ = refuse_if t₂ NotAModel a₂ in
       let a = refuse_if t₁ BadNameCount a₁ in
@@ -158,14 +160,14 @@ module _ (n : ℕ) (m : Model) (w : List ℕ) where
 -- ---- comparison of two models
 
 -- Two checks with the same refusal: it is given exactly where one of their tests holds.
-either_check : {A P Q : Type 0} (t : Bool) (r : Refusal) (next : Answer A) → (t ≡ true) ↔ P → (next ≡ refused r) ↔ Q →
-    (refuse_if t r next ≡ refused r) ↔ (P ⊎ Q)
+either_check : {A P Q : Type 0} (t : Bool) (r : Refusal) (next : Answer A) → (t ≡ true) ↔ P → (next ≡ Err r) ↔ Q →
+    (refuse_if t r next ≡ Err r) ↔ (P ⊎ Q)
 either_check {P = P} {Q} t r next law behind = (
   λ e. ⊎_elim (λ k. inl (law.0 k.0)) (λ k. inr (behind.0 k.1)) ((check_law t r next r).0 e),
   ⊎_elim (λ p. (check_law t r next r).1 (inl (law.1 p, refl))) (λ q. back t refl q),
 )
   where
-    back : (b : Bool) → t ≡ b → Q → refuse_if t r next ≡ refused r
+    back : (b : Bool) → t ≡ b → Q → refuse_if t r next ≡ Err r
     back true e q = (check_law t r next r).1 (inl (e, refl))
     back false e q = (check_law t r next r).1 (inr (e, behind.1 q))
 
@@ -177,7 +179,7 @@ module _ (n : ℕ) (first second : Model) (room : ℕ) where
     λ p. h.1 ((p.some, p.few), (p.first_model, (p.second_model, p.enough))),
   )
 
-  within_only : (f : Refusal) → comparison_of n first second room ≡ refused f → (number_of f ≡ 3) ⊎ ((number_of f ≡ 10) ⊎ (number_of f ≡ 12))
+  within_only : (f : Refusal) → comparison_of n first second room ≡ Err f → (number_of f ≡ 3) ⊎ ((number_of f ≡ 10) ⊎ (number_of f ≡ 12))
   unfolding comparison_of
   within_only f e =
       ⊎_elim (λ z. inl (ap number_of (sym z)))
@@ -193,7 +195,7 @@ module _ (n : ℕ) (first second : Model) (room : ℕ) where
       let t₂ = not (is_model places n first) in
       let t₃ = not (is_model places n second) in
       let t₄ = ltb room longest_counterexample in
-      let a₄ = given (within n first.chain second.chain) in
+      let a₄ = Ok (within n first.chain second.chain) in
       let a₃ = refuse_if t₄ BufferTooShort a₄ in
       let a₂ = refuse_if t₃ NotAModel a₃ in
       let a₁ = refuse_if t₂ NotAModel a₂ in
@@ -230,7 +232,7 @@ module _ (n : ℕ) (first second : Model) (room : ℕ) where
 -- ---- a call that takes a book
 
 -- a refusal of a book, or one of what is done with it
-no_other : {A : Type 0} (P : ℕ → Type 0) (bytes : List ℕ) (next : Book → Answer A) → ((b : Book) (f : Refusal) → next b ≡ refused f → P (number_of f)) →
+no_other : {A : Type 0} (P : ℕ → Type 0) (bytes : List ℕ) (next : Book → Answer A) → ((b : Book) (f : Refusal) → next b ≡ Err f → P (number_of f)) →
     (answer_number (onward (taken_book bytes) next) ≡ 0) ⊎ (OfBook (answer_number (onward (taken_book bytes) next)) ⊎ P (answer_number (onward (taken_book bytes) next)))
 no_other P bytes next each =
     number_only (λ k. (k ≡ 0) ⊎ (OfBook k ⊎ P k)) (onward (taken_book bytes) next) (inl refl)
@@ -244,10 +246,10 @@ module _ (bytes : List ℕ) (parent : ℕ) where
   t₂ b = no_word (sample_of b parent)
 
   abbrev a₁ : Book → Answer Model
-  a₁ b = refuse_if (t₂ b) NoBlock (given (parent_model b parent))
+  a₁ b = refuse_if (t₂ b) NoBlock (Ok (parent_model b parent))
 
   -- its two refusals, each with what P says of it
-  model_each : (P : Refusal → Type 0) → P BadParent → P NoBlock → (b : Book) (f : Refusal) → model_in b parent ≡ refused f → P f
+  model_each : (P : Refusal → Type 0) → P BadParent → P NoBlock → (b : Book) (f : Refusal) → model_in b parent ≡ Err f → P f
   unfolding model_in
   model_each P p₁ p₂ b f e = ⊎_elim (λ z. subst P z p₁) (λ h. subst P (own (t₂ b) NoBlock _ f h) p₂) (own_or_next (bad_parent b parent) BadParent _ f e)
 
@@ -273,15 +275,15 @@ module _ (bytes : List ℕ) (parent : ℕ) where
 -- ---- a declaration written
 
 -- the last check of both ways to write, and what is behind it
-short_law : (room : ℕ) (text : List ℕ) → (fitted room text ≡ refused BufferTooShort) ↔ (room < length text)
+short_law : (room : ℕ) (text : List ℕ) → (fitted room text ≡ Err BufferTooShort) ↔ (room < length text)
 unfolding fitted
 short_law room text = own_check (ltb room (length text)) BufferTooShort _ (below_law room (length text)) (given_refused _ _)
 
-fits_law : (room : ℕ) (text : List ℕ) → ((x : List ℕ) × (fitted room text ≡ given x)) ↔ (length text ≤ room)
+fits_law : (room : ℕ) (text : List ℕ) → ((x : List ℕ) × (fitted room text ≡ Ok x)) ↔ (length text ≤ room)
 unfolding fitted
 fits_law room text = last_check (ltb room (length text)) BufferTooShort text (at_most_law room (length text))
 
-fitted_only : (room : ℕ) (text : List ℕ) (f : Refusal) → fitted room text ≡ refused f → BufferTooShort ≡ f
+fitted_only : (room : ℕ) (text : List ℕ) (f : Refusal) → fitted room text ≡ Err f → BufferTooShort ≡ f
 unfolding fitted
 fitted_only room text f e = own (ltb room (length text)) BufferTooShort text f e
 
@@ -308,11 +310,11 @@ module _ (bytes : List ℕ) (parent room : ℕ) (r : Refusal) (late : of_book r 
     by_row : {C : Type 0} (b : Book) (x : Answer (List ℕ)) → (checks b ≡ x) ↔ C → (next b ≡ x) ↔ C
     by_row b x law = (λ e. law.0 (sym (is b) ∙ e), λ c. is b ∙ law.1 c)
 
-    by_given : {C : Type 0} (b : Book) → ((x : List ℕ) × (checks b ≡ given x)) ↔ C → ((x : List ℕ) × (next b ≡ given x)) ↔ C
+    by_given : {C : Type 0} (b : Book) → ((x : List ℕ) × (checks b ≡ Ok x)) ↔ C → ((x : List ℕ) × (next b ≡ Ok x)) ↔ C
     by_given b law = (λ (x, e). law.0 (x, sym (is b) ∙ e), λ c. let (x, e) = law.1 c in (x, is b ∙ e))
 
     -- its three refusals, each with what R says of it
-    each : (R : Refusal → Type 0) → R BadParent → R r → R BufferTooShort → (b : Book) (f : Refusal) → next b ≡ refused f → R f
+    each : (R : Refusal → Type 0) → R BadParent → R r → R BufferTooShort → (b : Book) (f : Refusal) → next b ≡ Err f → R f
     each R p₁ p₂ p₃ b f e =
         ⊎_elim (λ z. subst R z p₁)
         (λ h. ⊎_elim (λ z. subst R z p₂) (λ k. subst R (fitted_only room (text b) f k) p₃) (own_or_next (t b) r _ f h))
@@ -325,15 +327,15 @@ module _ (bytes : List ℕ) (parent room : ℕ) (r : Refusal) (late : of_book r 
           book = book_rows bytes a (λ f l. book_first bytes next f l (λ b k. each (λ q. of_book q ≡ false) refl late refl b f));
           eight =
               row a BadParent (in_book bytes next (λ b. length b.names ≤ parent) BadParent refl
-              (λ b. by_row b (refused BadParent) (own_check (bad_parent b parent) BadParent (behind b) (bad_parent_lem b parent)
+              (λ b. by_row b (Err BadParent) (own_check (bad_parent b parent) BadParent (behind b) (bad_parent_lem b parent)
               (avoids (t b) r _ BadParent not-8 (λ e. other BufferTooShort BadParent refl (fitted_only room (text b) BadParent e))))));
           middle =
               row a r (in_book bytes next (λ b. (parent < length b.names) × P b) r late
-              (λ b. by_row b (refused r) (next_check (bad_parent b parent) BadParent (behind b) r (λ e. not-8 (sym e)) (good_parent b parent)
+              (λ b. by_row b (Err r) (next_check (bad_parent b parent) BadParent (behind b) r (λ e. not-8 (sym e)) (good_parent b parent)
               (own_check (t b) r _ (holds b) (λ e. not-12 (fitted_only room (text b) r e))))));
           twelve =
               row a BufferTooShort (in_book bytes next (λ b. (parent < length b.names) × (Q b × (room < length (text b)))) BufferTooShort refl
-              (λ b. by_row b (refused BufferTooShort) (next_check (bad_parent b parent) BadParent (behind b) BufferTooShort (other BadParent BufferTooShort refl) (good_parent b parent)
+              (λ b. by_row b (Err BufferTooShort) (next_check (bad_parent b parent) BadParent (behind b) BufferTooShort (other BadParent BufferTooShort refl) (good_parent b parent)
               (next_check (t b) r _ BufferTooShort (λ e. not-12 (sym e)) (fails b) (short_law room (text b))))));
           none =
               row_0 a (in_given bytes next (λ b. (parent < length b.names) × (Q b × (length (text b) ≤ room)))
@@ -355,7 +357,7 @@ write_conditions bytes parent m room =
 -- ---- a declaration written from the sample
 
 -- the model's two checks and the buffer's, in one row
-in_row : {A B : Type 0} (r₁ r₂ : Refusal) (a : A) (f : A → Answer B) (t₁ t₂ : Bool) → onward (refuse_if t₁ r₁ (refuse_if t₂ r₂ (given a))) f ≡ refuse_if t₁ r₁ (refuse_if t₂ r₂ (f a))
+in_row : {A B : Type 0} (r₁ r₂ : Refusal) (a : A) (f : A → Answer B) (t₁ t₂ : Bool) → onward (refuse_if t₁ r₁ (refuse_if t₂ r₂ (Ok a))) f ≡ refuse_if t₁ r₁ (refuse_if t₂ r₂ (f a))
 in_row r₁ r₂ a f true t₂ = refl
 in_row r₁ r₂ a f false true = refl
 in_row r₁ r₂ a f false false = refl
@@ -418,7 +420,7 @@ fill_conditions bytes room =
 -- ---- a model put into a table of models
 
 module _ (n parent : ℕ) (m : Model) (table : List ℕ) where
-  put_only : (f : Refusal) → put_answer n parent m table ≡ refused f → (number_of f ≡ 3) ⊎ ((number_of f ≡ 8) ⊎ ((number_of f ≡ 10) ⊎ (number_of f ≡ 12)))
+  put_only : (f : Refusal) → put_answer n parent m table ≡ Err f → (number_of f ≡ 3) ⊎ ((number_of f ≡ 8) ⊎ ((number_of f ≡ 10) ⊎ (number_of f ≡ 12)))
   unfolding put_answer
   put_only f e =
       ⊎_elim (λ z. inl (ap number_of (sym z))) (λ h. inr (
@@ -436,7 +438,7 @@ module _ (n parent : ℕ) (m : Model) (table : List ℕ) where
       let t₂ = leb n parent in
       let t₃ = not (is_model places n m) in
       let t₄ = ltb (length table) (parent * row_size + row_size) in
-      let a₄ = given (wrote table (parent * row_size) (model_row m)) in
+      let a₄ = Ok (wrote table (parent * row_size) (model_row m)) in
       let a₃ = refuse_if t₄ BufferTooShort a₄ in
       let a₂ = refuse_if t₃ NotAModel a₃ in
       let a₁ = refuse_if t₂ BadParent a₂ in
@@ -480,13 +482,13 @@ module _ (n parent : ℕ) (m : Model) (table : List ℕ) where
 -- ---- the verdict on a document
 
 -- a yes, and a no of a call that was not refused
-yes_due_lem : (a : Answer Bool) → (yes_due a ≡ true) ↔ (a ≡ given true)
-yes_due_lem (given b) = (λ e. ap given e, λ e. given_same b true e)
-yes_due_lem (refused f) = (λ e. absurd (false≢true e), λ e. absurd (given_refused true f (sym e)))
+yes_due_lem : (a : Answer Bool) → (yes_due a ≡ true) ↔ (a ≡ Ok true)
+yes_due_lem (Ok b) = (λ e. ap Ok e, λ e. given_same b true e)
+yes_due_lem (Err f) = (λ e. absurd (false≢true e), λ e. absurd (given_refused true f (sym e)))
 
-no_due : (a : Answer Bool) → ((answer_number a ≡ 0) × (yes_due a ≡ false)) ↔ (a ≡ given false)
+no_due : (a : Answer Bool) → ((answer_number a ≡ 0) × (yes_due a ≡ false)) ↔ (a ≡ Ok false)
 no_due a = (
-  λ (z, e). let (b, q) = (number_given a).0 z in q ∙ ap given (sym (ap yes_due q) ∙ e),
+  λ (z, e). let (b, q) = (number_given a).0 z in q ∙ ap Ok (sym (ap yes_due q) ∙ e),
   λ e. ((number_given a).1 (false, e), ap yes_due e),
 )
 
@@ -521,18 +523,18 @@ document_conditions n table w =
 -- ---- a declaration read
 
 module _ (bytes text : List ℕ) where
-  read_given : ((x : Declared) × (read_answer bytes text ≡ given x)) ↔ ((b : Book) × TakenAs bytes b × ((p : ℕ) × (m : Model) × Spelled places b.names text p m))
+  read_given : ((x : Declared) × (read_answer bytes text ≡ Ok x)) ↔ ((b : Book) × TakenAs bytes b × ((p : ℕ) × (m : Model) × Spelled places b.names text p m))
   unfolding read_answer
   read_given = in_given bytes (λ b. text_answer places b.names text) (λ b. (p : ℕ) × (m : Model) × Spelled places b.names text p m) spelled
     where
-      spelled : (b : Book) → TakenAs bytes b → ((x : Declared) × (text_answer places b.names text ≡ given x)) ↔ ((p : ℕ) × (m : Model) × Spelled places b.names text p m)
+      spelled : (b : Book) → TakenAs bytes b → ((x : Declared) × (text_answer places b.names text ≡ Ok x)) ↔ ((p : ℕ) × (m : Model) × Spelled places b.names text p m)
       spelled b q =
           let good = good_names bytes b (is_book bytes b q) in (
             λ (x, g). (x.parent, x.model, (Spelling.read_exactly places b.names good text x.parent x.model).0 g),
             λ (p, m, S). (declared p m, (Spelling.read_exactly places b.names good text p m).1 S),
           )
 
-  read_only : (f : Refusal) → read_answer bytes text ≡ refused f → OfBook (number_of f) ⊎ ((number_of f ≡ 13) ⊎ ((number_of f ≡ 14) ⊎ (number_of f ≡ 15)))
+  read_only : (f : Refusal) → read_answer bytes text ≡ Err f → OfBook (number_of f) ⊎ ((number_of f ≡ 13) ⊎ ((number_of f ≡ 14) ⊎ (number_of f ≡ 15)))
   read_only f e =
       ⊎_elim (λ l. inl (f, l, refl))
       (λ h. inr (⊎_elim (λ z. inl (ap number_of (sym z))) (λ k. inr (⊎_elim (λ z. inl (ap number_of (sym z))) (λ z. inr (ap number_of (sym z))) k)) h))

@@ -1,16 +1,16 @@
 -- To be believed: what a call that writes has done (demand 2; for a table of models U7), the case that demand 3 speaks
 -- of, and demand 3.
 -- Assumes nothing.
-use Rattle.std.specs.Prelude.{ℕ, ◌+◌, ◌*◌, ◌≤◌, ◌<◌, ◌≡◌, List, [], ◌⊎◌, length, get_or, take, drop}
+use Rattle.std.specs.Prelude.{ℕ, ◌+◌, ◌*◌, ◌≤◌, ◌<◌, ◌≡◌, List, [], ◌⊎◌, length, get_or, take, drop, Some}
+use Rattle.refusal.specs.Answer.{Answer}
 use Rattle.nameset.specs.Places.{places}
 use Rattle.book.specs.Book.{Book}
 use Rattle.book.specs.Taken.{TakenAs}
 use Rattle.model.specs.declared.Model.{Model}
 use Rattle.model.specs.Record.{IsModel}
 use Rattle.model.specs.Accept.{Accepts, Names}
-use Rattle.model_table.specs.Table.{has, row_size, row_of, entry_of, model_row}
+use Rattle.model_table.specs.Table.{row_size, row_of, entry_of, model_row}
 use Rattle.model_language.specs.Word.{AcceptsAll}
-use Rattle.intake_sample.specs.declared.Inferred.{Inferred}
 use Rattle.intake_sample.specs.Inference.{sample_of, InfersModel}
 
 -- The text is at the front of the buffer: a declaration in canonical form (paper 01's house spelling), a whole DTD, a
@@ -25,14 +25,14 @@ pub record Wrote (text : List ℕ) (answered : ℕ) (before after : List ℕ) : 
 -- other name what it told before, and all bytes but those of the parent's row are as before.
 pub record HasPut (parent : ℕ) (m : Model) (before after : List ℕ) : Type 0 where
   pub row : row_of after parent ≡ model_row m
-  pub own : entry_of after parent ≡ has m
+  pub own : entry_of after parent ≡ Some m
   pub others : (x : ℕ) → ¬ (x ≡ parent) → entry_of after x ≡ entry_of before x
   pub size : length after ≡ length before
   pub bytes : (i : ℕ) → (i < parent * row_size) ⊎ (parent * row_size + row_size ≤ i) → get_or after i 0 ≡ get_or before i 0
 
 -- The call for a parent's model was made with bytes that are taken as the book b, which has a block of the parent: its
 -- sample is not empty.
-pub record Asked (bytes : List ℕ) (parent : ℕ) (r : Inferred) (b : Book) : Type 0 where
+pub record Asked (bytes : List ℕ) (parent : ℕ) (r : Answer Model) (b : Book) : Type 0 where
   pub call : InfersModel bytes parent r
   pub read : TakenAs bytes b
   pub block : ¬ (sample_of b parent ≡ [])

@@ -1,6 +1,7 @@
 -- Pairs have no fault exactly where they begin the document of a tree that is admitted. So the first fault is where no
 -- such tree is left.
 -- Assumes nothing.
+use Rattle.std.specs.Prelude.{Ok, Err}
 use Prim.Native.Nat.{ℕ, ◌%◌, ◌<◌}
 use mathlib.Core.Path.{◌≡◌, refl, sym, ◌∙◌, ap}
 use mathlib.Core.Bool.{Bool, true}
@@ -8,9 +9,10 @@ use mathlib.Core.List.{List, [], ◌∷◌, ◌++◌}
 use mathlib.Core.Logic.{◌↔◌}
 use native.Mathlib.Omega.{arith}
 use lib.ListN.{length}
-use Rattle.refusal.specs.Answer.{Answer, given, refused}
+use Rattle.refusal.specs.Answer.{Answer}
 use Rattle.refusal.proofs.Answers.{onward_given, given_same, given_refused}
-use Rattle.model_table.specs.Table.{Entry, lacks}
+use Rattle.std.proofs.Common.{None}
+use Rattle.model_table.specs.Table.{Entry}
 use Rattle.document.specs.Tree.{Tree, document_of, Admitted}
 use Rattle.document.specs.Fault.{Open, unbegun, inside, over, around, Fine, the_root, an_open, its_close, some_text, Leads, done, onto}
 use Rattle.document.specs.Walk.{Place, before, within, behind, Progress, progress, one_pair, ended, walk, start}
@@ -20,7 +22,7 @@ use Rattle.document.proofs.Faults.{open_at, Right, pair_right, fine_given}
 
 -- Any models will do.
 none : ℕ → Entry
-none x = lacks
+none x = None
 
 -- The closes of these elements.
 closes : List ℕ → List ℕ
@@ -72,12 +74,12 @@ module _ (n : ℕ) where
   goes_on_lem done w s g e = (progress s g, e, refl)
   goes_on_lem (onto {q = q} {s = r} {kind = k} {x = x} {p = p} f l) w s g e = by (fine_given n none k x s g q (rw e f)) (λ t h. goes_on_lem l w t.place t.good h)
     where
-      by : (t : Progress) × (one_pair n none (progress s g) k x ≡ given t) × (open_at t.place ≡ q) → ((t : Progress) → open_at t.place ≡ q → GoesOn t p r w) → GoesOn (progress s g) (k ∷ x ∷ p) r w
+      by : (t : Progress) × (one_pair n none (progress s g) k x ≡ Ok t) × (open_at t.place ≡ q) → ((t : Progress) → open_at t.place ≡ q → GoesOn t p r w) → GoesOn (progress s g) (k ∷ x ∷ p) r w
       by (t, a, b) ih = let i = ih t b in (i.0, i.1, rw a i.2)
 
   -- All elements closed, the walk is not refused.
   abbrev NotRefused : Progress → List ℕ → Type 0
-  NotRefused s w = (b : Bool) × (walk n none s w ≡ given b)
+  NotRefused s w = (b : Bool) × (walk n none s w ≡ Ok b)
 
   at_over : (s : Place) (g : Bool) → open_at s ≡ over → NotRefused (progress s g) []
   unfolding walk ended open_at
@@ -90,7 +92,7 @@ module _ (n : ℕ) where
   close_all [] s g h e = at_over s g e
   close_all (y ∷ ys) s g h e = by (fine_given n none 1 y s g (around ys) (its_close ys refl h.0 e refl)) (λ t q. close_all ys t.place t.good h.1 q)
     where
-      by : (t : Progress) × (one_pair n none (progress s g) 1 y ≡ given t) × (open_at t.place ≡ around ys) → ((t : Progress) → open_at t.place ≡ around ys → NotRefused t (closes ys)) →
+      by : (t : Progress) × (one_pair n none (progress s g) 1 y ≡ Ok t) × (open_at t.place ≡ around ys) → ((t : Progress) → open_at t.place ≡ around ys → NotRefused t (closes ys)) →
           NotRefused (progress s g) (1 ∷ y ∷ closes ys)
       by (t, a, b) ih = let i = ih t b in (i.0, rw a i.1)
 
@@ -105,12 +107,12 @@ module _ (n : ℕ) where
 
   -- ---- and the other way
 
-  is_fine : (o : Open) (k x : ℕ) (a : Answer Progress) → Right n none o k x a → (t : Progress) → a ≡ given t → Fine n o k x (open_at t.place)
+  is_fine : (o : Open) (k x : ℕ) (a : Answer Progress) → Right n none o k x a → (t : Progress) → a ≡ Ok t → Fine n o k x (open_at t.place)
   unfolding Right
-  is_fine o k x (given t) f u e = rw (← given_same t u e) f
-  is_fine o k x (refused r) f u e = absurd (given_refused u r (sym e))
+  is_fine o k x (Ok t) f u e = rw (← given_same t u e) f
+  is_fine o k x (Err r) f u e = absurd (given_refused u r (sym e))
 
-  given_leads : (p w : List ℕ) (s : Place) (g b : Bool) → length p % 2 ≡ 0 → walk n none (progress s g) (p ++ w) ≡ given b → (q : Open) × Leads n (open_at s) p q
+  given_leads : (p w : List ℕ) (s : Place) (g b : Bool) → length p % 2 ≡ 0 → walk n none (progress s g) (p ++ w) ≡ Ok b → (q : Open) × Leads n (open_at s) p q
   unfolding walk
   given_leads [] w s g b even e = (open_at s, done)
   given_leads (k ∷ []) w s g b even e = absurd (omega arith)

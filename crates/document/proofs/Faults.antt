@@ -1,5 +1,6 @@
 -- The walk is refused exactly for the first fault of the pairs.
 -- Assumes nothing.
+use Rattle.std.specs.Prelude.{Ok, Err}
 use Prim.Native.Nat.{ℕ, zero, suc, ◌%◌, ◌≤◌, ◌<◌}
 use mathlib.Core.Path.{◌≡◌, refl, sym, ◌∙◌, ap}
 use mathlib.Core.Bool.{Bool, true, false, not}
@@ -11,7 +12,7 @@ use lib.Dec.{ltb}
 use lib.ListN.{length, length-map}
 use Rattle.refusal.specs.declared.Refusal.{Refusal}
 use Rattle.refusal.specs.declared.Refusal.TheVariants.{BadDocument, TooDeep}
-use Rattle.refusal.specs.Answer.{Answer, given, refused, onward, refuse_if}
+use Rattle.refusal.specs.Answer.{Answer, onward, refuse_if}
 use Rattle.refusal.proofs.Answers.{refused_same, given_refused}
 use Rattle.model_table.specs.Table.{Entry}
 use Rattle.document.specs.declared.Frame.{Frame}
@@ -41,8 +42,8 @@ out_around (f ∷ fs) = refl
 module _ (n : ℕ) (entries : ℕ → Entry) where
   -- The answer a of a pair is right, where o is open before it.
   unfoldable pub Right : Open → ℕ → ℕ → Answer Progress → Type 0
-  Right o kind x (given t) = Fine n o kind x (open_at t.place)
-  Right o kind x (refused r) = Fault n o kind x r
+  Right o kind x (Ok t) = Fine n o kind x (open_at t.place)
+  Right o kind x (Err r) = Fault n o kind x r
 
   open_right : (x : ℕ) (p : Place) (g : Bool) → x < n → Right (open_at p) 0 x (opened entries x p g)
   unfolding Right opened open_at names
@@ -106,56 +107,56 @@ module _ (n : ℕ) (entries : ℕ → Entry) where
   same_names e = cc
 
   -- 18, whether the number is below n or not.
-  always : (b : Bool) → refuse_if {A = Progress} b BadDocument (refused BadDocument) ≡ refused BadDocument
+  always : (b : Bool) → refuse_if {A = Progress} b BadDocument (Err BadDocument) ≡ Err BadDocument
   always true = refl
   always false = refl
 
-  either_way : (kind x : ℕ) (p : Place) (g : Bool) → by_kind entries x kind p g ≡ refused BadDocument → one_pair n entries (progress p g) kind x ≡ refused BadDocument
+  either_way : (kind x : ℕ) (p : Place) (g : Bool) → by_kind entries x kind p g ≡ Err BadDocument → one_pair n entries (progress p g) kind x ≡ Err BadDocument
   unfolding one_pair
   either_way kind x p g e = rw e (always (not (ltb x n)))
 
-  high_kind : (k x : ℕ) (p : Place) (g : Bool) → 2 < k → by_kind entries x k p g ≡ refused BadDocument
+  high_kind : (k x : ℕ) (p : Place) (g : Bool) → 2 < k → by_kind entries x k p g ≡ Err BadDocument
   unfolding by_kind
   high_kind zero x p g l = absurd (omega arith)
   high_kind (suc zero) x p g l = absurd (omega arith)
   high_kind (suc (suc zero)) x p g l = absurd (omega arith)
   high_kind (suc (suc (suc k))) x p g l = refl
 
-  number_high : (kind x : ℕ) (p : Place) (g : Bool) → n ≤ x → one_pair n entries (progress p g) kind x ≡ refused BadDocument
+  number_high : (kind x : ℕ) (p : Place) (g : Bool) → n ≤ x → one_pair n entries (progress p g) kind x ≡ Err BadDocument
   unfolding one_pair
   number_high kind x p g l = rw (le-ltb x n l)
 
-  text_numbered : (x : ℕ) (p : Place) (g : Bool) → (x ≡ 0 → ⊥) → by_kind entries x 2 p g ≡ refused BadDocument
+  text_numbered : (x : ℕ) (p : Place) (g : Bool) → (x ≡ 0 → ⊥) → by_kind entries x 2 p g ≡ Err BadDocument
   unfolding by_kind texted
   text_numbered x before g h = refl
   text_numbered x (within f fs) g h = rw (ne_eqb x 0 h)
   text_numbered x behind g h = refl
 
-  text_out : (x : ℕ) (p : Place) (g : Bool) → Outside (open_at p) → by_kind entries x 2 p g ≡ refused BadDocument
+  text_out : (x : ℕ) (p : Place) (g : Bool) → Outside (open_at p) → by_kind entries x 2 p g ≡ Err BadDocument
   unfolding by_kind texted open_at
   text_out x before g h = refl
   text_out x (within f fs) g h = absurd h
   text_out x behind g h = refl
 
-  close_out : (x : ℕ) (p : Place) (g : Bool) → Outside (open_at p) → by_kind entries x 1 p g ≡ refused BadDocument
+  close_out : (x : ℕ) (p : Place) (g : Bool) → Outside (open_at p) → by_kind entries x 1 p g ≡ Err BadDocument
   unfolding by_kind closed open_at
   close_out x before g h = refl
   close_out x (within f fs) g h = absurd h
   close_out x behind g h = refl
 
-  close_unlike : (x : ℕ) (p : Place) (g : Bool) (y : ℕ) (ys : List ℕ) → open_at p ≡ inside y ys → (x ≡ y → ⊥) → by_kind entries x 1 p g ≡ refused BadDocument
+  close_unlike : (x : ℕ) (p : Place) (g : Bool) (y : ℕ) (ys : List ℕ) → open_at p ≡ inside y ys → (x ≡ y → ⊥) → by_kind entries x 1 p g ≡ Err BadDocument
   unfolding by_kind closed open_at
   close_unlike x before g y ys e h = absurd (no_open e)
   close_unlike x (within f fs) g y ys e h = rw (ne_eqb x f.name (λ q. h (q ∙ same_name e)))
   close_unlike x behind g y ys e h = absurd (none_over e)
 
-  root_again : (x : ℕ) (p : Place) (g : Bool) → open_at p ≡ over → by_kind entries x 0 p g ≡ refused BadDocument
+  root_again : (x : ℕ) (p : Place) (g : Bool) → open_at p ≡ over → by_kind entries x 0 p g ≡ Err BadDocument
   unfolding by_kind opened open_at
   root_again x before g e = absurd (let z : ◌≡◌ {A = ℕ} 0 1 = cc in omega arith)
   root_again x (within f fs) g e = absurd (none_over (sym e))
   root_again x behind g e = refl
 
-  too_deep : (x : ℕ) (p : Place) (g : Bool) (y : ℕ) (ys : List ℕ) → x < n → open_at p ≡ inside y ys → deepest ≤ length (y ∷ ys) → one_pair n entries (progress p g) 0 x ≡ refused TooDeep
+  too_deep : (x : ℕ) (p : Place) (g : Bool) (y : ℕ) (ys : List ℕ) → x < n → open_at p ≡ inside y ys → deepest ≤ length (y ∷ ys) → one_pair n entries (progress p g) 0 x ≡ Err TooDeep
   unfolding one_pair by_kind opened open_at
   too_deep x before g y ys l e d = absurd (no_open e)
   too_deep x (within f fs) g y ys l e d =
@@ -164,7 +165,7 @@ module _ (n : ℕ) (entries : ℕ → Entry) where
       rw (lt-ltb x n l, le-leb deepest (suc (length fs)) q)
   too_deep x behind g y ys l e d = absurd (none_over e)
 
-  pub fault_refused : (kind x : ℕ) (p : Place) (g : Bool) {r : Refusal} → Fault n (open_at p) kind x r → one_pair n entries (progress p g) kind x ≡ refused r
+  pub fault_refused : (kind x : ℕ) (p : Place) (g : Bool) {r : Refusal} → Fault n (open_at p) kind x r → one_pair n entries (progress p g) kind x ≡ Err r
   fault_refused kind x p g (kind_above_2 l) = either_way kind x p g (high_kind kind x p g l)
   fault_refused kind x p g (number_not_below l) = number_high kind x p g l
   fault_refused kind x p g (text_with_number k h) = either_way kind x p g (rw k (text_numbered x p g h))
@@ -176,7 +177,7 @@ module _ (n : ℕ) (entries : ℕ → Entry) where
 
   -- A pair that is fine is not refused, and what is then open is what the walk has open.
   abbrev pub LeadsTo : Answer Progress → Open → Type 0
-  LeadsTo a q = (t : Progress) × (a ≡ given t) × (open_at t.place ≡ q)
+  LeadsTo a q = (t : Progress) × (a ≡ Ok t) × (open_at t.place ≡ q)
 
   fine_root : (x : ℕ) (p : Place) (g : Bool) (q : Open) → x < n → open_at p ≡ unbegun → q ≡ inside x [] → LeadsTo (one_pair n entries (progress p g) 0 x) q
   unfolding one_pair by_kind opened open_at names
@@ -214,44 +215,44 @@ module _ (n : ℕ) (entries : ℕ → Entry) where
 
   -- ---- all pairs
 
-  ended_fault : (p : Place) (g : Bool) {r : Refusal} → ended p g ≡ refused r → FirstFault n (open_at p) [] r
+  ended_fault : (p : Place) (g : Bool) {r : Refusal} → ended p g ≡ Err r → FirstFault n (open_at p) [] r
   unfolding ended open_at
   ended_fault before g {r} e = rw (← refused_same {A = Bool} BadDocument r e) no_root
   ended_fault (within f fs) g {r} e = rw (← refused_same {A = Bool} BadDocument r e) open_left
   ended_fault behind g {r} e = absurd (given_refused g r e)
 
-  pair_fault : (o : Open) (k x : ℕ) (w : List ℕ) (r : Refusal) (a : Answer Progress) → Right o k x a → onward a (λ t. walk n entries t w) ≡ refused r →
-      ((t : Progress) → walk n entries t w ≡ refused r → FirstFault n (open_at t.place) w r) → FirstFault n o (k ∷ x ∷ w) r
+  pair_fault : (o : Open) (k x : ℕ) (w : List ℕ) (r : Refusal) (a : Answer Progress) → Right o k x a → onward a (λ t. walk n entries t w) ≡ Err r →
+      ((t : Progress) → walk n entries t w ≡ Err r → FirstFault n (open_at t.place) w r) → FirstFault n o (k ∷ x ∷ w) r
   unfolding Right
-  pair_fault o k x w r (given t) q h ih = later q (ih t h)
-  pair_fault o k x w r (refused f) q h ih = here (rw (refused_same {A = Bool} f r h) at q)
+  pair_fault o k x w r (Ok t) q h ih = later q (ih t h)
+  pair_fault o k x w r (Err f) q h ih = here (rw (refused_same {A = Bool} f r h) at q)
 
   -- A refused walk has the fault; an even length has no lone byte.
-  pub refused_fault : (w : List ℕ) (p : Place) (g : Bool) (r : Refusal) → length w % 2 ≡ 0 → walk n entries (progress p g) w ≡ refused r → FirstFault n (open_at p) w r
+  pub refused_fault : (w : List ℕ) (p : Place) (g : Bool) (r : Refusal) → length w % 2 ≡ 0 → walk n entries (progress p g) w ≡ Err r → FirstFault n (open_at p) w r
   unfolding walk
   refused_fault [] p g r even e = ended_fault p g e
   refused_fault (k ∷ []) p g r even e = absurd (omega arith)
   refused_fault (k ∷ x ∷ w) p g r even e =
       pair_fault (open_at p) k x w r (one_pair n entries (progress p g) k x) (pair_right k x p g) e (λ t h. refused_fault w t.place t.good r (omega arith) h)
 
-  end_unbegun : (p : Place) (g : Bool) → open_at p ≡ unbegun → ended p g ≡ refused BadDocument
+  end_unbegun : (p : Place) (g : Bool) → open_at p ≡ unbegun → ended p g ≡ Err BadDocument
   unfolding ended open_at
   end_unbegun before g e = refl
   end_unbegun (within f fs) g e = refl
   end_unbegun behind g e = absurd (let z : ◌≡◌ {A = ℕ} 0 1 = cc in omega arith)
 
-  end_inside : {y : ℕ} {ys : List ℕ} (p : Place) (g : Bool) → open_at p ≡ inside y ys → ended p g ≡ refused BadDocument
+  end_inside : {y : ℕ} {ys : List ℕ} (p : Place) (g : Bool) → open_at p ≡ inside y ys → ended p g ≡ Err BadDocument
   unfolding ended open_at
   end_inside before g e = refl
   end_inside (within f fs) g e = refl
   end_inside behind g e = absurd (none_over e)
 
-  pub fault_walk : {w : List ℕ} {o : Open} {r : Refusal} → FirstFault n o w r → (p : Place) (g : Bool) → open_at p ≡ o → walk n entries (progress p g) w ≡ refused r
+  pub fault_walk : {w : List ℕ} {o : Open} {r : Refusal} → FirstFault n o w r → (p : Place) (g : Bool) → open_at p ≡ o → walk n entries (progress p g) w ≡ Err r
   unfolding walk
   fault_walk (here {kind = k} {x = x} {w = w} {r = r} f) p g e = rw (fault_refused k x p g {r = r} (rw e f))
   fault_walk (later {q = q} {kind = k} {x = x} {w = w} {r = r} f l) p g e = go (fine_given k x p g q (rw e f)) (λ t h. fault_walk l t.place t.good h)
     where
-      go : LeadsTo (one_pair n entries (progress p g) k x) q → ((t : Progress) → open_at t.place ≡ q → walk n entries t w ≡ refused r) → onward (one_pair n entries (progress p g) k x) (λ t. walk n entries t w) ≡ refused r
+      go : LeadsTo (one_pair n entries (progress p g) k x) q → ((t : Progress) → open_at t.place ≡ q → walk n entries t w ≡ Err r) → onward (one_pair n entries (progress p g) k x) (λ t. walk n entries t w) ≡ Err r
       go (t, a, b) ih = rw a (ih t b)
   fault_walk no_root p g e = end_unbegun p g e
   fault_walk open_left p g e = end_inside p g e

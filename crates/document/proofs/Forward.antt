@@ -1,5 +1,6 @@
 -- The walk over the pairs of a tree is not refused, and what it answers goes by the tree.
 -- Assumes nothing.
+use Rattle.std.specs.Prelude.{Ok}
 use Prim.Native.Nat.{ℕ, suc, ◌+◌, ◌%◌, ◌≤◌, ◌<◌}
 use mathlib.Core.Path.{◌≡◌, refl, ◌∙◌}
 use mathlib.Core.Bool.{Bool, true, false, ◌&&◌}
@@ -7,7 +8,6 @@ use mathlib.Core.List.{List, [], ◌∷◌}
 use native.Mathlib.Omega.{arith}
 use borrow.Author.Tests.{lt-ltb, lt-leb, eq-eqb}
 use lib.ListN.{length}
-use Rattle.refusal.specs.Answer.{given}
 use Rattle.model.specs.declared.State.{State}
 use Rattle.model.specs.Run.{state}
 use Rattle.model_table.specs.Table.{Entry}
@@ -74,7 +74,7 @@ module _ (n : ℕ) (entries : ℕ → Entry) (some : 0 < n) where
 
   -- The whole document.
   pub walk_tree : (t : Tree) → Admitted n t → walk n entries start (document_of t)
-      ≡ given (may_close (entries t.root) (last_state (entries t.root) first t.content) && good_after entries t.root first t.content true)
+      ≡ Ok (may_close (entries t.root) (last_state (entries t.root) first t.content) && good_after entries t.root first t.content true)
   unfolding walk out_of ended
   walk_tree t a =
       let x = t.root in

@@ -1,5 +1,6 @@
 -- What the walk over the pairs of a document answers, in terms of the document's tree and of its faults.
 -- Assumes nothing.
+use Rattle.std.specs.Prelude.{Ok, Err}
 use Prim.Native.Nat.{ℕ, ◌%◌, ◌<◌}
 use mathlib.Core.Path.{◌≡◌, refl, sym, ◌∙◌, ap}
 use mathlib.Core.Bool.{Bool, true, false, ◌&&◌, false≢true}
@@ -8,7 +9,7 @@ use mathlib.Core.Logic.{◌↔◌, ◌⊎◌, inl, inr, ⊎_elim}
 use lib.ListN.{length}
 use Rattle.refusal.specs.declared.Refusal.{Refusal}
 use Rattle.refusal.specs.declared.Refusal.TheVariants.{BadDocument, TooDeep}
-use Rattle.refusal.specs.Answer.{Answer, given, refused}
+use Rattle.refusal.specs.Answer.{Answer}
 use Rattle.refusal.proofs.Answers.{given_same, refused_same, given_refused, onward_refused}
 use Rattle.model_table.specs.Table.{Entry}
 use Rattle.model_table_step.specs.Run.{may_close}
@@ -30,28 +31,28 @@ module _ (n : ℕ) (entries : ℕ → Entry) where
   valid_law = tree_law entries
 
   module _ (some : 0 < n) (w : List ℕ) where
-    on_tree : (t : Tree) → IsDocument n t w → walk n entries start w ≡ given (valid t)
+    on_tree : (t : Tree) → IsDocument n t w → walk n entries start w ≡ Ok (valid t)
     unfolding valid
     on_tree t (a, e) = ap (walk n entries start) e ∙ walk_tree n entries some t a
 
     -- The pairs of a tree get a verdict.
-    pub walk_given : (t : Tree) → IsDocument n t w → (b : Bool) × (walk n entries start w ≡ given b)
+    pub walk_given : (t : Tree) → IsDocument n t w → (b : Bool) × (walk n entries start w ≡ Ok b)
     walk_given t d = (valid t, on_tree t d)
 
     -- A verdict b is given exactly where the pairs are those of a tree for which it is computed.
-    given_law : (b : Bool) → (walk n entries start w ≡ given b) ↔ ((t : Tree) × IsDocument n t w × (valid t ≡ b))
-    given_law b = (to, λ (t, d, e). on_tree t d ∙ ap given e)
+    given_law : (b : Bool) → (walk n entries start w ≡ Ok b) ↔ ((t : Tree) × IsDocument n t w × (valid t ≡ b))
+    given_law b = (to, λ (t, d, e). on_tree t d ∙ ap Ok e)
       where
-        to : walk n entries start w ≡ given b → (t : Tree) × IsDocument n t w × (valid t ≡ b)
+        to : walk n entries start w ≡ Ok b → (t : Tree) × IsDocument n t w × (valid t ≡ b)
         to e = let (t, a, q) = has_tree n entries w b e in (t, (a, q), given_same (valid t) b (sym (on_tree t (a, q)) ∙ e))
 
-    pub walk_yes : (walk n entries start w ≡ given true) ↔ ((t : Tree) × IsDocument n t w × Valid entries t)
+    pub walk_yes : (walk n entries start w ≡ Ok true) ↔ ((t : Tree) × IsDocument n t w × Valid entries t)
     walk_yes = (
       λ e. let (t, d, v) = (given_law true).0 e in (t, d, (valid_law t).0 v),
       λ (t, d, v). (given_law true).1 (t, d, (valid_law t).1 v),
     )
 
-    pub walk_no : (walk n entries start w ≡ given false) ↔ ((t : Tree) × IsDocument n t w × (¬ Valid entries t))
+    pub walk_no : (walk n entries start w ≡ Ok false) ↔ ((t : Tree) × IsDocument n t w × (¬ Valid entries t))
     walk_no = (
       λ e. let (t, d, v) = (given_law false).0 e in (t, d, λ h. false≢true (sym v ∙ (valid_law t).1 h)),
       λ (t, d, v). (given_law false).1 (t, d, by t (valid t) refl (λ e. v ((valid_law t).0 e))),
@@ -62,7 +63,7 @@ module _ (n : ℕ) (entries : ℕ → Entry) where
         by t false e h = e
 
   -- A refusal is given exactly for the first fault.
-  pub walk_refused : (w : List ℕ) → length w % 2 ≡ 0 → (r : Refusal) → (walk n entries start w ≡ refused r) ↔ FirstFault n unbegun w r
+  pub walk_refused : (w : List ℕ) → length w % 2 ≡ 0 → (r : Refusal) → (walk n entries start w ≡ Err r) ↔ FirstFault n unbegun w r
   unfolding open_at
   walk_refused w even r = (refused_fault n entries w before true r even, λ f. fault_walk n entries f before true refl)
 
@@ -79,19 +80,19 @@ fault_which (second_root e q) = inl refl
 fault_which (depth_33 y ys e l q d) = inr refl
 
 module _ (n : ℕ) (entries : ℕ → Entry) where
-  pair_which : (o : Open) (k x : ℕ) (a : Answer Progress) → Right n entries o k x a → (r : Refusal) → a ≡ refused r → (r ≡ BadDocument) ⊎ (r ≡ TooDeep)
+  pair_which : (o : Open) (k x : ℕ) (a : Answer Progress) → Right n entries o k x a → (r : Refusal) → a ≡ Err r → (r ≡ BadDocument) ⊎ (r ≡ TooDeep)
   unfolding Right
-  pair_which o k x (given t) h r e = absurd (given_refused t r e)
-  pair_which o k x (refused f) h r e = rw (← refused_same {A = Progress} f r e) (fault_which h)
+  pair_which o k x (Ok t) h r e = absurd (given_refused t r e)
+  pair_which o k x (Err f) h r e = rw (← refused_same {A = Progress} f r e) (fault_which h)
 
-  end_which : (p : Place) (g : Bool) (r : Refusal) → ended p g ≡ refused r → (r ≡ BadDocument) ⊎ (r ≡ TooDeep)
+  end_which : (p : Place) (g : Bool) (r : Refusal) → ended p g ≡ Err r → (r ≡ BadDocument) ⊎ (r ≡ TooDeep)
   unfolding ended
   end_which before g r e = inl (sym (refused_same {A = Bool} BadDocument r e))
   end_which (within f fs) g r e = inl (sym (refused_same {A = Bool} BadDocument r e))
   end_which behind g r e = absurd (given_refused g r e)
 
   -- a walk is refused for nothing but 18 and 19
-  pub walk_which : (w : List ℕ) (s : Progress) (r : Refusal) → walk n entries s w ≡ refused r → (r ≡ BadDocument) ⊎ (r ≡ TooDeep)
+  pub walk_which : (w : List ℕ) (s : Progress) (r : Refusal) → walk n entries s w ≡ Err r → (r ≡ BadDocument) ⊎ (r ≡ TooDeep)
   unfolding walk
   walk_which [] s r e = end_which s.place s.good r e
   walk_which (k ∷ []) s r e = inl (sym (refused_same {A = Bool} BadDocument r e))

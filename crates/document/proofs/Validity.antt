@@ -7,13 +7,12 @@ use mathlib.Core.Logic.{◌↔◌}
 use borrow.Author.Tests.{eq-eqb, eqb-true}
 use Rattle.model.specs.declared.Model.{Model}
 use Rattle.model.specs.declared.State.{State}
-use Rattle.model.specs.declared.Moved.{Moved}
-use Rattle.model.specs.declared.Moved.TheVariants.{To, Nowhere}
+use Rattle.std.proofs.Common.{Option, Some, None}
 use Rattle.model.specs.Run.{move, run, may_end, accepts}
 use Rattle.nameset.proofs.Tests.{both, and_left, and_right}
 use Rattle.model.proofs.Words.{run_nowhere}
 use Rattle.model.proofs.Acceptance.{accepts_law}
-use Rattle.model_table.specs.Table.{Entry, lacks, has}
+use Rattle.model_table.specs.Table.{Entry}
 use Rattle.model_table_step.specs.Run.{move_in, may_close, allows_text}
 use Rattle.document.specs.Tree.{Content, nothing, text, element, Tree, children, HasText, Fits, AllFit, Valid}
 use Rattle.document.specs.Walk.{kept, goes_on}
@@ -29,21 +28,21 @@ Moves e s (element x inner c) = (goes_on (move_in e s x) ≡ true) × Moves e (k
 
 module _ (m : Model) where
   -- one child more, by where the run then is
-  run_on : (s : State) (c : Content) (v : Moved) →
-      ((t : State) → (may_end m.chain (run m.chain (To t) (children c)) ≡ true) ↔ (Moves (has m) t c × (may_end m.chain (To (last_state (has m) t c)) ≡ true))) →
+  run_on : (s : State) (c : Content) (v : Option State) →
+      ((t : State) → (may_end m.chain (run m.chain (Some t) (children c)) ≡ true) ↔ (Moves (Some m) t c × (may_end m.chain (Some (last_state (Some m) t c)) ≡ true))) →
       (may_end m.chain (run m.chain v (children c)) ≡ true)
-      ↔ (((goes_on v ≡ true) × Moves (has m) (kept s v) c) × (may_end m.chain (To (last_state (has m) (kept s v) c)) ≡ true))
+      ↔ (((goes_on v ≡ true) × Moves (Some m) (kept s v) c) × (may_end m.chain (Some (last_state (Some m) (kept s v) c)) ≡ true))
   unfolding goes_on kept may_end
-  run_on s c (To t) law = (λ e. let p = (law t).0 e in ((refl, p.0), p.1), λ p. (law t).1 (p.0.1, p.1))
-  run_on s c Nowhere law = (λ e. absurd (false≢true (rw (run_nowhere m.chain (children c)) at e)), λ p. absurd (false≢true p.0.0))
+  run_on s c (Some t) law = (λ e. let p = (law t).0 e in ((refl, p.0), p.1), λ p. (law t).1 (p.0.1, p.1))
+  run_on s c None law = (λ e. absurd (false≢true (rw (run_nowhere m.chain (children c)) at e)), λ p. absurd (false≢true p.0.0))
 
   -- the run through the children, all at once and child by child
   run_law : (s : State) (c : Content) →
-      (may_end m.chain (run m.chain (To s) (children c)) ≡ true) ↔ (Moves (has m) s c × (may_end m.chain (To (last_state (has m) s c)) ≡ true))
+      (may_end m.chain (run m.chain (Some s) (children c)) ≡ true) ↔ (Moves (Some m) s c × (may_end m.chain (Some (last_state (Some m) s c)) ≡ true))
   unfolding run Moves last_state move_in
   run_law s nothing = (λ e. (tt, e), λ p. p.1)
   run_law s (text c) = run_law s c
-  run_law s (element x inner c) = run_on s c (move m.chain (To s) x) (λ t. run_law t c)
+  run_law s (element x inner c) = run_on s c (move m.chain (Some s) x) (λ t. run_law t c)
 
 -- What a walk checks of an element with the content c.
 abbrev pub Checked : Entry → Content → Type 0
@@ -51,8 +50,8 @@ Checked e c = (may_close e (last_state e first c) ≡ true) × Moves e first c �
 
 pub fits_law : (e : Entry) (c : Content) → Checked e c ↔ Fits e c
 unfolding may_close allows_text accepts
-fits_law lacks c = (λ p. absurd (false≢true p.0), λ p. absurd p)
-fits_law (has m) c = (
+fits_law None c = (λ p. absurd (false≢true p.0), λ p. absurd p)
+fits_law (Some m) c = (
   λ p. ((accepts_law m.chain (children c)).0 ((run_law m first c).1 (p.1, p.0)), λ h. eqb-true m.text 1 (p.2 h)),
   λ p. let r = (run_law m first c).0 ((accepts_law m.chain (children c)).1 p.0) in (r.1, r.0, λ h. eq-eqb m.text 1 (p.1 h)),
 )
@@ -70,7 +69,7 @@ module _ (entries : ℕ → Entry) where
   unfolding good_after Moves
   element_law name s x inner c g law-in law-on = (to, from)
     where
-      m : Moved
+      m : Option State
       m = move_in (entries name) s x
 
       close : Bool

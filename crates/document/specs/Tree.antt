@@ -1,8 +1,8 @@
 -- To be believed: a document as a tree of elements, its byte pairs, and when it is valid (paper 02, U7).
 -- Assumes nothing.
-use Rattle.std.specs.Prelude.{ℕ, suc, ◌≤◌, ◌<◌, max, ◌≡◌, List, [], ◌∷◌}
+use Rattle.std.specs.Prelude.{ℕ, suc, ◌≤◌, ◌<◌, max, ◌≡◌, List, [], ◌∷◌, Some, None}
 use Rattle.model.specs.Accept.{Accepts}
-use Rattle.model_table.specs.Table.{Entry, lacks, has}
+use Rattle.model_table.specs.Table.{Entry}
 
 -- What is between the tags of an element: nothing; text, and what follows it; or an element with its name and its own
 -- content, and what follows it.
@@ -74,8 +74,8 @@ HasText (element x inner c) = HasText c
 -- The content of an element whose name has this entry in the table of models. `Accepts` is acceptance as in demand 2,
 -- of words of any length.
 abbrev pub Fits : Entry → Content → Type 0
-Fits lacks c = ⊥
-Fits (has m) c = Accepts m.chain (children c) × (HasText c → m.text ≡ 1)
+Fits None c = ⊥
+Fits (Some m) c = Accepts m.chain (children c) × (HasText c → m.text ≡ 1)
 
 -- Every element in a content has a content that fits.
 abbrev pub AllFit : (ℕ → Entry) → Content → Type 0

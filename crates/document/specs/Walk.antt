@@ -1,12 +1,10 @@
 -- A means: one walk over the pairs of a document from left to right, with the elements that are open. The first fault
 -- is the answer, else the verdict. `walk_yes`, `walk_no` and `walk_refused` in proofs/Theorem.antt say what it answers.
 -- Assumes nothing.
-use Rattle.std.specs.Prelude.{ℕ, zero, suc, Bool, true, false, ◌&&◌, not, List, [], ◌∷◌, eqb, ltb, leb, length}
+use Rattle.std.specs.Prelude.{ℕ, zero, suc, Bool, true, false, ◌&&◌, not, List, [], ◌∷◌, eqb, ltb, leb, length, Ok, Err, Option, Some, None}
 use Rattle.refusal.specs.declared.Refusal.TheVariants.{BadDocument, TooDeep}
-use Rattle.refusal.specs.Answer.{Answer, given, refused, onward, refuse_if}
+use Rattle.refusal.specs.Answer.{Answer, onward, refuse_if}
 use Rattle.model.specs.declared.State.{State}
-use Rattle.model.specs.declared.Moved.{Moved}
-use Rattle.model.specs.declared.Moved.TheVariants.{To, Nowhere}
 use Rattle.model.specs.Run.{state}
 use Rattle.model_table.specs.Table.{Entry}
 use Rattle.model_table_step.specs.Run.{move_in, may_close, allows_text}
@@ -35,16 +33,16 @@ opening x = record { name = x; state = state 0 false }
 
 -- The state after one more child. If the run through the children ends with that child, the state stays as it was, and
 -- `goes_on` is false.
-unfoldable pub kept : State → Moved → State
-kept s (To t) = t
-kept s Nowhere = s
+unfoldable pub kept : State → Option State → State
+kept s (Some t) = t
+kept s None = s
 
-abbrev pub moved : Frame → Moved → Frame
+abbrev pub moved : Frame → Option State → Frame
 moved f m = record { name = f.name; state = kept f.state m }
 
-unfoldable pub goes_on : Moved → Bool
-goes_on (To s) = true
-goes_on Nowhere = false
+unfoldable pub goes_on : Option State → Bool
+goes_on (Some s) = true
+goes_on None = false
 
 -- Where a walk is when the innermost element is closed, which was inside these.
 unfoldable pub out_of : List Frame → Place
@@ -56,32 +54,32 @@ out_of (f ∷ fs) = within f fs
 module _ (entries : ℕ → Entry) (x : ℕ) where
   -- An open: "a second root" is 18, "an open that would make depth 33" is 19.
   unfoldable pub opened : Place → Bool → Answer Progress
-  opened before g = given (progress (within (opening x) []) g)
+  opened before g = Ok (progress (within (opening x) []) g)
   opened (within f fs) g =
       let m = move_in (entries f.name) f.state x in
-      refuse_if (leb deepest (suc (length fs))) TooDeep (given (progress (within (opening x) (moved f m ∷ fs)) (goes_on m && g)))
-  opened behind g = refused BadDocument
+      refuse_if (leb deepest (suc (length fs))) TooDeep (Ok (progress (within (opening x) (moved f m ∷ fs)) (goes_on m && g)))
+  opened behind g = Err BadDocument
 
   -- A close: "unlike its open or with none open" is 18.
   unfoldable pub closed : Place → Bool → Answer Progress
-  closed before g = refused BadDocument
+  closed before g = Err BadDocument
   closed (within f fs) g =
-      refuse_if (not (eqb x f.name)) BadDocument (given (progress (out_of fs) (may_close (entries f.name) f.state && g)))
-  closed behind g = refused BadDocument
+      refuse_if (not (eqb x f.name)) BadDocument (Ok (progress (out_of fs) (may_close (entries f.name) f.state && g)))
+  closed behind g = Err BadDocument
 
   -- Text: "with a number other than 0" and "outside the root" are 18.
   unfoldable pub texted : Place → Bool → Answer Progress
-  texted before g = refused BadDocument
+  texted before g = Err BadDocument
   texted (within f fs) g =
-      refuse_if (not (eqb x 0)) BadDocument (given (progress (within f fs) (allows_text (entries f.name) && g)))
-  texted behind g = refused BadDocument
+      refuse_if (not (eqb x 0)) BadDocument (Ok (progress (within f fs) (allows_text (entries f.name) && g)))
+  texted behind g = Err BadDocument
 
   -- "a kind above 2" is 18.
   unfoldable pub by_kind : ℕ → Place → Bool → Answer Progress
   by_kind zero p g = opened p g
   by_kind (suc zero) p g = closed p g
   by_kind (suc (suc zero)) p g = texted p g
-  by_kind (suc (suc (suc k))) p g = refused BadDocument
+  by_kind (suc (suc (suc k))) p g = Err BadDocument
 
 -- One pair: "a number not below N" is 18, and goes before 19.
 unfoldable pub one_pair : ℕ → (ℕ → Entry) → Progress → ℕ → ℕ → Answer Progress
@@ -91,14 +89,14 @@ one_pair n entries s kind x = refuse_if (not (ltb x n)) BadDocument (by_kind ent
 
 -- The end: "no root" and "an open left at the end" are 18.
 unfoldable pub ended : Place → Bool → Answer Bool
-ended before g = refused BadDocument
-ended (within f fs) g = refused BadDocument
-ended behind g = given g
+ended before g = Err BadDocument
+ended (within f fs) g = Err BadDocument
+ended behind g = Ok g
 
 -- The rest of a document. A single byte at its end is never met: "an odd length is seen before any pair".
 unfoldable pub walk : ℕ → (ℕ → Entry) → Progress → List ℕ → Answer Bool
 walk n entries s [] = ended s.place s.good
-walk n entries s (kind ∷ []) = refused BadDocument
+walk n entries s (kind ∷ []) = Err BadDocument
 walk n entries s (kind ∷ x ∷ rest) = onward (one_pair n entries s kind x) (λ t. walk n entries t rest)
 
 abbrev pub start : Progress

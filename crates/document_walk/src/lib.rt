@@ -1,14 +1,14 @@
-// The walk over all pairs of a document, in one pass. The elements that are open are kept in three rows.
+// The walk over all pairs of a document, in one pass. The elements that are open are kept in a row of frames.
 #![tactic(auto)]
 
 ghost use Rattle.std.specs.Prelude.{◌%◌, ◌≡◌, length};
 ghost use Rattle.refusal.specs.Answer.{acceptance};
 ghost use Rattle.model_table.specs.Table.{entry_of};
 ghost use Rattle.document.specs.Walk.{opening, walk, start};
-ghost use Rattle.document_walk.specs.Rows.{Finished};
+ghost use Rattle.document_walk.specs.Finish.{Finished};
 
 use document::Frame;
-use document_step::{DEEPEST, Step, judge_pair};
+use document_step::{DEEPEST, Standing, Step, judge_pair};
 use model::State;
 use refusal::{Acceptance, Refusal};
 
@@ -26,16 +26,16 @@ fn opening(name: u8) -> Frame
 }
 
 // The answer at the end of the pairs.
-fn finish(begun: bool, depth: usize, good: bool) -> Acceptance
-    ensures { Finished begun depth good result }
+fn finish(s: Standing) -> Acceptance
+    ensures { Finished s.begun s.depth s.good result }
 {
-    if depth != 0 {
+    if s.depth != 0 {
         return Acceptance::Refused(Refusal::BadDocument);
     }
-    if !begun {
+    if !s.begun {
         return Acceptance::Refused(Refusal::BadDocument);
     }
-    if good {
+    if s.good {
         Acceptance::Yes
     } else {
         Acceptance::No
@@ -47,44 +47,38 @@ pub fn walk_pairs(n: usize, models: &[u8], document: &[u8]) -> Acceptance
     requires { length document.now % 2 ≡ 0 }
     ensures { result ≡ acceptance (walk n (entry_of models.now) start document.now) }
 {
-    let mut top = opening(0);
-    let mut names = [0u8; DEEPEST];
-    let mut factors = [0usize; DEEPEST];
-    let mut taken = [false; DEEPEST];
-    let mut depth: usize = 0;
-    let mut good = true;
-    let mut at: usize = 0;
-    while at < document.len() {
-        let x = document[at + 1];
-        let step = judge_pair(n, models, document[at], x, 0 < at, depth, top, good);
-        at += 2;
-        match step {
-            Step::Open(parent, fits) => {
-                names[depth] = parent.name;
-                factors[depth] = parent.state.factor;
-                taken[depth] = parent.state.taken;
-                depth += 1;
-                top = opening(x);
-                good = fits;
-            }
-            Step::Close(fits) => {
-                depth -= 1;
-                top = Frame {
-                    name: names[depth],
-                    state: State {
-                        factor: factors[depth],
-                        taken: taken[depth],
-                    },
-                };
-                good = fits;
-            }
-            Step::Text(fits) => {
-                good = fits;
-            }
-            Step::Stop(refusal) => {
+    let mut frames = [opening(0); DEEPEST];
+    let mut s = Standing {
+        begun: false,
+        depth: 0,
+        top: opening(0),
+        good: true,
+    };
+    for i in 0..document.len() / 2 {
+        let x = document[2 * i + 1];
+        let step = match judge_pair(n, models, document[2 * i], x, s) {
+            Ok(step) => step,
+            Err(refusal) => {
                 return Acceptance::Refused(refusal);
+            }
+        };
+        s.begun = true;
+        match step {
+            Step::Open(parent, good) => {
+                frames[s.depth] = parent;
+                s.depth += 1;
+                s.top = opening(x);
+                s.good = good;
+            }
+            Step::Close(good) => {
+                s.depth -= 1;
+                s.top = frames[s.depth];
+                s.good = good;
+            }
+            Step::Text(good) => {
+                s.good = good;
             }
         }
     }
-    finish(0 < at, depth, good)
+    finish(s)
 }

@@ -1,10 +1,9 @@
 -- What was put into the buffer of the output; and that bytes past the longest book change nothing of its output.
 -- Assumes nothing.
-use Rattle.std.proofs.Common.{ℕ, ◌≡◌, ◌≤◌, ◌<◌, List, [], ◌++◌, Bool, true, false, None, Some, Option, IfSome, length, take, refl, sym, ap, ◌∙◌, subst, arith, append-nil, length-append, ltb}
+use Rattle.std.proofs.Common.{ℕ, ◌≡◌, ◌≤◌, ◌<◌, List, [], ◌++◌, Bool, true, false, None, Some, Option, IfSome, length, take, refl, sym, ap, ◌∙◌, subst, arith, append-nil, length-append, ltb, Err}
 use Rattle.std.specs.Io.KnownBytes.{Appends, Consumes, IsAtEnd}
 use borrow.Author.Tests.{lt-ltb, ltb-true, ltb-false}
 use Rattle.refusal.specs.declared.Refusal.TheVariants.{BookTooLong}
-use Rattle.refusal.specs.Answer.{refused}
 use Rattle.book.specs.Book.{longest_book, book_of}
 use Rattle.book.specs.Taken.{taken_book}
 use Rattle.byte_buffer.specs.Put.{Put}
@@ -17,7 +16,7 @@ put_taken d text e n put within =
     let all : n ≡ length text = omega (arith, put.place) in
     rw (put.holds, all) (wrote_back d text (omega (arith, put.same)))
 
-too_long : (s : List ℕ) → longest_book < length s → taken_book s ≡ refused BookTooLong
+too_long : (s : List ℕ) → longest_book < length s → taken_book s ≡ Err BookTooLong
 unfolding taken_book book_of
 too_long s h = rw (lt-ltb longest_book (length s) h) refl
 

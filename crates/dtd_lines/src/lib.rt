@@ -45,10 +45,8 @@ pub fn put_lines(out: &mut [u8], bytes: &[u8], layout: Layout, table: &[u64]) ->
     ensures { Put out.old 0 (fact_lines (names_in bytes.now) (table_facts layout.names table.now) 0 layout.names) result out.new }
 {
     let mut to = 0;
-    let mut parent = 0;
-    while parent < layout.names {
+    for parent in 0..layout.names {
         to = put_line(out, to, bytes, layout, row_of(table, parent), parent);
-        parent += 1;
     }
     to
 }
@@ -68,10 +66,8 @@ fn lines_length(bytes: &[u8], layout: Layout, table: &[u64]) -> usize
     ensures { result ≡ length (fact_lines (names_in bytes.now) (table_facts layout.names table.now) 0 layout.names) }
 {
     let mut size = 0;
-    let mut parent = 0;
-    while parent < layout.names {
+    for parent in 0..layout.names {
         size += line_length(bytes, layout, row_of(table, parent), parent);
-        parent += 1;
     }
     size
 }

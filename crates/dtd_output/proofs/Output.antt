@@ -1,5 +1,6 @@
 -- All output: the whole DTD, or the text for a refused book.
 -- Assumes nothing.
+use Rattle.std.specs.Prelude.{Ok, Err}
 use Prim.Native.Nat.{ℕ, ◌+◌, ◌/◌, ◌≤◌}
 use mathlib.Core.Path.{◌≡◌, refl, sym, ◌∙◌, ap, subst}
 use mathlib.Core.Bool.{cond}
@@ -9,13 +10,11 @@ use lib.Dec.{ltb}
 use lib.ListN.{length}
 use lib.Seq.{length-sets}
 use Rattle.refusal.specs.declared.Refusal.{Refusal}
-use Rattle.refusal.specs.declared.Outcome.TheVariants.{Done, Refused}
 use Rattle.refusal.specs.Table.{number_of}
-use Rattle.refusal.specs.Answer.{refused, outcome_of}
-use Rattle.refusal.proofs.Answers.{outcome_refused, outcome_given}
+use Rattle.refusal.proofs.Answers.{given_same}
 use Rattle.book.specs.Taken.{taken_book}
-use Rattle.declaration_writing.specs.declared.Written.{Written}
-use Rattle.declaration_writing.specs.Write.{length_due, written, buffer_after}
+use Rattle.declaration_writing.specs.Write.{written, buffer_after}
+use Rattle.declaration_writing.proofs.Back.{written_refused, written_given}
 use Rattle.byte_buffer.specs.Put.{wrote, Put}
 use Rattle.byte_buffer.proofs.Puts.{wrote_none, put_is}
 use Rattle.intake_dtd.specs.Dtd.{dtd_answer, WritesDtd, longest_dtd}
@@ -23,15 +22,11 @@ use Rattle.intake_dtd.proofs.Short.{dtd_short, room_given, room_refused}
 use Rattle.dtd_output.specs.Output.{refused_text, output_of}
 use Rattle.dtd_output.proofs.Refused.{room}
 
-module _ (s : List ℕ) (w : Written) (d e : List ℕ) (call : WritesDtd s w d e) (long : longest_dtd ≤ length d) where
-  outcome_is : w.outcome ≡ outcome_of (dtd_answer s (length d))
-  unfolding written
-  outcome_is = ap (λ (x : Written). x.outcome) call.0
-
+module _ (s d e : List ℕ) (long : longest_dtd ≤ length d) where
   -- a refused book: nothing was written, and the refusal is the book's
-  module _ (f : Refusal) (o : w.outcome ≡ Refused f) where
-    answer_is : dtd_answer s (length d) ≡ refused f
-    answer_is = (outcome_refused (dtd_answer s (length d)) f).0 (sym outcome_is ∙ o)
+  module _ (f : Refusal) (call : WritesDtd s (Err f) d e) where
+    answer_is : dtd_answer s (length d) ≡ Err f
+    answer_is = written_refused (dtd_answer s (length d)) f (sym call.0)
 
     pub kept : e ≡ d
     unfolding buffer_after
@@ -47,13 +42,13 @@ module _ (s : List ℕ) (w : Written) (d e : List ℕ) (call : WritesDtd s w d e
         let p : Put d 0 (refused_text f) to g = subst (λ (x : List ℕ). Put x 0 (refused_text f) to g) kept q in
         (put_is d 0 (refused_text f) (output_of (taken_book s)) to g (sym (ap output_of (room_refused s (length d) f long answer_is))) p, omega (arith, q.place, q.same))
 
-  pub done_out : w.outcome ≡ Done → Put d 0 (output_of (taken_book s)) w.length e × (w.length ≤ length e)
+  pub done_out : (n : ℕ) → WritesDtd s (Ok n) d e → Put d 0 (output_of (taken_book s)) n e × (n ≤ length e)
   unfolding output_of written buffer_after wrote
-  done_out o =
-      let (text, g) = (outcome_given (dtd_answer s (length d))).0 (sym outcome_is ∙ o) in
+  done_out n call =
+      let (text, g) = written_given (dtd_answer s (length d)) n (sym call.0) in
       let (b, taken, same) = room_given s (length d) text long g in
       let short : length text ≤ longest_dtd = subst (λ (t : List ℕ). length t ≤ longest_dtd) same (dtd_short s b taken) in
-      let size : w.length ≡ length text = ap (λ (x : Written). x.length) call.0 ∙ ap length_due g in
+      let size : n ≡ length text = given_same n (length text) (call.0 ∙ ap written g) in
       let holds : e ≡ wrote d 0 text = call.1 ∙ ap (buffer_after d) g in
       let kept : length e ≡ length d = ap length holds ∙ length-sets d 0 text in
-      (put_is d 0 text (output_of (taken_book s)) w.length e (sym same ∙ sym (ap output_of taken)) (record { place = omega arith; holds = holds; same = kept }), omega arith)
+      (put_is d 0 text (output_of (taken_book s)) n e (sym same ∙ sym (ap output_of taken)) (record { place = omega arith; holds = holds; same = kept }), omega arith)

@@ -1,5 +1,6 @@
 -- What the output tells: a refusal is printed exactly where the book was refused for it.
 -- Assumes nothing.
+use Rattle.std.specs.Prelude.{Ok, Err}
 use Prim.Native.Nat.{ℕ, zero, suc, ◌+◌, ◌/◌, ◌%◌, ◌≤◌, ◌<◌}
 use mathlib.Core.Path.{◌≡◌, refl, sym, ◌∙◌, ap}
 use mathlib.Core.Bool.{Bool, true, false, cond}
@@ -11,7 +12,7 @@ use lib.ListN.{length, get_or, drop}
 use borrow.Author.Tests.{lt-ltb, le-ltb}
 use Rattle.refusal.specs.declared.Refusal.{Refusal}
 use Rattle.refusal.specs.Table.{number_of}
-use Rattle.refusal.specs.Answer.{Answer, given, refused}
+use Rattle.refusal.specs.Answer.{Answer}
 use Rattle.refusal.proofs.Laws.{number_injective}
 use Rattle.refusal.proofs.Answers.{given_refused}
 use Rattle.book.specs.Book.{Book}
@@ -93,7 +94,7 @@ unfolding refused_text refused_word
 text_apart f g e = number_injective f g (decimal_apart (number_of f) (number_of g) (ap (drop 8) e))
 
 -- The text for a refusal is printed exactly where the book was refused so.
-pub printed_refused : (a : Answer Book) (f : Refusal) → (output_of a ≡ refused_text f) ↔ (a ≡ refused f)
+pub printed_refused : (a : Answer Book) (f : Refusal) → (output_of a ≡ refused_text f) ↔ (a ≡ Err f)
 unfolding output_of
-printed_refused (given b) f = (λ e. absurd (dtd_apart b f e), λ e. absurd (given_refused b f e))
-printed_refused (refused g) f = (λ e. ap refused (text_apart g f e), λ e. ap output_of e)
+printed_refused (Ok b) f = (λ e. absurd (dtd_apart b f e), λ e. absurd (given_refused b f e))
+printed_refused (Err g) f = (λ e. ap Err (text_apart g f e), λ e. ap output_of e)

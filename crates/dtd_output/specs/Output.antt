@@ -1,10 +1,10 @@
 -- To be believed: what the program prints for any bytes as the book (paper 01, "The program"). `program_line` in
 -- crates/demands/proofs/Demands.antt says which model a line has.
 -- Assumes nothing.
-use Rattle.std.specs.Prelude.{ℕ, ◌+◌, ◌/◌, ◌%◌, cond, List, [], ◌∷◌, ◌++◌, ltb}
+use Rattle.std.specs.Prelude.{ℕ, ◌+◌, ◌/◌, ◌%◌, cond, List, [], ◌∷◌, ◌++◌, ltb, Ok, Err}
 use Rattle.refusal.specs.declared.Refusal.{Refusal}
 use Rattle.refusal.specs.Table.{number_of}
-use Rattle.refusal.specs.Answer.{Answer, given, refused}
+use Rattle.refusal.specs.Answer.{Answer}
 use Rattle.book.specs.Book.{Book}
 use Rattle.intake_dtd.specs.Dtd.{dtd_of}
 
@@ -23,5 +23,5 @@ refused_text r = refused_word ++ (decimal (number_of r) ++ (10 ∷ []))
 -- All output, for the book as it is taken (`taken_book` in crates/book/specs/Taken.antt): its whole DTD, or why it was
 -- refused.
 unfoldable pub output_of : Answer Book → List ℕ
-output_of (given b) = dtd_of b
-output_of (refused r) = refused_text r
+output_of (Ok b) = dtd_of b
+output_of (Err r) = refused_text r

@@ -9,7 +9,7 @@ ghost use Rattle.dtd_output.specs.Output.{refused_text, output_of};
 
 use byte_buffer::{put_all, put_some};
 use intake_dtd::write_dtd;
-use refusal::{Outcome, Refusal};
+use refusal::Refusal;
 
 // The digit of the tens, or 0 where there is none.
 fn tens(n: u8) -> u8
@@ -35,10 +35,8 @@ pub fn put_output(out: &mut [u8], bytes: &[u8]) -> usize
     requires { longest_dtd ≤ length out.old }
     ensures { Put out.old 0 (output_of (taken_book bytes.now)) result out.new × (result ≤ length out.new) }
 {
-    let written = write_dtd(bytes, out);
-    let outcome = written.outcome;
-    if let Outcome::Refused(refusal) = outcome {
-        return put_refused(out, refusal);
+    match write_dtd(bytes, out) {
+        Ok(length) => length,
+        Err(refusal) => put_refused(out, refusal),
     }
-    written.length
 }

@@ -2,12 +2,14 @@
 -- Assumes nothing.
 use Prim.Native.Nat.{ℕ, suc, ◌+◌, ◌-◌, ◌≤◌, ◌<◌}
 use mathlib.Core.Path.{◌≡◌, refl, sym, ◌∙◌, ap}
-use mathlib.Core.Bool.{Bool, true, ◌||◌, or-true, or-false}
+use mathlib.Core.Bool.{Bool, false, ◌||◌, or-false}
 use mathlib.Core.List.{List, [], ◌∷◌}
 use native.Mathlib.Omega.{arith}
 use native.Mathlib.Numerals.{add-one}
 use lib.ListN.{length, get_or, drop, drop_of_length-le}
 use lib.Seq.{drop-cons}
+use lib.Dec.{eqb-suc-zero}
+use Rattle.std.proofs.Common.{◌==◌}
 use Rattle.nameset.specs.declared.NameSet.{NameSet}
 use Rattle.nameset.specs.Set.{with}
 use Rattle.nameset.specs.Rows.{row_at, put_row}
@@ -29,10 +31,6 @@ pub last_none : (s : NameSet) (w : List ℕ) → length w ≡ 0 → s ≡ with_l
 unfolding with_last
 last_none s w e = rw (no_name_lem w e)
 
-pub empty_none : (b : Bool) (w : List ℕ) → length w ≡ 0 → true ≡ (b || is_empty w)
-unfolding is_empty
-empty_none b w e = rw (no_name_lem w e) (sym (or-true b))
-
 -- ---- a word with a name
 
 pub first_some : (s r : NameSet) (w : List ℕ) (a : ℕ) → (length w ≡ 0 → ⊥) → a ≡ get_or w 0 0 → r ≡ with s a → r ≡ with_first s w
@@ -51,6 +49,11 @@ last_some s r (x ∷ w) a h ea er =
     let k : suc (length w) - 1 ≡ length w = omega arith in
     er ∙ ap (with s) (ea ∙ ap (λ (i : ℕ). get_or (x ∷ w) i 0) k) ∙ sym (last_at s x w)
 
+pub empty_is : (b r : Bool) (w : List ℕ) → b ≡ false → r ≡ (length w == 0) → r ≡ (b || is_empty w)
+unfolding is_empty
+empty_is b r [] f e = rw f e
+empty_is b r (x ∷ w) f e = rw f (e ∙ eqb-suc-zero (length w))
+
 pub empty_some : (b : Bool) (w : List ℕ) → (length w ≡ 0 → ⊥) → b ≡ (b || is_empty w)
 unfolding is_empty
 empty_some b [] h = absurd (h refl)
@@ -62,10 +65,13 @@ empty_some b (x ∷ w) h = sym (or-false b)
 pub pairs_left : List ℕ → ℕ → List ℕ → ℕ → List ℕ
 pairs_left rows a w i = with_pairs rows (a ∷ drop i w)
 
-pub pairs_begin : (rows w : List ℕ) (a : ℕ) → a ≡ get_or w 0 0 → with_pairs rows w ≡ pairs_left rows a w 1
-unfolding pairs_left with_pairs
-pairs_begin rows [] a e = refl
-pairs_begin rows (x ∷ w) a e = rw e
+pub pairs_none : (rows w : List ℕ) → w ≡ [] → rows ≡ with_pairs rows w
+unfolding with_pairs
+pairs_none rows w e = rw e
+
+pub pairs_begin : (rows word : List ℕ) (a : ℕ) (w : List ℕ) → word ≡ a ∷ w → with_pairs rows word ≡ pairs_left rows a w 0
+unfolding pairs_left
+pairs_begin rows word a w e = ap (with_pairs rows) e
 
 pub pairs_next : (rows next w : List ℕ) (i a b : ℕ) (r s : NameSet) → i < length w → b ≡ get_or w i 0 →
     r ≡ row_at rows a → s ≡ with r b → next ≡ put_row rows a s → pairs_left rows a w i ≡ pairs_left next b w (i + 1)

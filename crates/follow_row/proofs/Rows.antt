@@ -110,6 +110,18 @@ pub text_put : (u : List ℕ) (t m : ℕ) → length u ≡ row_size → m ≡ co
 unfolding with_text
 text_put u t m l e = (ap (set u text_place) e, length-set u text_place m ∙ l)
 
+-- the mark, left as it is
+pub text_kept : (u : List ℕ) (t : ℕ) → length u ≡ row_size → eqb t 1 ≡ false → (u ≡ with_text u t) × (length u ≡ row_size)
+unfolding with_text
+text_kept u t l e = (rw e (at u l), l)
+  where
+    at : (u : List ℕ) → length u ≡ row_size → u ≡ set u text_place (get_or u text_place 0)
+    at [] l = absurd (omega arith)
+    at (a ∷ []) l = absurd (omega arith)
+    at (a ∷ (b ∷ [])) l = absurd (omega arith)
+    at (a ∷ (b ∷ (c ∷ []))) l = absurd (omega arith)
+    at (a ∷ (b ∷ (c ∷ (d ∷ f)))) l = refl
+
 -- the mark, then the word
 pub block_added : (u v w x : List ℕ) (t : ℕ) → length u ≡ row_size → v ≡ with_text u t → WordAdded v w x → RowAdded u t w x
 unfolding with_text facts_in text_in row_at

@@ -1,7 +1,7 @@
 // The follow facts of one parent and whether it has text, kept as a row of words; and a block added to them.
 #![tactic(auto)]
 
-ghost use Rattle.std.specs.Prelude.{◌≡◌, true, cond, eqb, length};
+ghost use Rattle.std.specs.Prelude.{◌≡◌, true, length};
 ghost use Rattle.nameset.specs.Places.{places};
 ghost use Rattle.book.specs.Book.{all_below};
 ghost use Rattle.follow_row.specs.Row.{row_size, with_text, with_ends, WordAdded, RowAdded};
@@ -23,22 +23,14 @@ pub const FOLLOWS: usize = 4;
 
 pub const ROW: usize = FOLLOWS + PLACES;
 
-// The mark for text, with a block's text byte: once set it stays.
-fn marked(mark: u64, text: u8) -> u64
-    ensures { result ≡ cond (eqb text 1) 1 mark }
-{
-    if text == 1 {
-        return 1;
-    }
-    mark
-}
-
-// Marks a row where a block has text.
+// Marks a row where a block has text: once set the mark stays.
 fn add_text(row: &mut [u64], text: u8)
     requires { length row.old ≡ row_size }
     ensures { (row.new ≡ with_text row.old text) × (length row.new ≡ row_size) }
 {
-    row[TEXT] = marked(row[TEXT], text);
+    if text == 1 {
+        row[TEXT] = 1;
+    }
 }
 
 // Puts the first name of a word into the starts of a row, and the last into the ends.
@@ -57,7 +49,7 @@ fn add_word(row: &mut [u64], word: &[u8])
     requires { (length row.old ≡ row_size) × (all_below places word.now ≡ true) }
     ensures { WordAdded row.old word.now row.new }
 {
-    if word.len() == 0 {
+    if word.is_empty() {
         row[EMPTY] = 1;
         return;
     }

@@ -1,5 +1,6 @@
 -- When the call gives each answer: what stops it, and the verdict.
 -- Assumes nothing.
+use Rattle.std.specs.Prelude.{Ok, Err}
 use Prim.Native.Nat.{ℕ, ◌%◌, ◌≤◌, ◌<◌}
 use mathlib.Core.Path.{◌≡◌, refl, sym, ap, subst}
 use mathlib.Core.Bool.{Bool, true, false, not}
@@ -11,7 +12,7 @@ use lib.Dec.{eqb, ltb}
 use lib.ListN.{length}
 use Rattle.refusal.specs.declared.Refusal.{Refusal}
 use Rattle.refusal.specs.declared.Refusal.TheVariants.{BookTooLong, BadNameCount, NotAModel, BadDocument, TooDeep}
-use Rattle.refusal.specs.Answer.{Answer, given, refused, refuse_if}
+use Rattle.refusal.specs.Answer.{Answer, refuse_if}
 use Rattle.refusal.proofs.Answers.{check_law, pass_law}
 use Rattle.refusal.proofs.Checks.{other, own_check, next_check, avoids, own_or_next}
 use Rattle.nameset.specs.Places.{places, OutOfRange, good_count}
@@ -73,16 +74,16 @@ module _ (n : ℕ) (table w : List ℕ) where
 
   -- ---- what the pairs never give
 
-  pairs_only : (f : Refusal) → behind_models ≡ refused f → (f ≡ BadDocument) ⊎ (f ≡ TooDeep)
+  pairs_only : (f : Refusal) → behind_models ≡ Err f → (f ≡ BadDocument) ⊎ (f ≡ TooDeep)
   unfolding behind_models on_pairs
   pairs_only f e = ⊎_elim (λ q. inl (sym q)) (walk_which n (entry_of table) w start f) (own_or_next odd BadDocument on_pairs f e)
 
-  pairs_never : (f : Refusal) → ¬ (f ≡ BadDocument) → ¬ (f ≡ TooDeep) → ¬ (behind_models ≡ refused f)
+  pairs_never : (f : Refusal) → ¬ (f ≡ BadDocument) → ¬ (f ≡ TooDeep) → ¬ (behind_models ≡ Err f)
   pairs_never f a b e = ⊎_elim a b (pairs_only f e)
 
   -- ---- 1, 3, 10
 
-  pub answer_long : (document_answer n table w ≡ refused BookTooLong) ↔ (longest_document < length w)
+  pub answer_long : (document_answer n table w ≡ Err BookTooLong) ↔ (longest_document < length w)
   unfolding behind_length behind_count long
   answer_long =
       rw answer_is
@@ -91,7 +92,7 @@ module _ (n : ℕ) (table w : List ℕ) where
       (avoids (not (all_models n table)) NotAModel behind_models BookTooLong (other NotAModel BookTooLong refl)
       (pairs_never BookTooLong (other BookTooLong BadDocument refl) (other BookTooLong TooDeep refl)))))
 
-  pub answer_count : (document_answer n table w ≡ refused BadNameCount) ↔ ((length w ≤ longest_document) × OutOfRange n)
+  pub answer_count : (document_answer n table w ≡ Err BadNameCount) ↔ ((length w ≤ longest_document) × OutOfRange n)
   unfolding behind_length behind_count
   answer_count =
       rw answer_is
@@ -100,7 +101,7 @@ module _ (n : ℕ) (table w : List ℕ) where
       (avoids (not (all_models n table)) NotAModel behind_models BadNameCount (other NotAModel BadNameCount refl)
       (pairs_never BadNameCount (other BadNameCount BadDocument refl) (other BadNameCount TooDeep refl)))))
 
-  pub answer_model : (document_answer n table w ≡ refused NotAModel) ↔ ((length w ≤ longest_document) × (((0 < n) × (n ≤ places)) × BadRecord n table))
+  pub answer_model : (document_answer n table w ≡ Err NotAModel) ↔ ((length w ≤ longest_document) × (((0 < n) × (n ≤ places)) × BadRecord n table))
   unfolding behind_length behind_count
   answer_model =
       rw answer_is
@@ -119,7 +120,7 @@ module _ (n : ℕ) (table w : List ℕ) where
   )
 
   ready_refused : {C : Type 0} (f : Refusal) → ¬ (BookTooLong ≡ f) → ¬ (BadNameCount ≡ f) → ¬ (NotAModel ≡ f) →
-      (behind_models ≡ refused f) ↔ C → (document_answer n table w ≡ refused f) ↔ (Ready n table w × C)
+      (behind_models ≡ Err f) ↔ C → (document_answer n table w ≡ Err f) ↔ (Ready n table w × C)
   unfolding behind_length behind_count
   ready_refused f a b c law =
       rw answer_is
@@ -129,12 +130,12 @@ module _ (n : ℕ) (table w : List ℕ) where
       (next_check (not (all_models n table)) NotAModel behind_models f c all_law law))))
 
   -- a check that is passed, before what is behind it
-  passed : {Q C : Type 0} (t : Bool) (r : Refusal) (next : Answer Bool) (b : Bool) → (t ≡ false) ↔ Q → (next ≡ given b) ↔ C → (refuse_if t r next ≡ given b) ↔ (Q × C)
+  passed : {Q C : Type 0} (t : Bool) (r : Refusal) (next : Answer Bool) (b : Bool) → (t ≡ false) ↔ Q → (next ≡ Ok b) ↔ C → (refuse_if t r next ≡ Ok b) ↔ (Q × C)
   passed t r next b law behind =
       let h = pass_law t r next b in
       (λ e. let (p, q) = h.0 e in (law.0 p, behind.0 q), λ (q, c). h.1 (law.1 q, behind.1 c))
 
-  ready_given : (b : Bool) → (document_answer n table w ≡ given b) ↔ (Ready n table w × ((length w % 2 ≡ 0) × (on_pairs ≡ given b)))
+  ready_given : (b : Bool) → (document_answer n table w ≡ Ok b) ↔ (Ready n table w × ((length w % 2 ≡ 0) × (on_pairs ≡ Ok b)))
   unfolding behind_length behind_count behind_models
   ready_given b =
       rw answer_is
@@ -146,11 +147,11 @@ module _ (n : ℕ) (table w : List ℕ) where
 
   -- ---- 18, 19
 
-  fault_law : (f : Refusal) → length w % 2 ≡ 0 → (on_pairs ≡ refused f) ↔ FirstFault n unbegun w f
+  fault_law : (f : Refusal) → length w % 2 ≡ 0 → (on_pairs ≡ Err f) ↔ FirstFault n unbegun w f
   unfolding on_pairs
   fault_law f even = walk_refused n (entry_of table) w even f
 
-  pub answer_bad : (document_answer n table w ≡ refused BadDocument)
+  pub answer_bad : (document_answer n table w ≡ Err BadDocument)
       ↔ (Ready n table w × ((length w % 2 ≡ 1) ⊎ ((length w % 2 ≡ 0) × FirstFault n unbegun w BadDocument)))
   unfolding behind_models
   answer_bad =
@@ -160,7 +161,7 @@ module _ (n : ℕ) (table w : List ℕ) where
         λ c. h.1 (⊎_elim (λ o. inl (odd_law.1 o, refl)) (λ (o, q). inr (even_law.1 o, (fault_law BadDocument o).1 q)) c),
       )
 
-  pub answer_deep : (document_answer n table w ≡ refused TooDeep) ↔ (Ready n table w × ((length w % 2 ≡ 0) × FirstFault n unbegun w TooDeep))
+  pub answer_deep : (document_answer n table w ≡ Err TooDeep) ↔ (Ready n table w × ((length w % 2 ≡ 0) × FirstFault n unbegun w TooDeep))
   unfolding behind_models
   answer_deep =
       let h = check_law odd BadDocument on_pairs TooDeep in
@@ -170,7 +171,7 @@ module _ (n : ℕ) (table w : List ℕ) where
       )
 
   -- No other refusal comes.
-  pub answer_only : (f : Refusal) → document_answer n table w ≡ refused f →
+  pub answer_only : (f : Refusal) → document_answer n table w ≡ Err f →
       (f ≡ BookTooLong) ⊎ ((f ≡ BadNameCount) ⊎ ((f ≡ NotAModel) ⊎ ((f ≡ BadDocument) ⊎ (f ≡ TooDeep))))
   unfolding behind_length behind_count
   answer_only f e =
@@ -184,32 +185,32 @@ module _ (n : ℕ) (table w : List ℕ) where
   -- ---- the verdict
 
   -- A verdict, where the walk gives it for a tree with P. The pairs of a tree are of even length.
-  on_tree : {P : Tree → Type 0} (b : Bool) → (0 < n → (on_pairs ≡ given b) ↔ ((t : Tree) × IsDocument n t w × P t)) →
-      (document_answer n table w ≡ given b) ↔ (Ready n table w × ((t : Tree) × IsDocument n t w × P t))
+  on_tree : {P : Tree → Type 0} (b : Bool) → (0 < n → (on_pairs ≡ Ok b) ↔ ((t : Tree) × IsDocument n t w × P t)) →
+      (document_answer n table w ≡ Ok b) ↔ (Ready n table w × ((t : Tree) × IsDocument n t w × P t))
   on_tree b law =
       let h = ready_given b in (
         λ e. let (r, (v, q)) = h.0 e in (r, (law r.some).0 q),
         λ (r, (t, (a, e), p)). h.1 (r, (subst (λ (v : List ℕ). length v % 2 ≡ 0) (sym e) (even_document t), (law r.some).1 (t, (a, e), p))),
       )
 
-  pub answer_yes : (document_answer n table w ≡ given true) ↔ (Ready n table w × ((t : Tree) × IsDocument n t w × Valid (entry_of table) t))
+  pub answer_yes : (document_answer n table w ≡ Ok true) ↔ (Ready n table w × ((t : Tree) × IsDocument n t w × Valid (entry_of table) t))
   unfolding on_pairs
   answer_yes = on_tree true (λ some. walk_yes n (entry_of table) some w)
 
-  pub answer_no : (document_answer n table w ≡ given false) ↔ (Ready n table w × ((t : Tree) × IsDocument n t w × (¬ Valid (entry_of table) t)))
+  pub answer_no : (document_answer n table w ≡ Ok false) ↔ (Ready n table w × ((t : Tree) × IsDocument n t w × (¬ Valid (entry_of table) t)))
   unfolding on_pairs
   answer_no = on_tree false (λ some. walk_no n (entry_of table) some w)
 
   -- One of the two is given exactly where the pairs are those of a tree.
-  pub answer_given : ((b : Bool) × (document_answer n table w ≡ given b)) ↔ (Ready n table w × ((t : Tree) × IsDocument n t w))
+  pub answer_given : ((b : Bool) × (document_answer n table w ≡ Ok b)) ↔ (Ready n table w × ((t : Tree) × IsDocument n t w))
   unfolding on_pairs
   answer_given = (λ (b, e). to b e, λ (r, (t, d)). from r t d)
     where
-      to : (b : Bool) → document_answer n table w ≡ given b → Ready n table w × ((t : Tree) × IsDocument n t w)
+      to : (b : Bool) → document_answer n table w ≡ Ok b → Ready n table w × ((t : Tree) × IsDocument n t w)
       to true e = let (r, (t, d, v)) = answer_yes.0 e in (r, (t, d))
       to false e = let (r, (t, d, v)) = answer_no.0 e in (r, (t, d))
 
-      from : Ready n table w → (t : Tree) → IsDocument n t w → (b : Bool) × (document_answer n table w ≡ given b)
+      from : Ready n table w → (t : Tree) → IsDocument n t w → (b : Bool) × (document_answer n table w ≡ Ok b)
       from r t (a, e) =
           let (b, q) = walk_given n (entry_of table) r.some w t (a, e) in
           (b, (ready_given b).1 (r, (subst (λ (v : List ℕ). length v % 2 ≡ 0) (sym e) (even_document t), q)))

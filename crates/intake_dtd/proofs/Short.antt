@@ -1,5 +1,6 @@
 -- No DTD is longer than the longest: a buffer of that length is never too short.
 -- Assumes nothing.
+use Rattle.std.specs.Prelude.{Ok, Err}
 use Prim.Native.Nat.{ℕ, ◌+◌, ◌≤◌, ◌<◌}
 use mathlib.Core.Path.{◌≡◌, refl, sym, ◌∙◌, ap, subst}
 use mathlib.Core.Bool.{Bool, true, false, cond}
@@ -8,7 +9,7 @@ use native.Mathlib.Omega.{arith}
 use lib.ListN.{length, length-append}
 use borrow.Author.Tests.{le-ltb}
 use Rattle.refusal.specs.declared.Refusal.{Refusal}
-use Rattle.refusal.specs.Answer.{Answer, given, refused, onward}
+use Rattle.refusal.specs.Answer.{Answer, onward}
 use Rattle.refusal.proofs.Answers.{given_same, refused_same, given_refused}
 use Rattle.nameset.specs.Places.{places}
 use Rattle.book.specs.Book.{Book, IsBook}
@@ -61,23 +62,23 @@ module _ (s : List ℕ) (b : Book) (taken : TakenAs s b) where
 
 -- so with such a buffer the answer is the book's DTD, or the book's refusal
 module _ (s : List ℕ) (room : ℕ) where
-  with_room : longest_dtd ≤ room → (a : Answer Book) → taken_book s ≡ a → onward a (λ b. fitted room (dtd_of b)) ≡ onward a (λ b. given (dtd_of b))
+  with_room : longest_dtd ≤ room → (a : Answer Book) → taken_book s ≡ a → onward a (λ b. fitted room (dtd_of b)) ≡ onward a (λ b. Ok (dtd_of b))
   unfolding fitted
-  with_room long (given b) e = rw (le-ltb room (length (dtd_of b)) (omega (arith, dtd_short s b e)))
-  with_room long (refused f) e = refl
+  with_room long (Ok b) e = rw (le-ltb room (length (dtd_of b)) (omega (arith, dtd_short s b e)))
+  with_room long (Err f) e = refl
 
-  pub room_given : (text : List ℕ) → longest_dtd ≤ room → dtd_answer s room ≡ given text → (b : Book) × (taken_book s ≡ given b) × (dtd_of b ≡ text)
+  pub room_given : (text : List ℕ) → longest_dtd ≤ room → dtd_answer s room ≡ Ok text → (b : Book) × (taken_book s ≡ Ok b) × (dtd_of b ≡ text)
   unfolding dtd_answer
   room_given text long e = go (taken_book s) refl (sym (with_room long (taken_book s) refl) ∙ e)
     where
-      go : (a : Answer Book) → taken_book s ≡ a → onward a (λ b. given (dtd_of b)) ≡ given text → (b : Book) × (taken_book s ≡ given b) × (dtd_of b ≡ text)
-      go (given b) q h = (b, q, given_same (dtd_of b) text h)
-      go (refused f) q h = absurd (given_refused text f (sym h))
+      go : (a : Answer Book) → taken_book s ≡ a → onward a (λ b. Ok (dtd_of b)) ≡ Ok text → (b : Book) × (taken_book s ≡ Ok b) × (dtd_of b ≡ text)
+      go (Ok b) q h = (b, q, given_same (dtd_of b) text h)
+      go (Err f) q h = absurd (given_refused text f (sym h))
 
-  pub room_refused : (f : Refusal) → longest_dtd ≤ room → dtd_answer s room ≡ refused f → taken_book s ≡ refused f
+  pub room_refused : (f : Refusal) → longest_dtd ≤ room → dtd_answer s room ≡ Err f → taken_book s ≡ Err f
   unfolding dtd_answer
   room_refused f long e = go (taken_book s) refl (sym (with_room long (taken_book s) refl) ∙ e)
     where
-      go : (a : Answer Book) → taken_book s ≡ a → onward a (λ b. given (dtd_of b)) ≡ refused f → taken_book s ≡ refused f
-      go (given b) q h = absurd (given_refused (dtd_of b) f h)
-      go (refused g) q h = q ∙ ap refused (refused_same {A = List ℕ} g f h)
+      go : (a : Answer Book) → taken_book s ≡ a → onward a (λ b. Ok (dtd_of b)) ≡ Err f → taken_book s ≡ Err f
+      go (Ok b) q h = absurd (given_refused (dtd_of b) f h)
+      go (Err g) q h = q ∙ ap Err (refused_same {A = List ℕ} g f h)

@@ -7,7 +7,6 @@ use Rattle.refusal.specs.Answer.{Answer, onward}
 use Rattle.book.specs.Book.{Book}
 use Rattle.book.specs.Taken.{taken_book}
 use Rattle.declaration_spelling.specs.House.{declaration}
-use Rattle.declaration_writing.specs.declared.Written.{Written}
 use Rattle.declaration_writing.specs.Write.{fitted, Writes}
 use Rattle.follow.specs.Follow.{follow_of}
 use Rattle.intake_sample.specs.Inference.{sample_of, text_of, no_word, parent_model}
@@ -36,7 +35,7 @@ unfoldable pub dtd_answer : List ℕ → ℕ → Answer (List ℕ)
 dtd_answer bytes room = onward (taken_book bytes) (λ b. fitted room (dtd_of b))
 
 -- The whole promise of the call: its answer w, and what the buffer, which held `before`, then holds.
-abbrev pub WritesDtd : List ℕ → Written → List ℕ → List ℕ → Type 0
+abbrev pub WritesDtd : List ℕ → Answer ℕ → List ℕ → List ℕ → Type 0
 WritesDtd bytes w before after = Writes (dtd_answer bytes (length before)) w before after
 
 -- No DTD has more bytes: 64 declarations of 2,253 bytes, each with a line feed.

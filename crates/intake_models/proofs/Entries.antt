@@ -15,7 +15,8 @@ use Rattle.nameset.specs.Places.{places}
 use Rattle.model.specs.declared.Model.{Model}
 use Rattle.model.specs.Record.{IsModel}
 use Rattle.byte_buffer.specs.Put.{wrote}
-use Rattle.model_table.specs.Table.{lacks, has, row_size, row_of, is_absent, model_in, entry_in, entry_of, model_row, empty_row}
+use Rattle.std.proofs.Common.{Some, None}
+use Rattle.model_table.specs.Table.{row_size, row_of, is_absent, model_in, entry_in, entry_of, model_row, empty_row}
 use Rattle.model_table_rows.specs.Rows.{rows_below}
 use Rattle.model_table_rows.proofs.Rows.{rows_size}
 
@@ -25,13 +26,13 @@ pub same_entry : (t u : List ℕ) (x : ℕ) → row_of t x ≡ row_of u x → en
 unfolding entry_of
 same_entry t u x e = ap (λ (row : List ℕ). entry_in (is_absent row) row) e
 
-pub model_entry : (t : List ℕ) (x n : ℕ) (m : Model) → IsModel places n m → row_of t x ≡ model_row m → entry_of t x ≡ has m
+pub model_entry : (t : List ℕ) (x n : ℕ) (m : Model) → IsModel places n m → row_of t x ≡ model_row m → entry_of t x ≡ Some m
 unfolding entry_of entry_in is_absent model_in model_row
 model_entry t x n m h e =
     ap (λ (row : List ℕ). entry_in (is_absent row) row) e
     ∙ rw (take_at m.chain.factor m.chain.mode places h.chain.factors, drop_at m.chain.factor m.chain.mode places h.chain.factors)
 
-pub empty_entry : (t : List ℕ) (x : ℕ) → row_of t x ≡ empty_row → entry_of t x ≡ lacks
+pub empty_entry : (t : List ℕ) (x : ℕ) → row_of t x ≡ empty_row → entry_of t x ≡ None
 unfolding entry_of entry_in is_absent empty_row
 empty_entry t x e = ap (λ (row : List ℕ). entry_in (is_absent row) row) e
 

@@ -6,7 +6,6 @@ use Rattle.std.specs.Prelude.{ℕ, cond, List, length}
 use Rattle.refusal.specs.Answer.{Answer, onward}
 use Rattle.book.specs.Book.{Book}
 use Rattle.book.specs.Taken.{taken_book}
-use Rattle.declaration_writing.specs.declared.Written.{Written}
 use Rattle.declaration_writing.specs.Write.{fitted, Writes}
 use Rattle.intake_sample.specs.Inference.{sample_of, no_word, parent_model}
 use Rattle.model_table.specs.Table.{model_row, empty_row}
@@ -26,5 +25,5 @@ unfoldable pub models_answer : List ℕ → ℕ → Answer (List ℕ)
 models_answer bytes room = onward (taken_book bytes) (λ b. fitted room (models_of b))
 
 -- The whole promise of the call: its answer w, and what the table, which held `before`, then holds.
-abbrev pub WritesModels : List ℕ → Written → List ℕ → List ℕ → Type 0
+abbrev pub WritesModels : List ℕ → Answer ℕ → List ℕ → List ℕ → Type 0
 WritesModels bytes w before after = Writes (models_answer bytes (length before)) w before after

@@ -3,13 +3,14 @@
 -- The statements to read; their proofs are cited from `chain_minimal` and `chain_mixed`, where the same is stated for
 -- lists of words.
 -- Assumes nothing.
+use Rattle.std.specs.Prelude.{Ok}
 use Prim.Native.Nat.{ℕ, ◌+◌, ◌≤◌}
 use mathlib.Core.Path.{◌≡◌, sym, ◌∙◌, ap, ap₂, subst}
 use mathlib.Core.Bool.{Bool, true, false}
 use mathlib.Core.List.{List, [], Memᴰ}
 use native.Mathlib.Omega.{arith}
 use lib.ListN.{length}
-use Rattle.refusal.specs.declared.Outcome.TheVariants.{Done}
+use Rattle.refusal.specs.Answer.{Answer}
 use Rattle.nameset.specs.Places.{places}
 use Rattle.book.specs.Book.{Book, IsBook}
 use Rattle.book.specs.Taken.{TakenAs}
@@ -27,12 +28,11 @@ use Rattle.chain_minimal.proofs.Demand as Demand
 use Rattle.chain_mixed.specs.Mixed.{IsTextModel, model_of}
 use Rattle.chain_mixed.proofs.Theorem.{text_model}
 use Rattle.chain_sample.specs.Sample.{chain_of_words, model_of_words}
-use Rattle.intake_sample.specs.declared.Inferred.{Inferred}
-use Rattle.intake_sample.specs.Inference.{sample_of, text_of, parent_model, model_answer, inferred}
+use Rattle.intake_sample.specs.Inference.{sample_of, text_of, parent_model, model_answer, answer_model}
 use Rattle.intake_sample.proofs.Samples as Sample
 
 -- For every book that is taken and every parent with a block in it, whatever the call answered.
-module _ (bytes : List ℕ) (parent : ℕ) (answer : Inferred) (call : answer ≡ inferred (model_answer bytes parent))
+module _ (bytes : List ℕ) (parent : ℕ) (answer : Answer Model) (call : answer ≡ model_answer bytes parent)
     (book : Book) (taken : TakenAs bytes book) (block : ¬ (sample_of book parent ≡ [])) where
   -- the number of the book's names; the words of all blocks of the parent; the call's model
   abbrev n : ℕ
@@ -42,7 +42,7 @@ module _ (bytes : List ℕ) (parent : ℕ) (answer : Inferred) (call : answer �
   sample = sample_of book parent
 
   abbrev ours : Model
-  ours = answer.model
+  ours = answer_model answer
 
   read : IsBook bytes book
   read = is_book bytes book taken
@@ -53,17 +53,16 @@ module _ (bytes : List ℕ) (parent : ℕ) (answer : Inferred) (call : answer �
   names : (w : List ℕ) → Memᴰ w sample → Names n w
   names = Sample.sample_names bytes book read parent
 
-  answer_is : answer ≡ record { outcome = Done; model = parent_model book parent }
-  unfolding inferred
-  answer_is = call ∙ ap inferred (Sample.answer_given bytes book taken parent block)
+  answer_is : answer ≡ Ok (parent_model book parent)
+  answer_is = call ∙ Sample.answer_given bytes book taken parent block
 
   -- The call is not refused,
-  pub not_refused : answer.outcome ≡ Done
-  not_refused = ap (λ (x : Inferred). x.outcome) answer_is
+  pub not_refused : answer ≡ Ok ours
+  not_refused = answer_is ∙ ap Ok (sym (ap answer_model answer_is))
 
   pub model_is : model_of_words places n sample (text_of book parent) ≡ ours
   unfolding parent_model
-  model_is = sym (ap (λ (x : Inferred). x.model) answer_is)
+  model_is = sym (ap answer_model answer_is)
 
   -- and its model is one over the book's names.
   pub is_model_lem : IsModel places n ours

@@ -1,5 +1,6 @@
 -- The sample of a parent of a book that is not refused: what the theorem of demand 3 asks of it, and the call's answer.
 -- Assumes nothing.
+use Rattle.std.specs.Prelude.{Ok}
 use Prim.Native.Nat.{ℕ, ◌≤◌, ◌<◌}
 use mathlib.Core.Path.{◌≡◌, refl, sym, ◌∙◌, ap, ap₂, subst}
 use mathlib.Core.Bool.{Bool, true, false, cond, false≢true}
@@ -9,11 +10,9 @@ use native.Mathlib.Omega.{arith}
 use lib.Dec.{eqb}
 use lib.ListN.{length}
 use borrow.Author.Tests.{eqb-true}
-use Rattle.refusal.specs.declared.Outcome.TheVariants.{Done}
-use Rattle.refusal.specs.Answer.{given}
 use Rattle.nameset.specs.Places.{places}
 use Rattle.book.specs.Book.{Block, Book, IsBook}
-use Rattle.book.specs.declared.Reading.{Reading}
+use Rattle.book.specs.declared.Layout.{Layout}
 use Rattle.book.specs.Layout.{layout_of, reading_of}
 use Rattle.book.specs.Access.{LaidOut}
 use Rattle.book.specs.Stops.{BlocksBelow}
@@ -88,42 +87,42 @@ module _ (bytes : List ℕ) (book : Book) (read : IsBook bytes book) where
       sample_model = words_model (length book.names) few (sample_of book parent) sample_names block (text_of book parent)
 
 -- the answer of the call for a book that is taken
-pub answer_given : (bytes : List ℕ) (book : Book) → TakenAs bytes book → (parent : ℕ) → ¬ (sample_of book parent ≡ []) → model_answer bytes parent ≡ given (parent_model book parent)
+pub answer_given : (bytes : List ℕ) (book : Book) → TakenAs bytes book → (parent : ℕ) → ¬ (sample_of book parent ≡ []) → model_answer bytes parent ≡ Ok (parent_model book parent)
 unfolding model_answer model_in
 answer_given bytes book taken parent block =
     rw (taken, (good_parent book parent).1 (has_block bytes book (is_book bytes book taken) parent block), (some_word_lem (sample_of book parent)).1 block)
 
 -- ---- a book that was taken, and the row of a parent
 
-module _ (s : List ℕ) (r : Reading) (read : r ≡ reading_of (taken_book s)) (done : r.outcome ≡ Done) (p : ℕ) (row : List ℕ) (kept : RowKeeps p (blocks_read s) row) where
+module _ (s : List ℕ) (l : Layout) (read : Ok l ≡ reading_of (taken_book s)) (p : ℕ) (row : List ℕ) (kept : RowKeeps p (blocks_read s) row) where
   abbrev pub book : Book
-  book = Taken.book s r read done
+  book = Taken.book s l read
 
   pub blocks_are : blocks_read s ≡ book.blocks
-  blocks_are = taken_blocks s book (Taken.taken s r read done)
+  blocks_are = taken_blocks s book (Taken.taken s l read)
 
-  pub within : BlocksBelow r.layout.names book.blocks
-  within = subst (BlocksBelow r.layout.names) (Taken.blocks_taken s r read done) (blocks_within s r.layout (Taken.laid s r read done))
+  pub within : BlocksBelow l.names book.blocks
+  within = subst (BlocksBelow l.names) (Taken.blocks_taken s l read) (blocks_within s l (Taken.laid s l read))
 
-  pub few_taken : r.layout.names ≤ places
-  few_taken = few_names s r.layout (Taken.laid s r read done)
+  pub few_taken : l.names ≤ places
+  few_taken = few_names s l (Taken.laid s l read)
 
   -- the row keeps the facts of the parent's sample,
-  abbrev pub row_kept : OfWords r.layout.names row
-  row_kept = row_of_words r.layout.names p book.blocks row within (subst (λ (bs : List Block). RowKeeps p bs row) blocks_are kept)
+  abbrev pub row_kept : OfWords l.names row
+  row_kept = row_of_words l.names p book.blocks row within (subst (λ (bs : List Block). RowKeeps p bs row) blocks_are kept)
 
   -- so they show a word exactly where it has one,
-  pub none_shown : show_word places (view_of r.layout.names (facts_in row)) ≡ false → no_word (sample_of book p) ≡ true
+  pub none_shown : show_word places (view_of l.names (facts_in row)) ≡ false → no_word (sample_of book p) ≡ true
   unfolding sample_of
-  none_shown e = (no_word_lem (words_of p book.blocks)).1 ((shows_is r.layout.names row few_taken row_kept).0 e)
+  none_shown e = (no_word_lem (words_of p book.blocks)).1 ((shows_is l.names row few_taken row_kept).0 e)
 
-  pub some_shown : show_word places (view_of r.layout.names (facts_in row)) ≡ true → no_word (sample_of book p) ≡ false
+  pub some_shown : show_word places (view_of l.names (facts_in row)) ≡ true → no_word (sample_of book p) ≡ false
   unfolding sample_of
-  some_shown e = (some_word_lem (words_of p book.blocks)).1 (λ z. both_ways _ e ((shows_is r.layout.names row few_taken row_kept).1 z))
+  some_shown e = (some_word_lem (words_of p book.blocks)).1 (λ z. both_ways _ e ((shows_is l.names row few_taken row_kept).1 z))
 
   -- and with the mark for text they give its model.
-  pub model_shown : model_of places (view_of r.layout.names (facts_in row)) (text_in row) ≡ parent_model book p
+  pub model_shown : model_of places (view_of l.names (facts_in row)) (text_in row) ≡ parent_model book p
   unfolding parent_model sample_of text_of
   model_shown =
-      model_is r.layout.names row few_taken row_kept (text_in row)
-      ∙ ap₂ (λ (n : ℕ) (b : Bool). model_of_words places n (words_of p book.blocks) b) (Taken.names_are s r read done) (kept.text ∙ ap (has_text p) blocks_are)
+      model_is l.names row few_taken row_kept (text_in row)
+      ∙ ap₂ (λ (n : ℕ) (b : Bool). model_of_words places n (words_of p book.blocks) b) (Taken.names_are s l read) (kept.text ∙ ap (has_text p) blocks_are)

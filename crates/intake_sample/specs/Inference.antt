@@ -2,18 +2,17 @@
 -- `model_refusals`, demand 3 and request U5 in crates/demands/proofs/Demands.antt say what that is. To be believed are
 -- `sample_of` and `text_of`.
 -- Assumes nothing.
-use Rattle.std.specs.Prelude.{ℕ, ◌≡◌, Bool, true, false, List, [], ◌∷◌, length}
+use Rattle.std.specs.Prelude.{ℕ, ◌≡◌, Bool, true, false, List, [], ◌∷◌, length, Ok}
 use Rattle.nameset.specs.Places.{places}
 use Rattle.refusal.specs.declared.Refusal.TheVariants.{BadParent, NoBlock}
-use Rattle.refusal.specs.Answer.{Answer, given, onward, refuse_if, value_or, outcome_of}
-use Rattle.book.specs.declared.Reading.{Reading}
+use Rattle.refusal.specs.Answer.{Answer, onward, refuse_if, value_or}
 use Rattle.book.specs.Book.{Book}
+use Rattle.book.specs.Layout.{layout_of}
 use Rattle.book.specs.Taken.{taken_book, bad_parent}
 use Rattle.model.specs.declared.Model.{Model}
 use Rattle.model.specs.Record.{due_model}
 use Rattle.follow.specs.Sample.{words_of, has_text}
 use Rattle.chain_sample.specs.Sample.{model_of_words}
-use Rattle.intake_sample.specs.declared.Inferred.{Inferred}
 use Rattle.intake_sample.specs.declared.InferredIn.{InferredIn}
 
 -- "A parent's sample is the words of all its blocks."
@@ -36,20 +35,20 @@ parent_model b parent = model_of_words places (length b.names) (sample_of b pare
 -- 8, then "9: no block has it", else the model.
 unfoldable pub model_in : Book → ℕ → Answer Model
 model_in b parent =
-    refuse_if (bad_parent b parent) BadParent (refuse_if (no_word (sample_of b parent)) NoBlock (given (parent_model b parent)))
+    refuse_if (bad_parent b parent) BadParent (refuse_if (no_word (sample_of b parent)) NoBlock (Ok (parent_model b parent)))
 
 -- The call's answer for any bytes as the book and any parent: 1 to 7, 16, 17, then those.
 unfoldable pub model_answer : List ℕ → ℕ → Answer Model
 model_answer bytes parent = onward (taken_book bytes) (λ b. model_in b parent)
 
--- The answer as the code has it: a refused call answers the model due.
-unfoldable pub inferred : Answer Model → Inferred
-inferred a = record { outcome = outcome_of a; model = value_or due_model a }
-
 -- The whole promise of the call, of its answer r.
-abbrev pub InfersModel : List ℕ → ℕ → Inferred → Type 0
-InfersModel bytes parent r = r ≡ inferred (model_answer bytes parent)
+abbrev pub InfersModel : List ℕ → ℕ → Answer Model → Type 0
+InfersModel bytes parent r = r ≡ model_answer bytes parent
 
--- The same, with the layout of the book for whoever goes back to its names.
-unfoldable pub inferred_in : Reading → Answer Model → InferredIn
-inferred_in r a = record { outcome = outcome_of a; layout = r.layout; model = value_or due_model a }
+-- The model beside the number of an answer: of a refused call it is the model due.
+abbrev pub answer_model : Answer Model → Model
+answer_model r = value_or due_model r
+
+-- The same answer, with the layout of the book for whoever goes back to its names.
+unfoldable pub found_in : List ℕ → ℕ → Answer InferredIn
+found_in bytes parent = onward (taken_book bytes) (λ b. onward (model_in b parent) (λ m. Ok (record { layout = layout_of b; model = m })))

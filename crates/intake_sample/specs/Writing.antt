@@ -5,7 +5,6 @@ use Rattle.std.specs.Prelude.{ℕ, List, length}
 use Rattle.refusal.specs.Answer.{Answer, onward}
 use Rattle.book.specs.Taken.{taken_book}
 use Rattle.declaration_spelling.specs.House.{declaration}
-use Rattle.declaration_writing.specs.declared.Written.{Written}
 use Rattle.declaration_writing.specs.Write.{fitted, Writes}
 use Rattle.intake_sample.specs.Inference.{model_in}
 
@@ -15,5 +14,5 @@ unfoldable pub sample_text : List ℕ → ℕ → ℕ → Answer (List ℕ)
 sample_text bytes parent room = onward (taken_book bytes) (λ b. onward (model_in b parent) (λ m. fitted room (declaration b.names parent m)))
 
 -- The whole promise of the call: its answer w, and what the buffer, which held `before`, then holds.
-abbrev pub WritesSample : List ℕ → ℕ → Written → List ℕ → List ℕ → Type 0
+abbrev pub WritesSample : List ℕ → ℕ → Answer ℕ → List ℕ → List ℕ → Type 0
 WritesSample bytes parent w before after = Writes (sample_text bytes parent (length before)) w before after

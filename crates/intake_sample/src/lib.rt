@@ -4,7 +4,6 @@
 
 use book::Layout;
 use model::Model;
-use refusal::Outcome;
 
 mod infer; // infer.rt: the model of a parent
 mod write; // write.rt: the declaration of a parent's model
@@ -12,17 +11,9 @@ mod write; // write.rt: the declaration of a parent's model
 pub use infer::model_of_parent;
 pub use write::write_from_sample;
 
-// How a call for a model ended, and the model: the empty one where it was refused.
-#[derive(Clone, Copy)]
-pub struct Inferred {
-    pub outcome: Outcome,
-    pub model: Model,
-}
-
-// The same, with the layout of the book for whoever goes back to its names.
+// The model of a parent, with the layout of the book for whoever goes back to its names.
 #[derive(Clone, Copy)]
 struct InferredIn {
-    outcome: Outcome,
     layout: Layout,
     model: Model,
 }

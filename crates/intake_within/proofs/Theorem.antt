@@ -1,5 +1,6 @@
 -- What callers may rely on, in the words of request U4 of paper 02. The statements to read first.
 -- Assumes nothing.
+use Rattle.std.specs.Prelude.{Ok, Err}
 use Prim.Native.Nat.{ℕ, ◌<◌}
 use mathlib.Core.Path.{◌≡◌, refl, sym, ◌∙◌, ap, subst}
 use mathlib.Core.Bool.{Bool, true, false, not, false≢true}
@@ -10,7 +11,7 @@ use borrow.Author.Tests.{ltb-false, le-ltb, not-false}
 use lib.Dec.{ltb}
 use lib.ListN.{length}
 use Rattle.refusal.specs.declared.Refusal.TheVariants.{BadNameCount, NotAModel, BufferTooShort}
-use Rattle.refusal.specs.Answer.{Answer, given, refused, answer_number}
+use Rattle.refusal.specs.Answer.{Answer, answer_number}
 use Rattle.refusal.proofs.Laws.{number_positive}
 use Rattle.refusal.proofs.Answers.{check_given, given_same}
 use Rattle.nameset.specs.Places.{places, good_count}
@@ -27,7 +28,7 @@ use Rattle.intake_within.specs.Comparison.{comparison_of, inclusion_number, incl
 -- ---- what the checks let pass
 
 module _ (n : ℕ) (first second : Model) (room : ℕ) where
-  given_passes : (b : Bool) → comparison_of n first second room ≡ given b → PassesBoth n first second room × (within n first.chain second.chain ≡ b)
+  given_passes : (b : Bool) → comparison_of n first second room ≡ Ok b → PassesBoth n first second room × (within n first.chain second.chain ≡ b)
   unfolding comparison_of
   given_passes b e =
       let c = check_given (not (good_count n)) BadNameCount _ b e in
@@ -45,7 +46,7 @@ module _ (n : ℕ) (first second : Model) (room : ℕ) where
         given_same _ _ r.1,
       )
 
-  passes_given : PassesBoth n first second room → comparison_of n first second room ≡ given (within n first.chain second.chain)
+  passes_given : PassesBoth n first second room → comparison_of n first second room ≡ Ok (within n first.chain second.chain)
   unfolding comparison_of
   passes_given p = rw (
     bounds_count n p.some p.few,
@@ -66,9 +67,9 @@ module _ (n : ℕ) (first second : Model) (r : Inclusion) (before after : List �
 
   number_by : (x : Answer Bool) → Leaves first.chain second.chain x r before after → inclusion_number r ≡ answer_number x
   unfolding inclusion_number
-  number_by (given true) h = ap inclusion_number h.0
-  number_by (given false) h = ap inclusion_number h.1
-  number_by (refused f) h = ap inclusion_number h.0
+  number_by (Ok true) h = ap inclusion_number h.0
+  number_by (Ok false) h = ap inclusion_number h.1
+  number_by (Err f) h = ap inclusion_number h.0
 
   pub number_is : inclusion_number r ≡ answer_number (comparison_of n first second (length before))
   number_is = number_by (comparison_of n first second (length before)) call.leaves
@@ -79,9 +80,9 @@ module _ (n : ℕ) (first second : Model) (r : Inclusion) (before after : List �
   refused_keeps l = go (comparison_of n first second (length before)) call.leaves
     where
       go : (x : Answer Bool) → Leaves first.chain second.chain x r before after → (inclusion_yes r ≡ false) × (inclusion_length r ≡ 0) × (after ≡ before)
-      go (given true) h = absurd (omega (arith, ap inclusion_number h.0))
-      go (given false) h = absurd (omega (arith, ap inclusion_number h.1))
-      go (refused f) h = (ap inclusion_yes h.0, ap inclusion_length h.0, h.1)
+      go (Ok true) h = absurd (omega (arith, ap inclusion_number h.0))
+      go (Ok false) h = absurd (omega (arith, ap inclusion_number h.1))
+      go (Err f) h = (ap inclusion_yes h.0, ap inclusion_length h.0, h.1)
 
   -- Yes exactly when nothing stops the call and every word that the first accepts is accepted by the second.
   pub yes_exactly : (inclusion_yes r ≡ true) ↔ (PassesBoth n first second (length before) × Within first.chain second.chain)
@@ -90,12 +91,12 @@ module _ (n : ℕ) (first second : Model) (r : Inclusion) (before after : List �
     where
       to : inclusion_yes r ≡ true → (x : Answer Bool) → comparison_of n first second (length before) ≡ x → Leaves first.chain second.chain x r before after
           → PassesBoth n first second (length before) × Within first.chain second.chain
-      to e (given true) q h = let p = given_passes n first second (length before) true q in (p.0, (pass_within n first second (length before) p.0).0 p.1)
-      to e (given false) q h = absurd (false≢true (sym (ap inclusion_yes h.1) ∙ e))
-      to e (refused f) q h = absurd (false≢true (sym (ap inclusion_yes h.0) ∙ e))
+      to e (Ok true) q h = let p = given_passes n first second (length before) true q in (p.0, (pass_within n first second (length before) p.0).0 p.1)
+      to e (Ok false) q h = absurd (false≢true (sym (ap inclusion_yes h.1) ∙ e))
+      to e (Err f) q h = absurd (false≢true (sym (ap inclusion_yes h.0) ∙ e))
 
       from : PassesBoth n first second (length before) × Within first.chain second.chain → inclusion_yes r ≡ true
-      from (p, w) = ap inclusion_yes (leaves (given true) (passes_given n first second (length before) p ∙ ap given ((pass_within n first second (length before) p).1 w))).0
+      from (p, w) = ap inclusion_yes (leaves (Ok true) (passes_given n first second (length before) p ∙ ap Ok ((pass_within n first second (length before) p).1 w))).0
 
   -- On yes the length is 0, and all bytes are kept.
   pub yes_keeps : inclusion_yes r ≡ true → (inclusion_length r ≡ 0) × (after ≡ before)
@@ -103,9 +104,9 @@ module _ (n : ℕ) (first second : Model) (r : Inclusion) (before after : List �
   yes_keeps e = go (comparison_of n first second (length before)) call.leaves
     where
       go : (x : Answer Bool) → Leaves first.chain second.chain x r before after → (inclusion_length r ≡ 0) × (after ≡ before)
-      go (given true) h = (ap inclusion_length h.0, h.1)
-      go (given false) h = absurd (false≢true (sym (ap inclusion_yes h.1) ∙ e))
-      go (refused f) h = absurd (false≢true (sym (ap inclusion_yes h.0) ∙ e))
+      go (Ok true) h = (ap inclusion_length h.0, h.1)
+      go (Ok false) h = absurd (false≢true (sym (ap inclusion_yes h.1) ∙ e))
+      go (Err f) h = absurd (false≢true (sym (ap inclusion_yes h.0) ∙ e))
 
   -- No, of a call that was not refused: a counterexample is in the buffer.
   pub no_writes : inclusion_number r ≡ 0 → inclusion_yes r ≡ false → WordWritten first.chain second.chain (inclusion_length r) before after
@@ -113,9 +114,9 @@ module _ (n : ℕ) (first second : Model) (r : Inclusion) (before after : List �
   no_writes z e = go (comparison_of n first second (length before)) call.leaves
     where
       go : (x : Answer Bool) → Leaves first.chain second.chain x r before after → WordWritten first.chain second.chain (inclusion_length r) before after
-      go (given true) h = absurd (false≢true (sym e ∙ ap inclusion_yes h.0))
-      go (given false) (l, q, w) = subst (λ (k : ℕ). WordWritten first.chain second.chain k before after) (sym (ap inclusion_length q)) w
-      go (refused f) h = absurd (let p : 0 < answer_number {A = Bool} (refused f) = number_positive f in omega (arith, ap inclusion_number h.0))
+      go (Ok true) h = absurd (false≢true (sym e ∙ ap inclusion_yes h.0))
+      go (Ok false) (l, q, w) = subst (λ (k : ℕ). WordWritten first.chain second.chain k before after) (sym (ap inclusion_length q)) w
+      go (Err f) h = absurd (let p : 0 < answer_number {A = Bool} (Err f) = number_positive f in omega (arith, ap inclusion_number h.0))
 
   -- No exactly when nothing stops the call and some word of the first is not one of the second.
   pub no_exactly : ((inclusion_number r ≡ 0) × (inclusion_yes r ≡ false)) ↔ (PassesBoth n first second (length before) × (¬ Within first.chain second.chain))
@@ -124,12 +125,12 @@ module _ (n : ℕ) (first second : Model) (r : Inclusion) (before after : List �
     where
       to : inclusion_number r ≡ 0 → inclusion_yes r ≡ false → (x : Answer Bool) → comparison_of n first second (length before) ≡ x → Leaves first.chain second.chain x r before after
           → PassesBoth n first second (length before) × (¬ Within first.chain second.chain)
-      to z e (given true) q h = absurd (false≢true (sym e ∙ ap inclusion_yes h.0))
-      to z e (given false) q (l, k, w) = ((given_passes n first second (length before) false q).0, not_within first.chain second.chain w.word w.example)
-      to z e (refused f) q h = absurd (let p : 0 < answer_number {A = Bool} (refused f) = number_positive f in omega (arith, ap inclusion_number h.0))
+      to z e (Ok true) q h = absurd (false≢true (sym e ∙ ap inclusion_yes h.0))
+      to z e (Ok false) q (l, k, w) = ((given_passes n first second (length before) false q).0, not_within first.chain second.chain w.word w.example)
+      to z e (Err f) q h = absurd (let p : 0 < answer_number {A = Bool} (Err f) = number_positive f in omega (arith, ap inclusion_number h.0))
 
       from : PassesBoth n first second (length before) → ¬ Within first.chain second.chain → (b : Bool) → within n first.chain second.chain ≡ b → (inclusion_number r ≡ 0) × (inclusion_yes r ≡ false)
       from p d true e = absurd (d ((pass_within n first second (length before) p).0 e))
       from p d false e =
-          let h = leaves (given false) (passes_given n first second (length before) p ∙ ap given e) in
+          let h = leaves (Ok false) (passes_given n first second (length before) p ∙ ap Ok e) in
           (ap inclusion_number h.1, ap inclusion_yes h.1)

@@ -3,10 +3,10 @@
 -- what that is.
 -- To be believed are `inclusion_number`, `inclusion_yes`, `inclusion_length` and `PassesBoth`.
 -- Assumes nothing.
-use Rattle.std.specs.Prelude.{ℕ, ◌≤◌, ◌<◌, ◌≡◌, Bool, true, false, not, List, ltb, length}
+use Rattle.std.specs.Prelude.{ℕ, ◌≤◌, ◌<◌, ◌≡◌, Bool, true, false, not, List, ltb, length, Ok, Err}
 use Rattle.refusal.specs.declared.Refusal.TheVariants.{BadNameCount, NotAModel, BufferTooShort}
 use Rattle.refusal.specs.Table.{stopped_by}
-use Rattle.refusal.specs.Answer.{Answer, given, refused, refuse_if}
+use Rattle.refusal.specs.Answer.{Answer, refuse_if}
 use Rattle.nameset.specs.Places.{places, good_count}
 use Rattle.byte_buffer.specs.Put.{wrote}
 use Rattle.model.specs.declared.Chain.{Chain}
@@ -26,7 +26,7 @@ comparison_of n first second room =
     refuse_if (not (good_count n)) BadNameCount
     (refuse_if (not (is_model places n first)) NotAModel
     (refuse_if (not (is_model places n second)) NotAModel
-    (refuse_if (ltb room longest_counterexample) BufferTooShort (given (within n first.chain second.chain)))))
+    (refuse_if (ltb room longest_counterexample) BufferTooShort (Ok (within n first.chain second.chain)))))
 
 -- The number in paper 01's table, 0 for a call that is not refused.
 unfoldable pub inclusion_number : Inclusion → ℕ
@@ -64,9 +64,9 @@ pub record WordWritten (first second : Chain) (l : ℕ) (before after : List ℕ
 
 -- The answer as the code has it, and what the buffer holds, which held `before`. Only on no is it changed.
 abbrev pub Leaves : Chain → Chain → Answer Bool → Inclusion → List ℕ → List ℕ → Type 0
-Leaves first second (given true) r before after = (r ≡ Yes) × (after ≡ before)
-Leaves first second (given false) r before after = (l : ℕ) × (r ≡ No l) × WordWritten first second l before after
-Leaves first second (refused f) r before after = (r ≡ Refused f) × (after ≡ before)
+Leaves first second (Ok true) r before after = (r ≡ Yes) × (after ≡ before)
+Leaves first second (Ok false) r before after = (l : ℕ) × (r ≡ No l) × WordWritten first second l before after
+Leaves first second (Err f) r before after = (r ≡ Refused f) × (after ≡ before)
 
 -- The whole promise of the call, of its answer r.
 pub record ComparesModels (n : ℕ) (first second : Model) (r : Inclusion) (before after : List ℕ) : Type 0 where

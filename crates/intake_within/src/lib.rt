@@ -2,9 +2,8 @@
 // requirement: it says for every input what it answers and what the buffer then holds.
 #![tactic(auto)]
 
-ghost use Rattle.std.specs.Prelude.{◌≡◌, ◌≤◌, length};
+ghost use Rattle.std.specs.Prelude.{◌≡◌, ◌≤◌, length, Ok};
 ghost use Rattle.nameset.specs.Places.{places};
-ghost use Rattle.refusal.specs.Answer.{given};
 ghost use Rattle.model.specs.Record.{IsChain};
 ghost use Rattle.model.specs.Check.{is_model};
 ghost use Rattle.model_inclusion.specs.Inclusion.{longest_counterexample};
@@ -13,7 +12,7 @@ ghost use Rattle.intake_within.specs.Comparison.{Leaves, ComparesModels};
 
 use model::{Chain, Model};
 use model_extremes::extreme_names;
-use model_within::{Compared, find_step};
+use model_within::find_step;
 use nameset::PLACES;
 use refusal::Refusal;
 
@@ -28,32 +27,31 @@ pub enum Inclusion {
 // The most names that the word has, and the places that the buffer needs.
 const LONGEST: usize = PLACES + 1;
 
-// Whether a record is a model. Its two rows are copied here, once for each record; without the copies a call over up
-// to 24 names takes longer.
+// Whether a record is a model.
 fn is_model(names: usize, m: Model) -> bool
     ensures { result ≡ is_model places names m }
 {
-    let factor = m.chain.factor;
-    let mode = m.chain.mode;
-    model_check::rows_are_model(names, m.chain.count, &factor, &mode, m.text)
+    model_check::rows_are_model(names, &m.rows())
 }
 
 // The answer for two chains, with the word in the front of the buffer if it is no.
+#[tactic(auto, using(crate::proofs::Answers::says_yes))]
 fn compare_chains(names: usize, first: Chain, second: Chain, word: &mut [u8]) -> Inclusion
     requires { (names ≤ places) × IsChain places names first × IsChain places names second × (longest_counterexample ≤ length word.old) }
-    ensures { Leaves first second (given (within names first second)) result word.old word.new }
+    ensures { Leaves first second (Ok (within names first second)) result word.old word.new }
 {
     let extremes = extreme_names(names, &first.factor, &second.factor);
     match find_step(first, second, &extremes.low, &extremes.high) {
-        Compared::Included => Inclusion::Yes,
-        Compared::Apart(u, v) => {
-            Inclusion::No(model_counterexample::put_word(word, first, &extremes.low, u, v))
+        None => Inclusion::Yes,
+        Some(step) => {
+            Inclusion::No(model_counterexample::put_word(word, first, &extremes.low, step))
         }
     }
 }
 
 // Whether every word of the first model is a word of the second: 3, then 10 for the first, 10 for the second, then 12,
 // else yes or no. Words are of child names: what the models say of text is not compared.
+#[tactic(auto, using(crate::proofs::Answers::stops_count, crate::proofs::Answers::stops_first, crate::proofs::Answers::stops_second, crate::proofs::Answers::stops_buffer))]
 pub fn within(names: usize, first: Model, second: Model, word: &mut [u8]) -> Inclusion
     ensures { ComparesModels names first second result word.old word.new }
 {

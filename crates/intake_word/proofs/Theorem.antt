@@ -1,5 +1,6 @@
 -- What callers may rely on, in the words of paper 01. The statements to read first.
 -- Assumes nothing.
+use Rattle.std.specs.Prelude.{Ok}
 use Prim.Native.Nat.{ℕ, ◌≤◌, ◌<◌}
 use mathlib.Core.Path.{◌≡◌, refl, sym, ◌∙◌, ap}
 use mathlib.Core.Bool.{Bool, true, false, not, ◌||◌, false≢true}
@@ -11,7 +12,7 @@ use lib.ListN.{length}
 use Rattle.refusal.specs.declared.Refusal.TheVariants.{BadNameCount, NotAModel, BadWord}
 use Rattle.refusal.specs.declared.Acceptance.{Acceptance}
 use Rattle.refusal.specs.declared.Acceptance.TheVariants.{Yes}
-use Rattle.refusal.specs.Answer.{given, acceptance}
+use Rattle.refusal.specs.Answer.{acceptance}
 use Rattle.refusal.proofs.Answers.{check_given, given_same}
 use Rattle.refusal.proofs.Decisions.{yes_given}
 use Rattle.nameset.specs.Places.{places, good_count}
@@ -67,7 +68,7 @@ pub yes_exactly : (n : ℕ) (m : Model) (w : List ℕ) (r : Acceptance) → Acce
 unfolding acceptance answer_of bad_model bad_word
 yes_exactly n m w r h = (λ e. to (yes_given (answer_of n m w) (sym h.same ∙ e)), λ p. h.same ∙ from p.0 p.1)
   where
-    to : answer_of n m w ≡ given true → Passes n m w × Accepts m.chain w
+    to : answer_of n m w ≡ Ok true → Passes n m w × Accepts m.chain w
     to e =
         let a = check_given (not (good_count n)) BadNameCount _ true e in
         let b = check_given (bad_model n m) NotAModel _ true a.1 in

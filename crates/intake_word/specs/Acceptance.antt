@@ -2,10 +2,10 @@
 -- `word_refusals` and `accepted_exactly` in crates/demands/proofs/Demands.antt say what that is. To be believed are
 -- `Passes`, `longest_word`, `acceptance_number` and `acceptance_yes`.
 -- Assumes nothing.
-use Rattle.std.specs.Prelude.{◌≡◌, ℕ, ◌≤◌, ◌<◌, Bool, ◌||◌, not, List, ltb, length}
+use Rattle.std.specs.Prelude.{◌≡◌, ℕ, ◌≤◌, ◌<◌, Bool, ◌||◌, not, List, ltb, length, Ok}
 use Rattle.refusal.specs.declared.Refusal.TheVariants.{BadNameCount, NotAModel, BadWord}
 use Rattle.refusal.specs.declared.Acceptance.{Acceptance}
-use Rattle.refusal.specs.Answer.{Answer, given, refuse_if, answer_number}
+use Rattle.refusal.specs.Answer.{Answer, refuse_if, answer_number}
 pub use Rattle.refusal.specs.Answer.{acceptance, acceptance_number, acceptance_yes, yes_due}
 use Rattle.nameset.specs.Places.{places, good_count}
 use Rattle.book.specs.Book.{all_below}
@@ -31,7 +31,7 @@ bad_word n w = ltb longest_word (length w) || not (all_below n w)
 -- accepts w: "Acceptance looks at child names".
 unfoldable pub answer_of : ℕ → Model → List ℕ → Answer Bool
 answer_of n m w =
-    refuse_if (not (good_count n)) BadNameCount (refuse_if (bad_model n m) NotAModel (refuse_if (bad_word n w) BadWord (given (accepts m.chain w))))
+    refuse_if (not (good_count n)) BadNameCount (refuse_if (bad_model n m) NotAModel (refuse_if (bad_word n w) BadWord (Ok (accepts m.chain w))))
 
 -- Nothing stops the call.
 pub record Passes (n : ℕ) (m : Model) (w : List ℕ) : Type 0 where

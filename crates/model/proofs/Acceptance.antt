@@ -13,7 +13,7 @@ use lib.Dec.{eqb}
 use Rattle.model.specs.declared.Chain.{Chain}
 use Rattle.model.specs.declared.Turn.{Turn}
 use Rattle.model.specs.declared.Turn.TheVariants.{Take, Leave, Refuse}
-use Rattle.model.specs.declared.Moved.TheVariants.{To}
+use Rattle.std.proofs.Common.{Some}
 use Rattle.model.specs.Record.{factor_of, mode_of}
 use Rattle.model.specs.Accept.{Many, Part, Joined, none, part, Accepts}
 use Rattle.model.specs.Run.{either, turn_of, state, after, goes_to, went_to, move, run, may_end, accepts}
@@ -45,7 +45,7 @@ turn_leave (suc (suc (suc (suc f)))) t true e = e
 
 -- Whether w leads to the end from factor i, by the test.
 abbrev pub Goes : Chain → ℕ → Bool → List ℕ → Bool
-Goes m i t w = may_end m (run m (To (state i t)) w)
+Goes m i t w = may_end m (run m (Some (state i t)) w)
 
 module _ (m : Chain) (i : ℕ) (t : Bool) where
   -- At the end of the word it is factor i's turn with no name of its own.

@@ -14,10 +14,12 @@ use lib.Seq.{get_or-set_same, get_or-set_other, ext_get_or}
 use Rattle.nameset.specs.Places.{places}
 use Rattle.nameset.specs.Set.{member, first}
 use Rattle.nameset.specs.declared.NameSet.{NameSet}
+use Rattle.nameset.specs.Names.{Given, Ended}
 use Rattle.model.specs.declared.Chain.{Chain}
 use Rattle.model.specs.Record.{no_factor}
 use Rattle.model.specs.Build.{entries_with, with_factor}
 use Rattle.nameset.proofs.Tests.{and_left}
+use Rattle.nameset.proofs.Laws.{is_empty_none}
 
 -- ---- `entries_with`, entry by entry
 
@@ -55,36 +57,39 @@ same_entry : (a b t : Bool) (v e : ℕ) → t ≡ false → cond (a && not b) v 
 same_entry a true t v e h = rw h
 same_entry a false t v e h = refl
 
-pub enter_more : {names left : NameSet} {v : ℕ} {old new : List ℕ} → Entered names left v old new → (x : ℕ) (rest : NameSet) → x ≡ first left → x < places →
-    member left x ≡ true → ((j : ℕ) → member rest j ≡ (member left j && not (eqb (first left) j))) → Entered names rest v old (set new x v)
-enter_more {names} {left} {v} {old} {new} r x rest e h m law =
+-- A turn gives the name x, and `rest` has those that are still to come.
+pub enter_more : {names left : NameSet} {v : ℕ} {old new : List ℕ} → Entered names left v old new → {x : ℕ} {rest : NameSet} → Given left x rest → Entered names rest v old (set new x v)
+enter_more {names} {left} {v} {old} {new} r {x} {rest} g =
     record {
       before = r.before;
       size = length-set new x v ∙ r.size;
-      within = λ j q. r.within j (and_left (member left j) (not (eqb (first left) j)) (sym (law j) ∙ q));
+      within = λ j q. r.within j (and_left (member left j) (not (eqb (first left) j)) (sym (g.others.members j) ∙ q));
       entry = λ j l. at j l (ℕ_discrete j x);
     }
   where
+    found : (x < places) × (member left x ≡ true)
+    found = g.least.found g.some
+
     at : (j : ℕ) → j < places → Dec (j ≡ x) → get_or (set new x v) j no_factor ≡ cond (member names j && not (member rest j)) v (get_or old j no_factor)
     at j l (yes q) =
-        let t : eqb (first left) j ≡ true = eq-eqb (first left) j (sym e ∙ sym q) in
-        let n : member names j ≡ true = rw q (r.within x m) in
-        let k : member left j ≡ true = rw q m in
-        let s : get_or (set new x v) j no_factor ≡ v = rw q (get_or-set_same new x v no_factor (rw r.size h)) in
-        rw (law j, n, k, t) s
+        let t : eqb (first left) j ≡ true = eq-eqb (first left) j (sym g.least.same ∙ sym q) in
+        let n : member names j ≡ true = rw q (r.within x found.1) in
+        let k : member left j ≡ true = rw q found.1 in
+        let s : get_or (set new x v) j no_factor ≡ v = rw q (get_or-set_same new x v no_factor (rw r.size found.0)) in
+        rw (g.others.members j, n, k, t) s
     at j l (no q) =
-        let t : eqb (first left) j ≡ false = ne_eqb (first left) j (λ u. q (sym u ∙ sym e)) in
+        let t : eqb (first left) j ≡ false = ne_eqb (first left) j (λ u. q (sym u ∙ sym g.least.same)) in
         get_or-set_other new x j v no_factor q ∙ r.entry j l ∙ same_entry (member names j) (member left j) (eqb (first left) j) v (get_or old j no_factor) t
-        ∙ ap (λ (b : Bool). cond (member names j && not b) v (get_or old j no_factor)) (sym (law j))
+        ∙ ap (λ (b : Bool). cond (member names j && not b) v (get_or old j no_factor)) (sym (g.others.members j))
 
 all_entered : (a b : Bool) (v e : ℕ) → b ≡ false → cond (a && not b) v e ≡ cond a v e
 all_entered true b v e h = rw h
 all_entered false b v e h = refl
 
-pub enter_all : {names left : NameSet} {v : ℕ} {old new : List ℕ} → Entered names left v old new → ((j : ℕ) → member left j ≡ false) → new ≡ entries_with (member names) v 0 old
-enter_all {names} {left} {v} {old} {new} r h =
+pub enter_all : {names left after : NameSet} {v : ℕ} {old new : List ℕ} → Entered names left v old new → Ended left after → new ≡ entries_with (member names) v 0 old
+enter_all {names} {left} {after} {v} {old} {new} r h =
     ext_get_or no_factor new (entries_with (member names) v 0 old) (r.size ∙ sym r.before ∙ sym (entries_length (member names) v 0 old))
-    (λ j l. r.entry j (rw r.size at l) ∙ all_entered (member names j) (member left j) v (get_or old j no_factor) (h j) ∙ sym (entries_at (member names) v old j no_factor (rw r.before (rw r.size at l))))
+    (λ j l. r.entry j (rw r.size at l) ∙ all_entered (member names j) (member left j) v (get_or old j no_factor) (is_empty_none left h.none j) ∙ sym (entries_at (member names) v old j no_factor (rw r.before (rw r.size at l))))
 
 -- ---- the record
 

@@ -1,13 +1,11 @@
 -- A means: acceptance by a run from left to right; `accepts_law` in proofs/Acceptance.antt joins it to `Accepts`. A
 -- state is the factor that the word is in, and whether a name of it was taken; it does not depend on the word's length.
 -- Assumes nothing.
-use Rattle.std.specs.Prelude.{ℕ, zero, suc, ◌+◌, ◌-◌, Bool, true, false, cond, List, [], ◌∷◌, eqb, get_or}
+use Rattle.std.specs.Prelude.{ℕ, zero, suc, ◌+◌, ◌-◌, Bool, true, false, cond, List, [], ◌∷◌, eqb, get_or, Option, Some, None}
 use Rattle.model.specs.declared.Chain.{Chain}
 use Rattle.model.specs.declared.State.{State}
 use Rattle.model.specs.declared.Turn.{Turn}
 use Rattle.model.specs.declared.Turn.TheVariants.{Take, Leave, Refuse}
-use Rattle.model.specs.declared.Moved.{Moved}
-use Rattle.model.specs.declared.Moved.TheVariants.{To, Nowhere}
 use Rattle.model.specs.Record.{factor_of}
 
 -- The first turn if the test holds, else the second.
@@ -46,24 +44,24 @@ unfoldable pub goes_to : ℕ → List ℕ → ℕ → Bool → State → Bool
 goes_to count modes own through s = goes_from modes own through (count - s.factor) s
 
 -- Where a run is if it went to factor `own`, which has taken a name then.
-unfoldable pub went_to : Bool → ℕ → Moved
-went_to there own = cond there (To (state own true)) Nowhere
+unfoldable pub went_to : Bool → ℕ → Option State
+went_to there own = cond there (Some (state own true)) None
 
 -- One more name x: some factor has to take it, the one that holds it.
-unfoldable pub move : Chain → Moved → ℕ → Moved
-move m (To s) x = went_to (goes_to m.count m.mode (factor_of m x) false s) (factor_of m x)
-move m Nowhere x = Nowhere
+unfoldable pub move : Chain → Option State → ℕ → Option State
+move m (Some s) x = went_to (goes_to m.count m.mode (factor_of m x) false s) (factor_of m x)
+move m None x = None
 
 -- All names of w.
-unfoldable pub run : Chain → Moved → List ℕ → Moved
+unfoldable pub run : Chain → Option State → List ℕ → Option State
 run m s [] = s
 run m s (x ∷ w) = run m (move m s x) w
 
 -- Whether the word may end there: all factors can be left, with no next name. No factor has the number F.
-unfoldable pub may_end : Chain → Moved → Bool
-may_end m (To s) = goes_to m.count m.mode m.count true s
-may_end m Nowhere = false
+unfoldable pub may_end : Chain → Option State → Bool
+may_end m (Some s) = goes_to m.count m.mode m.count true s
+may_end m None = false
 
 -- m accepts the word w: it starts before factor 0's names.
 unfoldable pub accepts : Chain → List ℕ → Bool
-accepts m w = may_end m (run m (To (state 0 false)) w)
+accepts m w = may_end m (run m (Some (state 0 false)) w)

@@ -10,6 +10,7 @@ use nameset::{NameSet, PLACES};
 
 impl Chain {
     // The chain with no factor.
+    #[tactic(auto, unfolding(crate::specs::Record::empty_chain))]
     pub fn empty() -> Chain
         ensures { result ≡ empty_chain places }
     {
@@ -29,11 +30,8 @@ impl Chain {
         let count = self.count;
         let own = count as u8;
         let mut factor = self.factor;
-        let mut left = names;
-        while !left.is_empty() {
-            let x = left.first();
+        for x in names.names() {
             factor[x] = own;
-            left = left.rest();
         }
         let mut modes = self.mode;
         modes[count] = mode;
@@ -47,6 +45,7 @@ impl Chain {
 
 impl Model {
     // The model with no factor and no text.
+    #[tactic(auto, unfolding(crate::specs::Record::empty_model))]
     pub fn empty() -> Model
         ensures { result ≡ empty_model places }
     {

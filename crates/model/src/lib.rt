@@ -2,10 +2,12 @@
 #![tactic(auto)]
 
 mod build; // build.rt: the chain under construction
+mod rows; // rows.rt: chains and models whose rows are borrowed
 
 ghost use Rattle.std.specs.Prelude.{◌≡◌, get_or};
 
 use nameset::PLACES;
+pub use rows::{ChainRows, ModelRows};
 
 // The entry of a name that no factor holds.
 pub const NO_FACTOR: u8 = 255;
@@ -44,16 +46,9 @@ pub enum Turn {
     Refuse,
 }
 
-// The state after a name; nowhere if the word is not accepted, whatever follows.
-#[derive(Clone, Copy)]
-pub enum Moved {
-    To(State),
-    Nowhere,
-}
-
 // The entry at i, or `other` where the row has no such place.
 pub fn entry(row: &[u8], i: usize, other: u8) -> u8
     ensures { result ≡ get_or row.now i other }
 {
-    if i < row.len() { row[i] } else { other }
+    row.get(i).copied().unwrap_or(other)
 }

@@ -2,12 +2,11 @@
 -- Assumes nothing.
 use Prim.Native.Nat.{ℕ, suc, ◌+◌, ◌-◌, ◌≤◌, ◌<◌}
 use mathlib.Core.Path.{◌≡◌, refl, sym, ◌∙◌, ap, subst}
-use mathlib.Core.Bool.{Bool, true, false, not}
+use mathlib.Core.Bool.{Bool, true, false}
 use mathlib.Core.List.{List, [], ◌∷◌, ◌++◌}
 use mathlib.Core.Logic.{◌⊎◌, inl, inr}
 use native.Mathlib.Omega.{arith}
 use native.Mathlib.Numerals.{add-one}
-use borrow.Author.Tests.{not-true, not-false}
 use lib.ListN.{get_or, set, length-set, length-append}
 use Rattle.nameset.specs.Places.{places}
 use Rattle.model.specs.declared.Chain.{Chain}
@@ -16,7 +15,7 @@ use Rattle.model_language.specs.Word.{Point, name}
 use Rattle.model_language.specs.Step.{optional, place, Held}
 use Rattle.model_language.proofs.Shown.{step_rises}
 use Rattle.model_inclusion.specs.Over.{needed, lead, tail, word_over}
-use Rattle.model_inclusion.proofs.Over.{lead_length, over_length, over_shows, over_accepted}
+use Rattle.model_inclusion.proofs.Over.{needed_length, lead_length, over_length, over_shows, over_accepted}
 use Rattle.byte_buffer.specs.Put.{wrote, Put}
 use Rattle.byte_buffer.proofs.Puts.{Left, left_start, left_is, left_put, left_done, put_nothing, wrote_join}
 use Rattle.model_places.specs.declared.Spot.{Spot}
@@ -58,15 +57,15 @@ module _ (modes names : List ℕ) (i stop : ℕ) (l : i < stop) where
 
   module _ (d₀ : List ℕ) (at : ℕ) (whole d : List ℕ) (to : ℕ) (h : Left d₀ at whole d to (rest_of modes names i stop)) {mode : ℕ} (f : mode ≡ get_or modes i 0) {b : Bool}
       (g : b ≡ optional mode) where
-    pub rest_put : not b ≡ true → {v : ℕ} → v ≡ get_or names i 0 → Left d₀ at whole (set d to v) (to + 1) (rest_of modes names (i + 1) stop)
+    pub rest_put : b ≡ false → {v : ℕ} → v ≡ get_or names i 0 → Left d₀ at whole (set d to v) (to + 1) (rest_of modes names (i + 1) stop)
     rest_put e q =
-        let o : optional (get_or modes i 0) ≡ false = ap optional (sym f) ∙ sym g ∙ not-true b e in
+        let o : optional (get_or modes i 0) ≡ false = ap optional (sym f) ∙ sym g ∙ e in
         rw q (left_put d₀ at whole d to (get_or names i 0 ∷ []) (rest_of modes names (i + 1) stop) (set d to (get_or names i 0)) (to + 1)
         (left_is d₀ at whole d to _ _ (rest_taken o) h) (put_byte d to (get_or names i 0)))
 
-    pub rest_kept : not b ≡ false → Left d₀ at whole d to (rest_of modes names (i + 1) stop)
+    pub rest_kept : b ≡ true → Left d₀ at whole d to (rest_of modes names (i + 1) stop)
     rest_kept e =
-        let o : optional (get_or modes i 0) ≡ true = ap optional (sym f) ∙ sym g ∙ not-false b e in
+        let o : optional (get_or modes i 0) ≡ true = ap optional (sym f) ∙ sym g ∙ e in
         left_is d₀ at whole d to _ _ (rest_skipped o) h
 
 pub rest_done : (modes names : List ℕ) (i stop : ℕ) (d₀ : List ℕ) (at : ℕ) (whole d : List ℕ) (to : ℕ) → Left d₀ at whole d to (rest_of modes names i stop) → stop ≤ i → Put d₀ at whole to d
@@ -85,6 +84,10 @@ module _ (m : Chain) (u : Spot) (x own : ℕ) (e : u ≡ Name x) (o : own ≡ ge
 
   pub low : own < m.count
   low = let q : Held m (name x) = subst (λ (z : Spot). Held m (point z)) e s in omega (arith, own_is)
+
+  -- before it there are no more names than factors
+  pub lead_room : (names d₀ d : List ℕ) (at : ℕ) → Put d₀ 0 (needed m.mode (name_in names) 0 (own - 0)) at d → at ≤ own
+  lead_room names d₀ d at p = omega (arith, p.place, needed_length m.mode (name_in names) (own - 0) 0)
 
   -- the names before it, and itself
   pub lead_put : (names d₀ d : List ℕ) (at : ℕ) → Put d₀ 0 (needed m.mode (name_in names) 0 (own - 0)) at d

@@ -1,11 +1,14 @@
 -- The rows of the lowest and of the highest names, name by name. R is the order that prefers the lower or the higher.
 -- Assumes nothing.
 use Prim.Native.Nat.{ℕ, ◌+◌, ◌≤◌, ◌<◌}
-use mathlib.Core.Path.{◌≡◌, sym, ◌∙◌, ap, subst}
+use mathlib.Core.Path.{◌≡◌, refl, sym, ◌∙◌, ap, subst}
 use mathlib.Core.List.{List}
+use mathlib.Core.Bool.{Bool, true, false, cond}
 use mathlib.Core.Logic.{◌⊎◌, inl, inr}
 use native.Mathlib.Omega.{arith}
 use native.Mathlib.Decide.{dec_lt, ℕ_discrete}
+use borrow.Author.Tests.{ltb-true, ltb-false}
+use lib.Dec.{ltb}
 use lib.ListN.{length, get_or, set, replicate, length-set, length-replicate, get_or-replicate}
 use lib.Seq.{get_or-set_same, get_or-set_other}
 use Rattle.nameset.specs.Places.{places}
@@ -97,6 +100,32 @@ lower_trans factors a b c h l = omega arith
 
 pub higher_trans : (factors : List ℕ) (a b c : ℕ) → Higher factors a b → Higher factors b c → Higher factors a c
 higher_trans factors a b c h l = omega arith
+
+-- ---- one name and the name before
+
+-- A test chose between them, where there is one before.
+chosen : (R : ℕ → ℕ → Type 0) → ((a : ℕ) → R a a) → (before x : ℕ) {r : ℕ} → (before ≡ no_name → r ≡ x)
+    → ((before ≡ no_name → ⊥) → (b : Bool) × (b ≡ true → R x before) × (b ≡ false → R before x) × (r ≡ cond b x before)) → Chosen R before x r
+chosen R self before x {r} none some = go (ℕ_discrete before no_name)
+  where
+    by : (before ≡ no_name → ⊥) → (b : Bool) → (b ≡ true → R x before) → (b ≡ false → R before x) → r ≡ cond b x before → Chosen R before x r
+    by d true h k e = rw e record { one = inl refl; new = self x; old = λ q. h refl }
+    by d false h k e = rw e record { one = inr (refl, d); new = k refl; old = λ q. self before }
+
+    go : Dec (before ≡ no_name) → Chosen R before x r
+    go (yes e) = rw (none e) record { one = inl refl; new = self x; old = λ d. absurd (d e) }
+    go (no d) = let s = some d in by d s.0 s.1 s.2 s.3
+
+module _ (factors : List ℕ) (before x : ℕ) {r : ℕ} (none : before ≡ no_name → r ≡ x) where
+  pub chosen_low : ((before ≡ no_name → ⊥) → (b : Bool) × (b ≡ ltb (get_or factors x no_factor) (get_or factors before no_factor)) × (r ≡ cond b x before)) → Chosen (Lower factors) before x r
+  chosen_low some =
+      chosen (Lower factors) (λ a. omega arith) before x none
+      (λ d. let s = some d in (s.0, λ q. omega (arith, ltb-true _ _ (sym s.1 ∙ q)), λ q. omega (arith, ltb-false _ _ (sym s.1 ∙ q)), s.2))
+
+  pub chosen_high : ((before ≡ no_name → ⊥) → (b : Bool) × (b ≡ ltb (get_or factors before no_factor) (get_or factors x no_factor)) × (r ≡ cond b x before)) → Chosen (Higher factors) before x r
+  chosen_high some =
+      chosen (Higher factors) (λ a. omega arith) before x none
+      (λ d. let s = some d in (s.0, λ q. omega (arith, ltb-true _ _ (sym s.1 ∙ q)), λ q. omega (arith, ltb-false _ _ (sym s.1 ∙ q)), s.2))
 
 -- ---- the extremes of each factor of a chain
 

@@ -2,9 +2,10 @@
 // name is lower than another if its factor comes earlier; a name that no factor holds is above all others.
 #![tactic(auto)]
 
-ghost use Rattle.std.specs.Prelude.{◌≤◌};
+ghost use Rattle.std.specs.Prelude.{◌≤◌, ◌≡◌, Bool, cond, get_or, ltb};
 ghost use Rattle.nameset.specs.Places.{places};
-ghost use Rattle.model_extremes.specs.Extremes.{Lower, Higher, Chosen, AreExtremes};
+ghost use Rattle.model.specs.Record.{no_factor};
+ghost use Rattle.model_extremes.specs.Extremes.{no_name, AreExtremes};
 
 use model::{NO_FACTOR, entry};
 use nameset::PLACES;
@@ -19,28 +20,20 @@ pub struct Extremes {
     pub high: [u8; PLACES],
 }
 
-// The lower of the name before and the name x.
-fn lower(factor: &[u8], before: u8, x: u8) -> u8
-    ensures { Chosen (Lower factor.now) before x result }
+// Whether name a has an earlier factor than name b.
+fn is_earlier(factor: &[u8], a: u8, b: u8) -> bool
+    ensures { result ≡ ltb (get_or factor.now a no_factor) (get_or factor.now b no_factor) }
 {
-    if before == NO_NAME {
-        return x;
-    }
-    if entry(factor, x as usize, NO_FACTOR) < entry(factor, before as usize, NO_FACTOR) {
-        x
-    } else {
-        before
-    }
+    entry(factor, a as usize, NO_FACTOR) < entry(factor, b as usize, NO_FACTOR)
 }
 
-// The higher of the name before and the name x.
-fn higher(factor: &[u8], before: u8, x: u8) -> u8
-    ensures { Chosen (Higher factor.now) before x result }
+// The name x, if there is no name before or x is better than it; else the name before.
+fn better<F: Fn(u8, u8) -> bool>(before: u8, x: u8, is_better: F) -> u8
+    requires { F.IsAlwaysCallable is_better }
+    ensures none { before ≡ no_name → result ≡ x }
+    ensures some { (before ≡ no_name → ⊥) → (b : Bool) × F.post is_better x before b × (result ≡ cond b x before) }
 {
-    if before == NO_NAME {
-        return x;
-    }
-    if entry(factor, before as usize, NO_FACTOR) < entry(factor, x as usize, NO_FACTOR) {
+    if before == NO_NAME || is_better(x, before) {
         x
     } else {
         before
@@ -48,20 +41,18 @@ fn higher(factor: &[u8], before: u8, x: u8) -> u8
 }
 
 // The extremes of each factor of the first record in the second: one pass over the n names.
-pub fn extreme_names<'a>(n: usize, first: &'a [u8], second: &'a [u8]) -> Extremes
+pub fn extreme_names(n: usize, first: &[u8], second: &[u8]) -> Extremes
     requires { n ≤ places }
     ensures { AreExtremes n first.now second.now result }
 {
     let mut low = [NO_NAME; PLACES];
     let mut high = [NO_NAME; PLACES];
-    let mut x = 0;
-    while x < n {
-        let i = entry(first, x, NO_FACTOR) as usize;
+    for x in 0..n as u8 {
+        let i = entry(first, x as usize, NO_FACTOR) as usize;
         if i < PLACES {
-            low[i] = lower(second, low[i], x as u8);
-            high[i] = higher(second, high[i], x as u8);
+            low[i] = better(low[i], x, |a, b| is_earlier(second, a, b));
+            high[i] = better(high[i], x, |a, b| is_earlier(second, b, a));
         }
-        x += 1;
     }
     Extremes { low, high }
 }

@@ -14,14 +14,12 @@ pub fn factor_rows(m: Chain, n: usize) -> [u64; ROWS]
     ensures { RowsOf m n result }
 {
     let mut rows = [0u64; ROWS];
-    let mut x = 0;
-    while x < n {
-        let i = m.factor[x] as usize;
+    for x in 0..n {
+        let i = usize::from(m.factor[x]);
         if i < PLACES {
             let names = row_at(&rows, i).with(x);
             put_row(&mut rows, i, names);
         }
-        x += 1;
     }
     rows
 }

@@ -1,21 +1,21 @@
 -- Whether each factor has a name: each looked for by itself, and gathered in a set.
 -- Assumes nothing.
 use Prim.Native.Nat.{ℕ, ◌+◌, ◌-◌, ◌%◌, ◌≤◌, ◌<◌, min}
-use mathlib.Core.Path.{◌≡◌, sym, ◌∙◌, ap}
-use mathlib.Core.Bool.{Bool, true, false, ◌||◌, not, false≢true}
+use mathlib.Core.Path.{◌≡◌, sym, ◌∙◌, ap, ap₂}
+use mathlib.Core.Bool.{Bool, true, false, ◌||◌, false≢true}
 use mathlib.Core.List.{List}
 use mathlib.Core.Logic.{◌⊎◌, inl, inr}
 use native.Mathlib.Omega.{arith}
 use native.Mathlib.Numerals.{add-one}
 use native.Mathlib.Decide.{dec_lt}
-use borrow.Author.Tests.{not-true, not-false, eqb-true, eq-eqb, ne_eqb, ltb-true, lt-ltb, le-ltb}
+use borrow.Author.Tests.{eqb-true, eq-eqb, ne_eqb, ltb-true, lt-ltb, le-ltb}
 use lib.Dec.{eqb, ltb}
 use lib.ListN.{length, get_or, get_or-eq_default}
 use Rattle.nameset.specs.Places.{places}
 use Rattle.model.specs.Record.{no_factor}
 use Rattle.nameset.specs.Tests.{every_below, any_below}
 use Rattle.model.specs.Check.{may_hold, all_placed, all_named}
-use Rattle.nameset.proofs.Tests.{both, or_split, or_right, same_test, all_law, any_law, all_same}
+use Rattle.nameset.proofs.Tests.{both, or_split, or_right, same_test, all_law, any_law, any_more, all_same}
 use Rattle.model.proofs.ChainLaw.{placed_law, name_law}
 
 -- Whether factor i holds the name x.
@@ -101,6 +101,19 @@ held_entry n count factor l p x = go (dec_lt x (length factor)) (dec_lt x n)
     go (yes b) (no d) = none (((placed_law (length factor) n count factor).0 p x b).other (omega arith))
     go (no b) d = none (get_or-eq_default factor no_factor {n = x} (omega arith))
 
+-- Where all entries are right, the set has the factors below the last of x names; `name` says which names these are.
+abbrev pub Gathered : ℕ → List ℕ → (ℕ → ℕ) → (ℕ → Bool) → ℕ → Type 0
+Gathered n factor name set x =
+    (count i : ℕ) → count ≤ places → all_placed (length factor) n count factor ≡ true → i + 1 < places → set i ≡ any_below x (λ k. holds factor i (name k))
+
+-- One name more, by its entry v and the number b of that in a set.
+pub gather_more : (n : ℕ) (factor : List ℕ) (name : ℕ → ℕ) (x : ℕ) (set next : ℕ → Bool) {v : ℕ} (b : ℕ) → Gathered n factor name set x
+    → v ≡ get_or factor (name x) no_factor → ((i : ℕ) → i + 1 < places → may_hold places true v ≡ true → eqb b i ≡ eqb v i)
+    → ((j : ℕ) → next j ≡ (set j || eqb b j)) → Gathered n factor name next (x + 1)
+gather_more n factor name x set next {v} b g e same m count i l p h =
+    let here : eqb b i ≡ holds factor i (name x) = same i h (ap (may_hold places true) e ∙ held_entry n count factor l p (name x)) ∙ ap (λ (k : ℕ). eqb k i) e in
+    m i ∙ ap₂ ◌||◌ (g count i l p h) here ∙ sym (any_more x (λ k. holds factor i (name k)))
+
 -- ---- each factor looked for by itself
 
 module _ (n from count : ℕ) (factor : List ℕ) where
@@ -111,14 +124,14 @@ module _ (n from count : ℕ) (factor : List ℕ) where
   pub each_start : every_below from named_from ≡ true
   each_start = (all_law from named_from).1 (λ i l. rw (lt-ltb i from l))
 
-  pub each_more : (i : ℕ) → every_below i named_from ≡ true → {r : Bool} → r ≡ named n factor i → not r ≡ false → every_below (i + 1) named_from ≡ true
+  pub each_more : (i : ℕ) → every_below i named_from ≡ true → {r : Bool} → r ≡ named n factor i → r ≡ true → every_below (i + 1) named_from ≡ true
   unfolding every_below
-  each_more i p {r} q h = rw add-one (both (every_below i named_from) (named_from i) p (or_right (ltb i from) (named n factor i) (sym q ∙ not-false r h)))
+  each_more i p {r} q h = rw add-one (both (every_below i named_from) (named_from i) p (or_right (ltb i from) (named n factor i) (sym q ∙ h)))
 
-  pub each_lacks : (i : ℕ) → from ≤ i → i < count → {r : Bool} → r ≡ named n factor i → not r ≡ true → false ≡ every_below count named_from
+  pub each_lacks : (i : ℕ) → from ≤ i → i < count → {r : Bool} → r ≡ named n factor i → r ≡ false → false ≡ every_below count named_from
   each_lacks i l k {r} q h =
       same_test false (every_below count named_from) (λ e. absurd (false≢true e))
-      (λ e. sym (ap (λ (b : Bool). b || named n factor i) (le-ltb i from l) ∙ sym q ∙ not-true r h) ∙ (all_law count named_from).0 e i k)
+      (λ e. sym (ap (λ (b : Bool). b || named n factor i) (le-ltb i from l) ∙ sym q ∙ h) ∙ (all_law count named_from).0 e i k)
 
   pub each_done : (i : ℕ) → count ≤ i → every_below i named_from ≡ true → true ≡ every_below count named_from
   each_done i l p = sym ((all_law count named_from).1 (λ k d. (all_law i named_from).0 p k (omega arith)))
@@ -141,16 +154,16 @@ module _ (n count : ℕ) (factor : List ℕ) (l : count ≤ places) {used : ℕ 
   told : t ≡ every_below s (named n factor)
   told = d ∙ all_same s used (named n factor) (λ i k. u i (omega arith))
 
-  pub one_unnamed : not t ≡ true → false ≡ all_named n count factor
+  pub one_unnamed : t ≡ false → t ≡ all_named n count factor
   unfolding all_named
   one_unnamed h =
-      same_test false (every_below count (named n factor)) (λ e. absurd (false≢true e))
-      (λ e. sym (not-true t h) ∙ told ∙ (all_law s (named n factor)).1 (λ i k. (all_law count (named n factor)).0 e i (omega arith)))
+      h ∙ same_test false (every_below count (named n factor)) (λ e. absurd (false≢true e))
+      (λ e. sym h ∙ told ∙ (all_law s (named n factor)).1 (λ i k. (all_law count (named n factor)).0 e i (omega arith)))
 
-  pub by_others : not t ≡ false → {r : Bool} → r ≡ every_below count (named_from n s count factor) → r ≡ all_named n count factor
+  pub by_others : t ≡ true → {r : Bool} → r ≡ every_below count (named_from n s count factor) → r ≡ all_named n count factor
   unfolding all_named
   by_others h q = q ∙ all_same count (named_from n s count factor) (named n factor) (λ i k. at i (dec_lt i s))
     where
       at : (i : ℕ) → Dec (i < s) → named_from n s count factor i ≡ named n factor i
-      at i (yes b) = rw (lt-ltb i s b) (sym ((all_law s (named n factor)).0 (sym told ∙ not-false t h) i b))
+      at i (yes b) = rw (lt-ltb i s b) (sym ((all_law s (named n factor)).0 (sym told ∙ h) i b))
       at i (no b) = ap (λ (z : Bool). z || named n factor i) (le-ltb i s (omega arith))

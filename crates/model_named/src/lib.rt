@@ -1,7 +1,7 @@
 // Whether each factor of a record has a name: few factors are looked for one by one, more are gathered in one pass.
 #![tactic(auto)]
 
-ghost use Rattle.std.specs.Prelude.{ℕ, ◌+◌, ◌≤◌, ◌<◌, min, ◌≡◌, true, ◌||◌, eqb, ltb, length, get_or};
+ghost use Rattle.std.specs.Prelude.{ℕ, ◌+◌, ◌≤◌, ◌<◌, ◌≡◌, true, ◌||◌, eqb, ltb, length, get_or};
 ghost use Rattle.nameset.specs.Places.{places};
 ghost use Rattle.nameset.specs.Set.{capacity, member};
 ghost use Rattle.model.specs.Record.{no_factor};
@@ -17,29 +17,14 @@ const NAMES_EACH: usize = 5;
 // The last factor that a record may have, where it has as many as there are places.
 const LAST: usize = 63;
 
-fn smaller(a: usize, b: usize) -> usize
-    ensures { result ≡ min a b }
-{
-    if a < b { a } else { b }
-}
-
-fn either(a: bool, b: bool) -> bool
-    ensures { result ≡ (a || b) }
-{
-    if a { true } else { b }
-}
-
 // Whether factor v holds one of the n names. No early end: the loop runs over many entries at once.
 fn holds_name(n: usize, factor: &[u8], v: u8) -> bool
     requires { v < no_factor }
     ensures { result ≡ any_below n (λ x. eqb (get_or factor.now x no_factor) v) }
 {
-    let end = smaller(n, factor.len());
     let mut found = false;
-    let mut x = 0;
-    while x < end {
-        found = either(found, entry(factor, x, NO_FACTOR) == v);
-        x += 1;
+    for x in 0..n.min(factor.len()) {
+        found |= factor[x] == v;
     }
     found
 }
@@ -49,18 +34,17 @@ fn each_named(n: usize, from: usize, count: usize, factor: &[u8]) -> bool
     requires { count ≤ places }
     ensures { result ≡ every_below count (λ i. ltb i from || any_below n (λ x. eqb (get_or factor.now x no_factor) i)) }
 {
-    let mut i = from;
-    while i < count {
+    for i in from..count {
         if !holds_name(n, factor, i as u8) {
             return false;
         }
-        i += 1;
     }
     true
 }
 
 // The number by which an entry goes into a set: its last six bits. A factor has its own number, but 255, the entry of a
 // name that no factor holds, has that of the last factor.
+#[tactic(auto, using(crate::proofs::Naming::same_bits))]
 fn in_set(v: u8) -> usize
     ensures { (result < capacity) × ((i : ℕ) → i + 1 < places → may_hold places true v ≡ true → eqb result i ≡ eqb v i) }
 {
@@ -72,15 +56,13 @@ fn in_set(v: u8) -> usize
 fn used_factors(n: usize, factor: &[u8]) -> NameSet
     ensures { (count i : ℕ) → count ≤ places → all_placed (length factor.now) n count factor.now ≡ true → i + 1 < places → member result i ≡ any_below n (λ x. eqb (get_or factor.now x no_factor) i) }
 {
-    let end = smaller(n, factor.len());
+    let end = n.min(factor.len());
     let half = end - end / 2;
     let mut first = NameSet::empty();
     let mut second = NameSet::empty();
-    let mut x = 0;
-    while x < half {
-        first = first.with(in_set(entry(factor, x, NO_FACTOR)));
+    for x in 0..half {
+        first = first.with(in_set(factor[x]));
         second = second.with(in_set(entry(factor, x + half, NO_FACTOR)));
-        x += 1;
     }
     first.union(second)
 }
@@ -101,9 +83,6 @@ pub fn all_named(n: usize, count: usize, factor: &[u8]) -> bool
     if count <= n / NAMES_EACH {
         return each_named(n, 0, count, factor);
     }
-    let told = smaller(count, LAST);
-    if !all_used(told, used_factors(n, factor)) {
-        return false;
-    }
-    each_named(n, told, count, factor)
+    let told = count.min(LAST);
+    all_used(told, used_factors(n, factor)) && each_named(n, told, count, factor)
 }

@@ -13,13 +13,9 @@ use lib.ListN.{length, get_or, set, length-set}
 use lib.Seq.{get_or-set_same, get_or-set_other}
 use Rattle.nameset.specs.Places.{places}
 use Rattle.model.specs.declared.Chain.{Chain}
-use Rattle.model.specs.Record.{no_factor, factor_of}
-use Rattle.model.specs.Build.{of_rows}
 use Rattle.model_language.specs.Word.{Point}
 use Rattle.model_language.specs.Step.{optional, repeats, place}
-use Rattle.model_places.specs.declared.Spot.{Spot}
-use Rattle.model_places.specs.declared.Spot.TheVariants.{Start, Name, End}
-use Rattle.model_places.specs.Places.{point, nearest, far_from, farthest, FarRow, has_step}
+use Rattle.model_places.specs.Places.{nearest, far_from, farthest, FarRow, has_step}
 
 -- ---- one place
 
@@ -102,19 +98,6 @@ near_next modes (suc i) h e t =
     let z : suc i - 1 ≡ i = omega arith in
     let q : repeats (get_or modes i 0) ≡ false = ap (λ (j : ℕ). repeats (get_or modes j 0)) (sym z) ∙ sym e ∙ t in
     rw (q, add-one)
-
--- ---- the place of a point
-
-module _ (count : ℕ) (factors modes : List ℕ) (u : Spot) where
-  pub at_start : u ≡ Start → 0 ≡ place (of_rows count factors modes) (point u)
-  at_start e = rw e
-
-  pub at_name : (x : ℕ) {v : ℕ} → u ≡ Name x → v ≡ get_or factors x no_factor → v + 1 ≡ place (of_rows count factors modes) (point u)
-  unfolding factor_of
-  at_name x e f = rw (e, f, add-one)
-
-  pub at_end : u ≡ End → count + 1 ≡ place (of_rows count factors modes) (point u)
-  at_end e = rw (e, add-one)
 
 -- ---- the test of a step
 

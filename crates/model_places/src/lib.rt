@@ -1,14 +1,14 @@
 // Places of a chain: how far its steps lead from each place, and whether it has the step from one point to another.
 #![tactic(auto)]
 
-ghost use Rattle.std.specs.Prelude.{ℕ, ◌+◌, ◌≤◌, ◌<◌, ◌≡◌, cond, List};
+ghost use Rattle.std.specs.Prelude.{◌+◌, ◌≤◌, ◌<◌, ◌≡◌, cond};
 ghost use Rattle.nameset.specs.Places.{places};
-ghost use Rattle.model.specs.Build.{of_rows};
 ghost use Rattle.model_language.specs.Step.{optional, repeats, place};
 ghost use Rattle.model_places.specs.Places.{point, nearest, FarRow, has_step};
 
-use model::{NO_FACTOR, entry};
+use model::{ChainRows, entry};
 use nameset::PLACES;
+use std::marker::Model;
 
 // The places that a step may leave: the start, and each factor.
 pub const LEFT: usize = PLACES + 1;
@@ -21,25 +21,27 @@ pub enum Spot {
     End,
 }
 
+// A step of a word: from one point to the next.
+#[derive(Clone, Copy)]
+pub struct Step {
+    pub from: Spot,
+    pub to: Spot,
+}
+
 // Whether a factor of this mode may be left out.
+#[tactic(auto, using(crate::proofs::Modes::is_optional, crate::proofs::Modes::not_optional))]
 pub fn is_optional(mode: u8) -> bool
     ensures { result ≡ optional mode }
 {
-    match mode {
-        1 | 3 => true,
-        _ => false,
-    }
+    matches!(mode, 1 | 3)
 }
 
 // Whether a factor of this mode may have more than one name.
+#[tactic(auto, using(crate::proofs::Modes::is_repeated, crate::proofs::Modes::not_repeated))]
 pub fn is_repeated(mode: u8) -> bool
     ensures { result ≡ repeats mode }
 {
-    match mode {
-        2 => true,
-        3 => true,
-        _ => false,
-    }
+    matches!(mode, 2 | 3)
 }
 
 // How far a step leads from place p: over a factor that may be left out as far as from the next place, else to it.
@@ -62,54 +64,71 @@ pub fn far_row(count: usize, modes: &[u8]) -> [u8; LEFT]
     let mut row = [0u8; LEFT];
     let mut far = (count + 1) as u8;
     row[count] = far;
-    let mut p = count;
-    while 0 < p {
-        p -= 1;
+    for p in (0..count).rev() {
         far = far_over(entry(modes, p, 0), p, far);
         row[p] = far;
     }
     row
 }
 
-// The nearest place that a step from place p leads to.
-fn nearest_place(modes: &[u8], p: usize) -> usize
-    requires { p ≤ places }
-    ensures { result ≡ nearest modes.now p }
-{
-    if p == 0 {
-        return 1;
-    }
-    if is_repeated(entry(modes, p - 1, 0)) {
-        p
-    } else {
-        p + 1
-    }
+// A chain with borrowed rows, and how far a step leads from each of its places.
+#[derive(Drop)]
+pub struct Places<'a> {
+    rows: ChainRows<'a>,
+    far: [u8; LEFT],
 }
 
-// The place of a point.
-fn place_of(count: usize, factor: &[u8], u: Spot) -> usize
-    requires { count ≤ places }
-    ensures { (modes : List ℕ) → result ≡ place (of_rows count factor.now modes) (point u) }
-{
-    match u {
-        Spot::Start => 0,
-        Spot::Name(x) => entry(factor, x as usize, NO_FACTOR) as usize + 1,
-        Spot::End => count + 1,
-    }
+impl<'a> Model for Places<'a> {
+    ghost use Rattle.std.specs.Prelude.{◌≤◌};
+    ghost use Rattle.model.specs.declared.Chain.{Chain};
+    ghost use Rattle.nameset.specs.Places.{places};
+    ghost use Rattle.model_places.specs.Places.{FarRow};
+
+    ghost Value = { Chain };
+
+    ghost view = { λ p. p.rows };
+
+    ghost invariant = { λ p. (p.rows.count ≤ places) × FarRow p.rows.count p.rows.mode p.far };
 }
 
-// Whether the record of these rows has the step. The rows are borrowed: nothing of it is copied for a step.
-pub fn has_step(count: usize, factor: &[u8], modes: &[u8], far: &[u8], u: Spot, v: Spot) -> bool
-    requires { (count ≤ places) × FarRow count modes.now far.now }
-    ensures { result ≡ has_step (of_rows count factor.now modes.now) (point u) (point v) }
-{
-    let a = place_of(count, factor, u);
-    let b = place_of(count, factor, v);
-    if count < a {
-        return false;
+impl<'a> Places<'a> {
+    pub fn of(rows: ChainRows<'a>) -> Places<'a>
+        requires { rows.count ≤ places }
+        ensures { result ≡ rows.entry }
+    {
+        let far = far_row(rows.count(), rows.mode());
+        Places { rows, far }
     }
-    if b < nearest_place(modes, a) {
-        return false;
+
+    // The nearest place that a step from place p leads to.
+    #[tactic(auto, using(crate::proofs::Rows::near_start, crate::proofs::Rows::near_loop, crate::proofs::Rows::near_next), unfolding(model::specs::Record::mode_of))]
+    fn nearest(&self, p: usize) -> usize
+        requires { p ≤ places }
+        ensures { result ≡ nearest self.now.mode p }
+    {
+        if 0 < p && is_repeated(self.rows.mode_of(p - 1)) {
+            p
+        } else {
+            p + 1
+        }
     }
-    b <= entry(far, a, 0) as usize
+
+    fn place_of(&self, u: Spot) -> usize
+        ensures { result ≡ place self.now (point u) }
+    {
+        match u {
+            Spot::Start => 0,
+            Spot::Name(x) => self.rows.factor_of(x) as usize + 1,
+            Spot::End => self.rows.count() + 1,
+        }
+    }
+
+    // Whether the chain has the step.
+    pub fn has_step(&self, u: Spot, v: Spot) -> bool
+        ensures { result ≡ has_step self.now (point u) (point v) }
+    {
+        let a = self.place_of(u);
+        let b = self.place_of(v);
+        a <= self.rows.count() && self.nearest(a) <= b && b <= entry(&self.far, a, 0) as usize
+    }
 }

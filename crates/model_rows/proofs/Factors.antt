@@ -9,6 +9,7 @@ use native.Mathlib.Numerals.{add-one}
 use native.Mathlib.Decide.{dec_lt, dec_le}
 use borrow.Author.Tests.{eq-eqb, ne_eqb, lt-ltb, le-ltb, le-leb, lt-leb}
 use lib.Dec.{eqb, ltb, leb}
+use Rattle.std.proofs.lemmas.Grind.{get_or_default_zero}
 use lib.ListN.{length, get_or, get_or-eq_default}
 use Rattle.model.specs.Record.{no_factor}
 use Rattle.nameset.specs.Tests.{every_below}
@@ -69,10 +70,10 @@ module _ (count : ℕ) (factor : List ℕ) (from : ℕ) where
   pub among_start : leb 0 count ≡ every_below from among
   among_start = le-leb 0 count (omega arith) ∙ sym ((all_law from among).1 (λ x l. rw (lt-ltb x from l)))
 
-  pub among_more : (x top v : ℕ) → from ≤ x → leb top count ≡ every_below x among → leb v count ≡ may_hold count true (get_or factor x no_factor)
+  pub among_more : (x top v : ℕ) → x < length factor → from ≤ x → leb top count ≡ every_below x among → leb v count ≡ may_hold count true (get_or factor x 0)
       → leb (max top v) count ≡ every_below (x + 1) among
   unfolding every_below
-  among_more x top v h p q = rw (add-one x, both_most top v count, p, q, le-ltb x from h)
+  among_more x top v l h p q = rw (add-one x, both_most top v count, p, q, le-ltb x from h, get_or_default_zero factor x no_factor l)
 
   pub among_done : (x top : ℕ) → length factor ≤ x → leb top count ≡ every_below x among → leb top count ≡ every_below (length factor) among
   unfolding may_hold
@@ -98,17 +99,9 @@ entry_split n count x v = go (ltb x n)
     go false = rw (le-ltb x 0 (omega arith), le-ltb v 0 (omega arith)) (other (eqb v no_factor) (ltb v count))
 
 module _ (n count : ℕ) (factor : List ℕ) where
-  placed : all_placed (length factor) n count factor ≡ (every_below (length factor) (among count factor 0) && every_below (length factor) (among 0 factor n))
+  pub placed : all_placed (length factor) n count factor ≡ (every_below (length factor) (among count factor 0) && every_below (length factor) (among 0 factor n))
   unfolding all_placed
   placed =
       all_same (length factor) (λ x. may_hold count (ltb x n) (get_or factor x no_factor)) (λ x. among count factor 0 x && among 0 factor n x)
       (λ x l. entry_split n count x (get_or factor x no_factor))
       ∙ all_both (length factor) (among count factor 0) (among 0 factor n)
-
-  -- The same, as the code finds it.
-  module _ {b : Bool} (e : b ≡ every_below (length factor) (among count factor 0)) where
-    pub all_placed_lem : b ≡ true → {r : Bool} → r ≡ every_below (length factor) (among 0 factor n) → r ≡ all_placed (length factor) n count factor
-    all_placed_lem t f = rw (placed, ← e, t) f
-
-    pub one_misplaced : b ≡ false → false ≡ all_placed (length factor) n count factor
-    one_misplaced t = rw (placed, ← e, t)

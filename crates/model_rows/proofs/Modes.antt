@@ -2,7 +2,7 @@
 -- Assumes nothing.
 use Prim.Native.Nat.{ℕ, ◌+◌, ◌-◌, ◌≤◌, ◌<◌}
 use mathlib.Core.Path.{◌≡◌}
-use mathlib.Core.Bool.{Bool, true, false, ◌&&◌}
+use mathlib.Core.Bool.{Bool, true, ◌&&◌}
 use mathlib.Core.List.{List}
 use native.Mathlib.Omega.{arith}
 use native.Mathlib.Decide.{dec_lt}
@@ -11,7 +11,7 @@ use lib.Dec.{eqb, leb}
 use lib.ListN.{length, get_or, drop, get_or-eq_default}
 use Rattle.byte_row.specs.Largest.{largest}
 use Rattle.byte_row.proofs.Laws.{most_law}
-use Rattle.model.specs.Check.{may_be, all_known}
+use Rattle.model.specs.Check.{all_known}
 use Rattle.nameset.proofs.Tests.{both, and_left, and_right, same_test}
 use Rattle.model.proofs.ChainLaw.{Mode, known_law}
 
@@ -28,11 +28,10 @@ module _ (count : ℕ) (modes : List ℕ) where
   each from k i h l = let e : i ≡ from + (i - from) = omega arith in rw e ((most_law modes from k).0 h (i - from))
 
   -- The largest mode is judged, and the largest of those from `count` on.
-  judged : Bool
+  abbrev pub judged : Bool
   judged = leb (largest (drop 0 modes)) 3 && eqb (largest (drop count modes)) 0
 
   to : judged ≡ true → (i : ℕ) → Mode count i (get_or modes i 0)
-  unfolding judged
   to e i =
       let a : largest (drop 0 modes) ≤ 3 = leb-true (largest (drop 0 modes)) 3 (and_left (leb (largest (drop 0 modes)) 3) (eqb (largest (drop count modes)) 0) e) in
       let b : largest (drop count modes) ≡ 0 = eqb-true (largest (drop count modes)) 0 (and_right (leb (largest (drop 0 modes)) 3) (eqb (largest (drop count modes)) 0) e) in
@@ -42,7 +41,6 @@ module _ (count : ℕ) (modes : List ℕ) where
       }
 
   from : ((i : ℕ) → i < length modes → Mode count i (get_or modes i 0)) → judged ≡ true
-  unfolding judged
   from h =
       let a : largest (drop 0 modes) ≤ 3 = most 0 3 (λ i z l. small i l (dec_lt i count)) in
       let b : largest (drop count modes) ≤ 0 = most count 0 (λ i p l. let e = (h i l).rest p in omega arith) in
@@ -53,17 +51,7 @@ module _ (count : ℕ) (modes : List ℕ) where
       small i l (yes d) = (h i l).known d
       small i l (no d) = let e : get_or modes i 0 ≡ 0 = (h i l).rest (omega arith) in omega arith
 
-  known : judged ≡ all_known (length modes) count modes
+  pub known : all_known (length modes) count modes ≡ judged
   known =
       let k = known_law (length modes) count modes in
-      same_test judged (all_known (length modes) count modes) (λ e. k.1 (λ i l. to e i)) (λ e. from (k.0 e))
-
-  -- The same, as the code finds it.
-  module _ {top : ℕ} (e : top ≡ largest (drop 0 modes)) {b : Bool} (k : b ≡ may_be true top) where
-    pub modes_known : b ≡ true → {rest : ℕ} → rest ≡ largest (drop count modes) → eqb rest 0 ≡ all_known (length modes) count modes
-    unfolding judged may_be
-    modes_known t {rest} f = rw (← known, ← e, ← f, ← k, t)
-
-    pub mode_unknown : b ≡ false → false ≡ all_known (length modes) count modes
-    unfolding judged may_be
-    mode_unknown t = rw (← known, ← e, ← k, t)
+      same_test (all_known (length modes) count modes) judged (λ e. from (k.0 e)) (λ e. k.1 (λ i l. to e i))

@@ -1,14 +1,13 @@
 // One step of a run through a word: what a factor does with the next name, where the run goes, whether it may end.
 #![tactic(auto)]
 
-ghost use Rattle.std.specs.Prelude.{ℕ, ◌≡◌, List};
-ghost use Rattle.model.specs.declared.Moved.TheVariants.{To};
-ghost use Rattle.model.specs.Build.{of_rows};
+ghost use Rattle.std.specs.Prelude.{◌≡◌};
 ghost use Rattle.model.specs.Run.{turn_of, goes_to, went_to, move, may_end};
 
-use model::{Moved, NO_FACTOR, State, Turn, entry};
+use model::{ChainRows, State, Turn};
 
 // `taken` says whether the factor has taken a name, `here` whether it holds the next one.
+#[tactic(auto, using(crate::proofs::Turning::no_mode, crate::proofs::Turning::again, crate::proofs::Turning::once, crate::proofs::Turning::first, crate::proofs::Turning::done, crate::proofs::Turning::skipped, crate::proofs::Turning::missed,))]
 fn next_turn(mode: u8, taken: bool, here: bool) -> Turn
     ensures { result ≡ turn_of mode taken here }
 {
@@ -39,56 +38,54 @@ fn next_turn(mode: u8, taken: bool, here: bool) -> Turn
 }
 
 // The state in factor `own`, which has taken a name, if the run went there.
-fn went_to(there: bool, own: usize) -> Moved
+#[tactic(auto, unfolding(model::specs::Run::went_to))]
+fn went_to(there: bool, own: usize) -> Option<State>
     ensures { result ≡ went_to there own }
 {
     if there {
-        Moved::To(State {
+        Some(State {
             factor: own,
             taken: true,
         })
     } else {
-        Moved::Nowhere
+        None
     }
 }
 
 // Where a run goes from a state for a name of the factor `own`: factors are left until one takes the name or refuses.
 // `through` says whether it goes on if all are left. Where there is no name, `own` is a number that no factor has.
-fn goes_to(count: usize, mode: &[u8], own: usize, through: bool, from: State) -> Moved
-    ensures { result ≡ went_to (goes_to count mode.now own through from) own }
+fn goes_to(rows: &ChainRows, own: usize, through: bool, from: State) -> Option<State>
+    ensures { result ≡ went_to (goes_to rows.now.count rows.now.mode own through from) own }
 {
-    let mut factor = from.factor;
     let mut taken = from.taken;
-    while factor < count {
-        match next_turn(entry(mode, factor, 0), taken, own == factor) {
+    for factor in from.factor..rows.count() {
+        match next_turn(rows.mode_of(factor), taken, own == factor) {
             Turn::Take => {
                 return went_to(true, own);
             }
             Turn::Refuse => {
-                return Moved::Nowhere;
+                return None;
             }
-            Turn::Leave => {}
+            Turn::Leave => {
+                taken = false;
+            }
         }
-        factor += 1;
-        taken = false;
     }
     went_to(through, own)
 }
 
 // The state after the name x: the factor that holds x has taken it.
-pub fn step(count: usize, factor: &[u8], mode: &[u8], x: u8, from: State) -> Moved
-    ensures { result ≡ move (of_rows count factor.now mode.now) (To from) x }
+pub fn step(rows: &ChainRows, x: u8, from: State) -> Option<State>
+    ensures { result ≡ move rows.now (Some from) x }
 {
-    let own = entry(factor, x as usize, NO_FACTOR) as usize;
-    goes_to(count, mode, own, false, from)
+    let own = rows.factor_of(x) as usize;
+    goes_to(rows, own, false, from)
 }
 
 // Whether a word may end at a state: all factors from there on can be left.
-pub fn may_end(count: usize, mode: &[u8], from: State) -> bool
-    ensures { (factors : List ℕ) → result ≡ may_end (of_rows count factors mode.now) (To from) }
+#[tactic(auto, using(crate::proofs::Ends::went_is_some), unfolding(model::specs::Run::may_end))]
+pub fn may_end(rows: &ChainRows, from: State) -> bool
+    ensures { result ≡ may_end rows.now (Some from) }
 {
-    match goes_to(count, mode, count, true, from) {
-        Moved::To(_) => true,
-        Moved::Nowhere => false,
-    }
+    goes_to(rows, rows.count(), true, from).is_some()
 }

@@ -7,8 +7,14 @@ use mathlib.Core.List.{List, []}
 use native.Mathlib.Omega.{arith}
 use borrow.Author.Tests.{le-leb, lt-leb, leb-true}
 use lib.Dec.{leb}
-use lib.ListN.{length, take, drop, length-take, length-drop}
-use Rattle.model_table.specs.Table.{lacks, has, row_size, row_of, is_absent, model_in, entry_in, entry_of}
+use lib.ListN.{length, get_or, take, drop, length-take, length-drop}
+use Rattle.std.proofs.Common.{Some, None}
+use Rattle.nameset.specs.Places.{places}
+use Rattle.model.specs.declared.Chain.{Chain}
+use Rattle.model.specs.declared.Model.{Model}
+use Rattle.model.specs.Record.{model_with}
+use Rattle.model.specs.Build.{of_rows}
+use Rattle.model_table.specs.Table.{factors_at, modes_at, row_size, row_of, is_absent, model_in, entry_in, entry_of}
 
 -- ---- where a row is
 
@@ -46,10 +52,17 @@ module _ (table : List ℕ) (x : ℕ) {row : List ℕ} (r : row ≡ row_of table
   pub full : b ≡ false → length row ≡ row_size
   full e = rw r (whole table x (absent_known ∙ e))
 
-  pub entry_lacks : b ≡ true → entry_of table x ≡ lacks
+  pub entry_lacks : b ≡ true → entry_of table x ≡ None
   unfolding entry_of entry_in
   entry_lacks e = rw (absent_known, e)
 
-  pub entry_has : b ≡ false → entry_of table x ≡ has (model_in row)
+  pub entry_has : b ≡ false → entry_of table x ≡ Some (model_in row)
   unfolding entry_of entry_in
   entry_has e = rw (absent_known, e, r)
+
+  -- The model, made of the parts of its row.
+  pub entry_made : b ≡ false → {count text : ℕ} {factors modes : List ℕ} {c : Chain} {m : Model} → count ≡ get_or row 1 0 →
+      factors ≡ take places (drop factors_at row) → modes ≡ drop modes_at row → c ≡ of_rows count factors modes → text ≡ get_or row 2 0 →
+      m ≡ model_with c text → Some m ≡ entry_of table x
+  unfolding model_in
+  entry_made e p q r s t u = rw (entry_has e, u, s, p, q, r, t)

@@ -2,16 +2,15 @@
 -- each name, in rising number. A row has a byte that is 0 where the name has no model, the count F, the text byte, the
 -- factor of each place and the mode of each factor: 131 bytes at 64 places.
 -- Assumes nothing.
-use Rattle.std.specs.Prelude.{ℕ, ◌+◌, ◌*◌, Bool, true, false, cond, List, [], ◌∷◌, ◌++◌, eqb, leb, length, get_or, take, drop, replicate}
+use Rattle.std.specs.Prelude.{ℕ, ◌+◌, ◌*◌, Bool, true, false, cond, List, [], ◌∷◌, ◌++◌, eqb, leb, length, get_or, take, drop, replicate, Option, Some, None}
 use Rattle.nameset.specs.Places.{places}
 use Rattle.model.specs.declared.Model.{Model}
 use Rattle.model.specs.Record.{model_with}
 use Rattle.model.specs.Build.{of_rows}
 
 -- What a table tells of a name: it has no model, or it has this one.
-pub data Entry : Type 0 where
-  lacks : Entry
-  has : Model → Entry
+abbrev pub Entry : Type 0
+Entry = Option Model
 
 -- Where the factors and the modes of a row begin, and how many bytes it has.
 abbrev pub factors_at : ℕ
@@ -36,8 +35,8 @@ unfoldable pub model_in : List ℕ → Model
 model_in row = model_with (of_rows (get_or row 1 0) (take places (drop factors_at row)) (drop modes_at row)) (get_or row 2 0)
 
 unfoldable pub entry_in : Bool → List ℕ → Entry
-entry_in true row = lacks
-entry_in false row = has (model_in row)
+entry_in true row = None
+entry_in false row = Some (model_in row)
 
 -- What the table tells of the name x. Whether the record is a model over the names is not looked at here.
 unfoldable pub entry_of : List ℕ → ℕ → Entry

@@ -1,11 +1,11 @@
-// A borrowed table of models: the row of a name, and the parts of a row. Nothing is copied out of it.
+// A borrowed table of models: the model of a name, whose rows are borrowed from the table. Nothing is copied out of it.
 #![tactic(auto)]
 
 ghost use Rattle.std.specs.Prelude.{◌≡◌, length, take, drop};
 ghost use Rattle.nameset.specs.Places.{places};
-ghost use Rattle.model_table.specs.Table.{factors_at, modes_at, row_size, row_of, is_absent};
+ghost use Rattle.model_table.specs.Table.{factors_at, modes_at, row_size, row_of, is_absent, entry_of};
 
-use model::entry;
+use model::{ChainRows, ModelRows, entry};
 use nameset::PLACES;
 
 // Where a row has the byte that says whether there is a model, the count F, the text byte, the factors and the modes.
@@ -23,7 +23,7 @@ pub const MODES: usize = FACTORS + PLACES;
 pub const ROW: usize = MODES + PLACES;
 
 // The row of a name, with no bytes where the table is too short for it.
-pub fn row_of(table: &[u8], name: u8) -> &[u8]
+fn row_of(table: &[u8], name: u8) -> &[u8]
     ensures { result.now ≡ row_of table.now name }
 {
     let from = name as usize * ROW;
@@ -36,14 +36,15 @@ pub fn row_of(table: &[u8], name: u8) -> &[u8]
 }
 
 // Whether a row has no model.
-pub fn is_absent(row: &[u8]) -> bool
+#[tactic(auto, unfolding(crate::specs::Table::is_absent))]
+fn is_absent(row: &[u8]) -> bool
     ensures { result ≡ is_absent row.now }
 {
     entry(row, PRESENT, 0) == 0
 }
 
 // The factors of a whole row.
-pub fn factors_in(row: &[u8]) -> &[u8]
+fn factors_in(row: &[u8]) -> &[u8]
     requires { length row.now ≡ row_size }
     ensures { result.now ≡ take places (drop factors_at row.now) }
 {
@@ -53,10 +54,23 @@ pub fn factors_in(row: &[u8]) -> &[u8]
 }
 
 // The modes of a whole row.
-pub fn modes_in(row: &[u8]) -> &[u8]
+fn modes_in(row: &[u8]) -> &[u8]
     requires { length row.now ≡ row_size }
     ensures { result.now ≡ drop modes_at row.now }
 {
     let from = MODES;
     &row[from..]
+}
+
+// The model that the table has for a name, if it has one.
+pub fn model_of(table: &[u8], name: u8) -> Option<ModelRows<'_>>
+    ensures { result ≡ entry_of table.now name }
+{
+    let row = row_of(table, name);
+    if is_absent(row) {
+        return None;
+    }
+    let count = entry(row, COUNT, 0) as usize;
+    let chain = ChainRows::new(count, factors_in(row), modes_in(row));
+    Some(ModelRows::new(chain, entry(row, TEXT, 0)))
 }

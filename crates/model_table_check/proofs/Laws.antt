@@ -2,29 +2,29 @@
 -- Assumes nothing.
 use Prim.Native.Nat.{ℕ, zero, suc, ◌+◌, ◌≤◌, ◌<◌}
 use mathlib.Core.Path.{◌≡◌, refl, sym, ◌∙◌}
-use mathlib.Core.Bool.{Bool, true, false, not, false≢true}
+use mathlib.Core.Bool.{Bool, true, false, false≢true}
 use mathlib.Core.List.{List}
 use mathlib.Core.Logic.{◌↔◌}
 use native.Mathlib.Omega.{arith}
 use native.Mathlib.Numerals.{add-one}
-use borrow.Author.Tests.{not-true, not-false}
 use Rattle.nameset.specs.Places.{places}
 use Rattle.nameset.specs.Tests.{every_below}
 use Rattle.nameset.proofs.Tests.{all_law}
 use Rattle.model.specs.declared.Model.{Model}
 use Rattle.model.specs.Record.{IsModel}
 use Rattle.model.proofs.ModelLaw.{model_law}
-use Rattle.model_table.specs.Table.{Entry, lacks, has, entry_of}
+use Rattle.std.proofs.Common.{Some, None}
+use Rattle.model_table.specs.Table.{Entry, entry_of}
 use Rattle.model_table_check.specs.Check.{BadRecord, Models, good_entry, all_models}
 
-good_has : (n : ℕ) (e : Entry) → good_entry n e ≡ true → (m : Model) → e ≡ has m → IsModel places n m
+good_has : (n : ℕ) (e : Entry) → good_entry n e ≡ true → (m : Model) → e ≡ Some m → IsModel places n m
 unfolding good_entry
 good_has n e h m q = (model_law places n m).0 (rw q at h)
 
-has_good : (n : ℕ) (e : Entry) → ((m : Model) → e ≡ has m → IsModel places n m) → good_entry n e ≡ true
+has_good : (n : ℕ) (e : Entry) → ((m : Model) → e ≡ Some m → IsModel places n m) → good_entry n e ≡ true
 unfolding good_entry
-has_good n lacks h = refl
-has_good n (has m) h = (model_law places n m).1 (h m refl)
+has_good n None h = refl
+has_good n (Some m) h = (model_law places n m).1 (h m refl)
 
 pub models_law : (n : ℕ) (table : List ℕ) → (all_models n table ≡ true) ↔ Models n table
 unfolding all_models
@@ -43,10 +43,10 @@ fails_at (suc n) test e = by (every_below n test) refl (λ h. let (x, l, f) = fa
     by true q ih = (n, omega arith, rw q at e)
     by false q ih = ih q
 
-bad_has : (n : ℕ) (e : Entry) → good_entry n e ≡ false → (m : Model) × (e ≡ has m) × (¬ IsModel places n m)
+bad_has : (n : ℕ) (e : Entry) → good_entry n e ≡ false → (m : Model) × (e ≡ Some m) × (¬ IsModel places n m)
 unfolding good_entry
-bad_has n lacks h = absurd (false≢true (sym h))
-bad_has n (has m) h = (m, refl, λ i. false≢true (sym h ∙ (model_law places n m).1 i))
+bad_has n None h = absurd (false≢true (sym h))
+bad_has n (Some m) h = (m, refl, λ i. false≢true (sym h ∙ (model_law places n m).1 i))
 
 bad_record : (n : ℕ) (table : List ℕ) → all_models n table ≡ false → BadRecord n table
 unfolding all_models
@@ -70,16 +70,16 @@ module _ (n : ℕ) (table : List ℕ) where
   unfolding every_below
   models_start = refl
 
-  pub models_more : (x : ℕ) → every_below x good ≡ true → {r : Bool} → r ≡ good x → not r ≡ false → every_below (x + 1) good ≡ true
+  pub models_more : (x : ℕ) → every_below x good ≡ true → {r : Bool} → r ≡ good x → r ≡ true → every_below (x + 1) good ≡ true
   unfolding every_below
-  models_more x h {r} e t = rw (add-one x, h, ← e, not-false r t)
+  models_more x h {r} e t = rw (add-one x, h, ← e, t)
 
-  pub models_fail : (x : ℕ) → x < n → {r : Bool} → r ≡ good x → not r ≡ true → false ≡ all_models n table
+  pub models_fail : (x : ℕ) → x < n → {r : Bool} → r ≡ good x → r ≡ false → false ≡ all_models n table
   unfolding all_models
   models_fail x l {r} e t = by (every_below n good) refl
     where
       by : (b : Bool) → every_below n good ≡ b → false ≡ every_below n good
-      by true q = absurd (false≢true (sym (not-true r t) ∙ e ∙ (all_law n good).0 q x l))
+      by true q = absurd (false≢true (sym t ∙ e ∙ (all_law n good).0 q x l))
       by false q = sym q
 
   pub models_done : (x : ℕ) → n ≤ x → every_below x good ≡ true → true ≡ all_models n table

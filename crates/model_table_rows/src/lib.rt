@@ -23,14 +23,7 @@ fn put_fact_row(models: &mut [u8], at: usize, names: usize, facts: &[u64]) -> us
         return put_empty_row(models, at);
     }
     let m = row_model(facts, names);
-    put_row(
-        models,
-        at,
-        m.chain.count,
-        &m.chain.factor,
-        &m.chain.mode,
-        m.text,
-    )
+    put_row(models, at, &m.rows())
 }
 
 // The rows of all parents, by the table of their facts, into the front of a table with room for them.
@@ -39,10 +32,8 @@ pub fn put_rows(models: &mut [u8], names: usize, table: &[u64]) -> usize
     ensures { Put models.old 0 (rows_below (table_row names table.now) names) result models.new }
 {
     let mut to = 0;
-    let mut parent = 0;
-    while parent < names {
+    for parent in 0..names {
         to = put_fact_row(models, to, names, row_of(table, parent));
-        parent += 1;
     }
     to
 }

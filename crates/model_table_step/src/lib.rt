@@ -5,41 +5,31 @@ ghost use Rattle.std.specs.Prelude.{◌≡◌};
 ghost use Rattle.model_table.specs.Table.{entry_of};
 ghost use Rattle.model_table_step.specs.Run.{move_in, may_close, allows_text};
 
-use model::{Moved, State, entry};
+use model::State;
 use model_step::{may_end, step};
-use model_table::{COUNT, TEXT, factors_in, is_absent, modes_in, row_of};
+use model_table::model_of;
 
 // Where the run is after one more child.
-pub fn move_in(table: &[u8], name: u8, from: State, child: u8) -> Moved
+#[tactic(auto, unfolding(crate::specs::Run::move_in))]
+pub fn move_in(table: &[u8], name: u8, from: State, child: u8) -> Option<State>
     ensures { result ≡ move_in (entry_of table.now name) from child }
 {
-    let row = row_of(table, name);
-    if is_absent(row) {
-        return Moved::Nowhere;
-    }
-    let count = entry(row, COUNT, 0) as usize;
-    step(count, factors_in(row), modes_in(row), child, from)
+    let model = model_of(table, name)?;
+    step(model.chain(), child, from)
 }
 
 // Whether the element may be closed.
+#[tactic(auto, unfolding(crate::specs::Run::may_close))]
 pub fn may_close(table: &[u8], name: u8, from: State) -> bool
     ensures { result ≡ may_close (entry_of table.now name) from }
 {
-    let row = row_of(table, name);
-    if is_absent(row) {
-        return false;
-    }
-    let count = entry(row, COUNT, 0) as usize;
-    may_end(count, modes_in(row), from)
+    model_of(table, name).is_some_and(|model| may_end(model.chain(), from))
 }
 
 // Whether text may be in the element.
+#[tactic(auto, unfolding(crate::specs::Run::allows_text))]
 pub fn allows_text(table: &[u8], name: u8) -> bool
     ensures { result ≡ allows_text (entry_of table.now name) }
 {
-    let row = row_of(table, name);
-    if is_absent(row) {
-        return false;
-    }
-    entry(row, TEXT, 0) == 1
+    model_of(table, name).is_some_and(|model| model.text() == 1)
 }

@@ -1,7 +1,7 @@
 -- A means: what the pass over the factors of one chain says of the steps of another; `told_yes` and `told_no` in
 -- crates/model_within/proofs/Turns.antt join it to `within`.
 -- Assumes nothing.
-use Rattle.std.specs.Prelude.{ℕ, ◌<◌, ◌≡◌, true, false, cond, List, ◌⊎◌, ltb, get_or}
+use Rattle.std.specs.Prelude.{ℕ, ◌<◌, ◌≡◌, true, false, cond, List, Option, None, Some, Result, Ok, Err, ◌⊎◌, ltb, get_or}
 use Rattle.nameset.specs.Places.{places}
 use Rattle.model.specs.declared.Chain.{Chain}
 use Rattle.model.specs.Record.{IsChain}
@@ -10,13 +10,10 @@ use Rattle.model_language.specs.Step.{optional, repeats, Step, Includes}
 use Rattle.model_inclusion.specs.Spans.{Spans}
 use Rattle.model_places.specs.declared.Spot.{Spot}
 use Rattle.model_places.specs.declared.Spot.TheVariants.{Start, Name}
+use Rattle.model_places.specs.declared.Step.{Step as Arrow}
 use Rattle.model_places.specs.Places.{point, has_step}
 use Rattle.model_within.specs.declared.Frontier.{Frontier}
 use Rattle.model_within.specs.declared.Span.{Span}
-use Rattle.model_within.specs.declared.Passing.{Passing}
-use Rattle.model_within.specs.declared.Passing.TheVariants.{On, Stuck}
-use Rattle.model_within.specs.declared.Compared.{Compared}
-use Rattle.model_within.specs.declared.Compared.TheVariants.{Included, Apart}
 
 -- Two chains over the same names, with rows that have each factor's lowest and highest name.
 pub record Comparable (m k : Chain) (low high : List ℕ) : Type 0 where
@@ -33,19 +30,24 @@ spot_at x = cond (ltb x places) (Name x) Start
 unfoldable pub low_next : ℕ → ℕ → ℕ → ℕ
 low_next mode low lo = cond (optional mode) low lo
 
+-- k has the step from u to v; or the step that is told is this one, and k does not have it.
+abbrev pub Needed : Chain → Spot → Spot → Result (Unit {0}) Arrow → Type 0
+Needed k u v (Ok e) = has_step k (point u) (point v) ≡ true
+Needed k u v (Err t) = (has_step k (point u) (point v) ≡ false) × (t.from ≡ u) × (t.to ≡ v)
+
 -- k has the three steps into a factor of this mode that are asked for, and n is the frontier behind it; or it does not
--- have the step from u to v, which is one of the three.
-abbrev pub PassedBy : Chain → Frontier → Span → ℕ → Passing → Type 0
-PassedBy k g s mode (On n) =
+-- have the step t, which is one of the three.
+abbrev pub PassedBy : Chain → Frontier → Span → ℕ → Result Frontier Arrow → Type 0
+PassedBy k g s mode (Ok n) =
     (has_step k (point (spot_at g.low)) (name s.high) ≡ true) × (has_step k (point (spot_at g.high)) (name s.low) ≡ true)
     × (repeats mode ≡ true → has_step k (name s.high) (name s.low) ≡ true)
     × (n.low ≡ low_next mode g.low s.low) × (n.high ≡ s.high)
-PassedBy k g s mode (Stuck u v) =
-    (has_step k (point u) (point v) ≡ false)
-    × (((u ≡ spot_at g.low) × (v ≡ Name s.high))
-    ⊎ (((u ≡ spot_at g.high) × (v ≡ Name s.low)) ⊎ ((u ≡ Name s.high) × (v ≡ Name s.low) × (repeats mode ≡ true))))
+PassedBy k g s mode (Err t) =
+    (has_step k (point t.from) (point t.to) ≡ false)
+    × (((t.from ≡ spot_at g.low) × (t.to ≡ Name s.high))
+    ⊎ (((t.from ≡ spot_at g.high) × (t.to ≡ Name s.low)) ⊎ ((t.from ≡ Name s.high) × (t.to ≡ Name s.low) × (repeats mode ≡ true))))
 
--- Every step of m is a step of k, or the step from u to v is one of m and not one of k.
-abbrev pub Told : Chain → Chain → Compared → Type 0
-Told m k Included = Includes m k
-Told m k (Apart u v) = Step m (point u) (point v) × (Step k (point u) (point v) → ⊥)
+-- Every step of m is a step of k, or the step that is told is one of m and not one of k.
+abbrev pub Told : Chain → Chain → Option Arrow → Type 0
+Told m k None = Includes m k
+Told m k (Some t) = Step m (point t.from) (point t.to) × (Step k (point t.from) (point t.to) → ⊥)

@@ -1,3 +1,4 @@
 pub mod Table
 pub mod Classes
+pub mod Bytes
 pub mod Words

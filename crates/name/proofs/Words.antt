@@ -1,18 +1,17 @@
 -- The bytes of words: a name is made of them, a byte's class tells them, and no sign of a declaration is one.
 -- Assumes nothing.
 use Prim.Native.Nat.{ℕ, zero, suc, ◌≤◌, ◌<◌}
-use mathlib.Core.Path.{◌≡◌, refl, sym, ◌∙◌}
+use mathlib.Core.Path.{◌≡◌, refl}
 use mathlib.Core.Bool.{Bool, true, false, ◌&&◌, false≢true}
 use mathlib.Core.List.{List, [], ◌∷◌}
 use native.Mathlib.Omega.{arith}
 use native.Mathlib.Nat.{le_of_suc-le-suc}
-use lib.Dec.{eqb, leb}
+use lib.Dec.{leb}
 use lib.ListN.{length, get_or}
 use borrow.Author.Tests.{leb-true}
-use Rattle.name.specs.Class.{between, start_byte, later_byte, class_of}
+use Rattle.name.specs.Class.{between, start_byte, later_byte}
 use Rattle.name.specs.Rule.{longest_name, good_length, all_later, good_bytes, is_name}
 use Rattle.name.specs.Word.{word_byte}
-use Rattle.name.proofs.Classes.{class_neither, class_later}
 
 both : (a b : Bool) → (a && b) ≡ true → (a ≡ true) × (b ≡ true)
 both true b e = (refl, e)
@@ -22,14 +21,6 @@ both false b e = absurd (false≢true e)
 later_word : (byte : ℕ) → later_byte byte ≡ true → word_byte byte ≡ true
 unfolding word_byte
 later_word byte e = rw e
-
--- a byte's class tells whether it is in words: any of a name, and of the others `#` alone
-pub class_word : (class byte : ℕ) → class ≡ class_of byte → (class ≡ 0 → ⊥) → true ≡ word_byte byte
-class_word class byte e n = sym (later_word byte (class_later byte (λ q. n (e ∙ q))))
-
-pub class_no_word : (class byte : ℕ) → class ≡ class_of byte → class ≡ 0 → eqb byte 35 ≡ word_byte byte
-unfolding word_byte
-class_no_word class byte e z = rw (class_neither byte (sym e ∙ z))
 
 -- ---- a name
 

@@ -2,7 +2,7 @@
 #![tactic(auto)]
 
 ghost use Rattle.std.specs.Prelude.{◌≡◌};
-ghost use Rattle.name.specs.Class.{class_of, class_table};
+ghost use Rattle.name.specs.Class.{start_byte, later_byte, class_of, class_table};
 ghost use Rattle.name.specs.Rule.{good_length, good_bytes, is_name};
 ghost use Rattle.name.specs.Word.{word_byte};
 
@@ -14,8 +14,8 @@ const NEITHER: u8 = 0;
 
 const START: u8 = 2;
 
-// `#`, with which the word `#PCDATA` begins.
-const HASH: u8 = 35;
+// With it the word `#PCDATA` begins.
+const HASH: u8 = b'#';
 
 // The class of each byte value: 0 neither, 1 later only, 2 start.
 const CLASSES: [u8; 256] = [
@@ -30,6 +30,7 @@ const CLASSES: [u8; 256] = [
 ];
 
 // The whole table. It is made again wherever it is asked for, so a loop asks once and lends it.
+#[tactic(auto, unfolding(crate::specs::Class::class_table))]
 pub fn class_table() -> [u8; 256]
     ensures { result ≡ class_table }
 {
@@ -37,6 +38,7 @@ pub fn class_table() -> [u8; 256]
 }
 
 // The class of a byte by the table.
+#[tactic(auto, using(crate::proofs::Table::at_byte))]
 fn class_in(classes: &[u8; 256], byte: u8) -> u8
     requires { classes.now ≡ class_table }
     ensures { result ≡ class_of byte }
@@ -44,25 +46,39 @@ fn class_in(classes: &[u8; 256], byte: u8) -> u8
     classes[byte as usize]
 }
 
+// Whether a name may start with a byte, by the table.
+#[tactic(auto, using(crate::proofs::Classes::start_class))]
+fn may_start(classes: &[u8; 256], byte: u8) -> bool
+    requires { classes.now ≡ class_table }
+    ensures { result ≡ start_byte byte }
+{
+    class_in(classes, byte) == START
+}
+
+// Whether a byte may stand later in a name, by the table.
+#[tactic(auto, using(crate::proofs::Classes::later_class))]
+fn may_follow(classes: &[u8; 256], byte: u8) -> bool
+    requires { classes.now ≡ class_table }
+    ensures { result ≡ later_byte byte }
+{
+    class_in(classes, byte) != NEITHER
+}
+
 // Whether a byte is one of those that words are made of, by the table.
+#[tactic(auto, unfolding(crate::specs::Word::word_byte))]
 pub fn in_word(classes: &[u8; 256], byte: u8) -> bool
     requires { classes.now ≡ class_table }
     ensures { result ≡ word_byte byte }
 {
-    if class_in(classes, byte) != NEITHER {
-        return true;
-    }
-    byte == HASH
+    may_follow(classes, byte) || byte == HASH
 }
 
 // Whether a name may have this many bytes.
+#[tactic(auto, using(std::proofs::lemmas::Bool::Decides::nat_tests), unfolding(crate::specs::Rule::good_length))]
 pub fn good_length(size: usize) -> bool
     ensures { result ≡ good_length size }
 {
-    if size < 1 {
-        return false;
-    }
-    size <= LONGEST
+    1 <= size && size <= LONGEST
 }
 
 // Whether the bytes are those of a name, its length aside, by the table.
@@ -70,20 +86,12 @@ fn good_bytes_in(classes: &[u8; 256], bytes: &[u8]) -> bool
     requires { classes.now ≡ class_table }
     ensures { result ≡ good_bytes bytes.now }
 {
-    if bytes.len() == 0 {
-        return false;
-    }
-    if class_in(classes, bytes[0]) != START {
-        return false;
-    }
-    let mut i = 1;
-    while i < bytes.len() {
-        if class_in(classes, bytes[i]) == NEITHER {
-            return false;
+    match bytes.split_first() {
+        Some((first, later)) => {
+            may_start(classes, *first) && later.iter().all(|b| may_follow(classes, *b))
         }
-        i += 1;
+        None => false,
     }
-    true
 }
 
 // Whether the bytes are those of a name, its length aside.
@@ -94,13 +102,10 @@ pub fn good_bytes(bytes: &[u8]) -> bool
 }
 
 // Whether the bytes are a name, by the table.
+#[tactic(auto, unfolding(crate::specs::Rule::is_name))]
 pub fn is_name(classes: &[u8; 256], bytes: &[u8]) -> bool
     requires { classes.now ≡ class_table }
     ensures { result ≡ is_name bytes.now }
 {
-    if good_length(bytes.len()) {
-        good_bytes_in(classes, bytes)
-    } else {
-        false
-    }
+    good_length(bytes.len()) && good_bytes_in(classes, bytes)
 }

@@ -1,7 +1,7 @@
 -- The laws of the sets, for the proofs of callers: what members each operation gives, that sets with the same members
 -- are equal, that a set of code is `Sized` and stays so, the smallest member, and that a set without it is smaller.
 -- Assumes nothing.
-use Rattle.std.proofs.Common.{◌≡◌, ℕ, zero, suc, ◌+◌, ◌-◌, ◌/◌, ◌^◌, ◌<◌, ◌≤◌, Bool, true, false, not, ◌&&◌, ◌||◌, eqb, ltb, List, [], ◌∷◌, map, get_or, sym, ap, ◌∙◌, map-id, lt_of_le_of_lt, div-le_self, arith, pow_pos, le-ltb, lt-ltb, eq-eqb, eqb-true}
+use Rattle.std.proofs.Common.{◌≡◌, ℕ, zero, suc, ◌+◌, ◌-◌, ◌/◌, ◌%◌, ◌^◌, ◌<◌, ◌≤◌, Bool, true, false, not, ◌&&◌, ◌||◌, eqb, ltb, List, [], ◌∷◌, map, get_or, sym, ap, ◌∙◌, map-id, lt_of_le_of_lt, div-le_self, arith, pow_pos, le-ltb, lt-ltb, eq-eqb, eqb-true}
 use native.Mathlib.Decide.{dec_lt}
 use lib.Bits.{bit_and, and_zero_l, and_le_l, xor_zero_l, xor_lt}
 use lib.Count.{count_trailing_zeros, trailing_le}
@@ -165,3 +165,12 @@ rest_bits s h =
 pub rest_smaller : (s : NameSet) → Sized s → is_empty s ≡ false → size (rest s) < size s
 unfolding size
 rest_smaller s h e = rw (rest_bits s h) (ones_cleared capacity s.bits (positive s e) h)
+
+-- one less, wrapped at 0, where the other side of the `&` is 0
+less_one : (n : ℕ) → n < 2 ^ 64 → bit_and n ((n + 18446744073709551615) % 18446744073709551616) ≡ bit_and n (n - 1)
+less_one zero h = and_zero_l 18446744073709551615 ∙ sym (and_zero_l 0)
+less_one (suc n) h = ap (bit_and (suc n)) (omega arith)
+
+-- as the code has it: the `&` with one less
+pub rest_lowered : (s : NameSet) → Sized s → record { bits = bit_and s.bits ((s.bits + 18446744073709551615) % 18446744073709551616) } ≡ rest s
+rest_lowered s h = same _ (rest s) (less_one s.bits h ∙ sym (rest_bits s h))

@@ -1,25 +1,24 @@
--- A loop over the members of a set, `while !left.is_empty()`: a turn has a member left, the smallest is its own, and the
--- next turn has the others.
+-- A loop over the members of a set, `for k in s.names()`: the name of a turn is the smallest member, the next turn has
+-- the others, and after the last turn none is left.
 -- Assumes nothing.
-use Rattle.std.proofs.Common.{◌≡◌, ℕ, ◌<◌, Bool, true, false, not, ◌&&◌, eqb, sym, ap, ◌∙◌}
-use borrow.Author.Tests.{not-true, not-false}
+use Rattle.std.proofs.Common.{◌≡◌, ℕ, ◌<◌, true, false, not, ◌&&◌, eqb, sym, ap, ◌∙◌}
 use Rattle.nameset.specs.declared.NameSet.{NameSet}
-use Rattle.nameset.specs.Set.{capacity, member, is_empty, size}
-use Rattle.nameset.specs.Promise.{Emptiness, Smallest, Shrunk}
+use Rattle.nameset.specs.Set.{capacity, member, size}
+use Rattle.nameset.specs.Names.{Given, Ended}
+use Rattle.nameset.proofs.Laws.{is_empty_none}
 
-module _ {left : NameSet} {none : Bool} (e : Emptiness left none) where
-  some_left : not none ≡ true → is_empty left ≡ false
-  some_left t = sym e.same ∙ not-true none t
+module _ {s t : NameSet} {k : ℕ} (g : Given s k t) where
+  pub given_member : (k < capacity) × (member s k ≡ true)
+  given_member = g.least.found g.some
 
-  pub turn_first : {k : ℕ} → not none ≡ true → Smallest left k → (k < capacity) × (member left k ≡ true)
-  turn_first t s = s.found (some_left t)
+  pub given_least : (j : ℕ) → j < k → member s j ≡ false
+  given_least = g.least.least
 
-  pub turn_fewer : {rest : NameSet} → not none ≡ true → Shrunk left rest → size rest < size left
-  turn_fewer t r = r.smaller (some_left t)
+  pub given_rest : (j : ℕ) → member t j ≡ (member s j && not (eqb k j))
+  given_rest j = g.others.members j ∙ ap (λ (i : ℕ). member s j && not (eqb i j)) (sym g.least.same)
 
-  -- after the last turn none is left
-  pub turns_done : not none ≡ false → (j : ℕ) → member left j ≡ false
-  turns_done t = e.none (not-false none t)
+  pub given_fewer : size t < size s
+  given_fewer = g.others.smaller g.some
 
-pub turn_rest : {left rest : NameSet} {k : ℕ} → Smallest left k → Shrunk left rest → (j : ℕ) → member rest j ≡ (member left j && not (eqb k j))
-turn_rest {left} {rest} {k} s r j = r.members j ∙ ap (λ (i : ℕ). member left j && not (eqb i j)) (sym s.same)
+pub none_left : {s t : NameSet} → Ended s t → (j : ℕ) → member s j ≡ false
+none_left {s} e = is_empty_none s e.none

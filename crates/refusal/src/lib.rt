@@ -1,9 +1,9 @@
-// Why a call stopped, and how a call ended.
+// Why a call stopped.
 #![tactic(auto)]
 
 ghost use Rattle.std.specs.Prelude.{◌≡◌};
 ghost use Rattle.refusal.specs.Table.{number_of};
-ghost use Rattle.refusal.specs.Answer.{outcome_number};
+ghost use Rattle.refusal.specs.Answer.{answer_number};
 
 // One variant for each number of papers 01 and 02, by rising number. The comments are the refusals' texts:
 // tests/refusals_check.py compares every other place that has a number, a name or a text with this list.
@@ -49,13 +49,6 @@ pub enum Refusal {
     TooDeep,
 }
 
-// How a call ended, where its answer's values stand beside it.
-#[derive(Clone, Copy)]
-pub enum Outcome {
-    Done,
-    Refused(Refusal),
-}
-
 // The answer of a call for a yes or no, or why it stopped.
 #[derive(Clone, Copy)]
 pub enum Acceptance {
@@ -92,11 +85,11 @@ pub fn number(refusal: Refusal) -> u8
 }
 
 // The number of the refusal, or 0 where the call was not refused.
-pub fn outcome_number(outcome: Outcome) -> u8
-    ensures { result ≡ outcome_number outcome }
+pub fn answer_number<T>(answer: &Result<T, Refusal>) -> u8
+    ensures { result ≡ answer_number answer.now }
 {
-    match outcome {
-        Outcome::Done => 0,
-        Outcome::Refused(refusal) => number(refusal),
+    match answer {
+        Ok(_) => 0,
+        Err(refusal) => number(*refusal),
     }
 }

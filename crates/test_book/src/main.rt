@@ -8,16 +8,15 @@ ghost use Rattle.std.specs.Prelude.{◌≤◌, length};
 ghost use Rattle.book.specs.Book.{longest_book};
 ghost use Rattle.book.specs.Access.{LaidOut};
 
-use book::{Found, HEAD_SIZE, Layout, TEXT_AT};
-use book_blocks::{BlockStep, block_at};
+use book::{HEAD_SIZE, Layout, TEXT_AT};
+use book_blocks::block_at;
 use book_bytes::wide;
-use refusal::Outcome;
 use std::io;
 
-fn print_found(rt: &impl Print, found: Found) -> io::Result<()> {
+fn print_found(rt: &impl Print, found: Option<usize>) -> io::Result<()> {
     match found {
-        Found::At(i) => test_lines::print_number(rt, i),
-        Found::Nothing => test_lines::print(rt, b"-"),
+        Some(i) => test_lines::print_number(rt, i),
+        None => test_lines::print(rt, b"-"),
     }
 }
 
@@ -28,11 +27,11 @@ fn print_blocks(rt: &impl Print, bytes: &[u8], layout: Layout) -> io::Result<()>
     let mut at = layout.body;
     for _ in 0..layout.blocks {
         match block_at(bytes, layout.names, at) {
-            BlockStep::Block(size) => {
+            Ok(size) => {
                 print_block(rt, wide(bytes[at]), wide(bytes[at + TEXT_AT]), size)?;
                 at = at + HEAD_SIZE + size;
             }
-            BlockStep::Stopped(_) => {
+            Err(_) => {
                 return Ok(());
             }
         }
@@ -56,18 +55,12 @@ fn print_head(
 }
 
 fn print_case(rt: &impl Print, label: &[u8], bytes: &[u8], text: &[u8]) -> io::Result<()> {
-    let reading = book_reading::take_book(bytes);
-    let outcome = reading.outcome;
-    let layout = reading.layout;
-    print_head(
-        rt,
-        label,
-        refusal::outcome_number(outcome),
-        layout.names,
-        layout.blocks,
-    )?;
-    if let Outcome::Done = outcome {
-        print_rest(rt, bytes, layout, text)?;
+    match book_reading::take_book(bytes) {
+        Ok(layout) => {
+            print_head(rt, label, 0, layout.names, layout.blocks)?;
+            print_rest(rt, bytes, layout, text)?;
+        }
+        Err(refusal) => print_head(rt, label, refusal::number(refusal), 0, 0)?,
     }
     println!(rt)
 }

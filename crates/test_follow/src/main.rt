@@ -48,8 +48,8 @@ fn print_row(rt: &impl Print, row: &[u64]) -> io::Result<()>
 // The facts of a parent, with the number of the refusal, 0 for none.
 fn print_parent(rt: &impl Print, bytes: &[u8], parent: usize) -> io::Result<()> {
     let mut row = [0u64; ROW];
-    let reading = follow_parent::take_parent(bytes, parent, &mut row);
-    let number = refusal::outcome_number(reading.outcome);
+    let taken = follow_parent::take_parent(bytes, parent, &mut row);
+    let number = refusal::answer_number(&taken);
     println!(rt; "parent {parent} {number}")?;
     print_row(rt, &row)
 }

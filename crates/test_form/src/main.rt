@@ -10,6 +10,7 @@
 #![tactic(auto)]
 
 use std::io;
+use test_lines::Lines;
 
 // One line.
 fn tell(rt: &impl Print, text: &[u8]) -> io::Result<()> {
@@ -18,10 +19,8 @@ fn tell(rt: &impl Print, text: &[u8]) -> io::Result<()> {
 }
 
 fn tell_lines(rt: &impl Print, text: &[u8]) -> io::Result<()> {
-    let mut i = 0;
-    while i < text.len() {
-        tell(rt, test_lines::line_at(text, i))?;
-        i = test_lines::next_line(text, i);
+    for line in Lines::of(text) {
+        tell(rt, line)?;
     }
     Ok(())
 }

@@ -1,21 +1,28 @@
 -- A line of a text, byte by byte.
 -- Assumes nothing.
-use Rattle.std.proofs.Common.{ℕ, ◌+◌, ◌-◌, ◌≤◌, ◌<◌, ◌≡◌, refl, ap, Bool, true, false, List, [], ◌∷◌, length, get_or, drop, arith, add-one, eqb, drop-cons, eq-eqb, ne_eqb}
-use Rattle.std.proofs.Math.ListN.{take, drop_of_length-le}
+use Rattle.std.proofs.Common.{ℕ, ◌+◌, ◌-◌, ◌≤◌, ◌≡◌, refl, ap, ◌∙◌, Bool, true, false, not, cond, List, [], ◌∷◌, length, drop, take, arith, eqb, ◌==◌}
+use Rattle.std.specs.List.{prefix_len}
+use Rattle.std.proofs.lemmas.List.{length-drop, take_rest}
+use Rattle.std.proofs.lemmas.List.Sums.{prefix_len-le-length}
 use Rattle.test_lines.specs.Lines.{first_line, line_end}
 
-module _ (s : List ℕ) (i : ℕ) where
-  pub end_here : i < length s → get_or s i 0 ≡ 10 → line_end s i ≡ i
-  unfolding line_end first_line
-  end_here h e = rw (drop-cons s i 0 h, eq-eqb (get_or s i 0) 10 e) (omega arith)
+-- the bytes before the first line feed are the first line
+line_prefix : (t : List ℕ) → prefix_len (λ b. not (b == 10)) t ≡ length (first_line t)
+unfolding first_line
+line_prefix [] = refl
+line_prefix (b ∷ t) = go (eqb b 10) (line_prefix t)
+  where
+    go : (c : Bool) → prefix_len (λ b. not (b == 10)) t ≡ length (first_line t) → cond (not c) (1 + prefix_len (λ b. not (b == 10)) t) 0 ≡ length (cond c [] (b ∷ first_line t))
+    go true e = refl
+    go false e = omega arith
 
-  pub end_further : i < length s → ¬ (get_or s i 0 ≡ 10) → line_end s i ≡ line_end s (i + 1)
-  unfolding line_end first_line
-  end_further h n = rw (add-one, drop-cons s i 0 h, ne_eqb (get_or s i 0) 10 n) (omega arith)
-
-  pub end_last : length s ≤ i → line_end s i ≡ i
-  unfolding line_end first_line
-  end_last h = rw (drop_of_length-le s h) (omega arith)
+pub end_is : (s : List ℕ) (at n : ℕ) → at ≤ length s → n ≡ prefix_len (λ b. not (b == 10)) (take (length s - at) (drop at s)) →
+    (at + n ≡ line_end s at) × (at ≤ at + n) × (at + n ≤ length s)
+unfolding line_end
+end_is s at n h e =
+    let p : ℕ → Bool = λ b. not (b == 10) in
+    let d : n ≡ prefix_len p (drop at s) = e ∙ ap (prefix_len p) (take_rest s at) in
+    (ap (λ (k : ℕ). at + k) (d ∙ line_prefix (drop at s)), omega arith, omega (arith, d, prefix_len-le-length p (drop at s), length-drop at s))
 
 -- the first line is as many bytes from the front as it has
 pub first_taken : (s : List ℕ) → take (length (first_line s)) s ≡ first_line s

@@ -5,7 +5,9 @@
 // `tests/reading_cases.py` has the texts and what is due of each.
 #![tactic(auto)]
 
-use declaration_record::Declaration;
+use declaration_spelling::Declared;
+use model::Model;
+use refusal::Refusal;
 use std::io;
 
 // How many names the book has.
@@ -39,15 +41,19 @@ fn unused_book() -> [u8; 24] {
 }
 
 // One line.
-fn tell(rt: &impl Print, read: Declaration, text: &[u8]) -> io::Result<()> {
-    let number = refusal::outcome_number(read.outcome);
-    let parent = read.parent;
-    let count = read.model.chain.count;
-    let has_text = read.model.text;
+fn tell(rt: &impl Print, read: Result<Declared, Refusal>, text: &[u8]) -> io::Result<()> {
+    let number = refusal::answer_number(&read);
+    let due = Declared {
+        parent: 0,
+        model: Model::empty(),
+    };
+    let Declared { parent, model } = read.unwrap_or(due);
+    let count = model.chain.count;
+    let has_text = model.text;
     print!(rt; "{number} {parent} {count} {has_text} | ")?;
-    test_lines::print_row(rt, &read.model.chain.factor, NAMES)?;
+    test_lines::print_row(rt, &model.chain.factor, NAMES)?;
     print!(rt; "| ")?;
-    test_lines::print_row(rt, &read.model.chain.mode, NAMES)?;
+    test_lines::print_row(rt, &model.chain.mode, NAMES)?;
     test_lines::print_text(rt, text)
 }
 

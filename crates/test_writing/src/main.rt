@@ -2,8 +2,10 @@
 // buffer: a dot where nothing was written.
 #![tactic(auto)]
 
-use declaration_writing::Written;
+ghost use Rattle.std.specs.Prelude.{◌<◌, ◌^◌};
+
 use model::{Chain, Model};
+use refusal::Refusal;
 use std::io;
 
 // The names a, b and c, and one block: a with the children b and c.
@@ -94,46 +96,19 @@ fn model(chain: Chain, text: u8) -> Model {
 }
 
 // One line: how the call ended, and the whole buffer.
-fn report(rt: &impl Print, written: Written, buffer: &[u8]) -> io::Result<()> {
-    let number = refusal::outcome_number(written.outcome);
-    let length = written.length;
+fn report(rt: &impl Print, written: Result<usize, Refusal>, buffer: &[u8]) -> io::Result<()> {
+    let number = refusal::answer_number(&written);
+    let length = written.unwrap_or(0);
     print!(rt; "{number} {length} ")?;
     test_lines::print(rt, buffer)?;
     println!(rt)
 }
 
-fn in_40(rt: &impl Print, book: &[u8], parent: usize, m: Model) -> io::Result<()> {
-    let mut buffer = [b'.'; 40];
-    let written = declaration_writing::write_declaration(book, parent, m, &mut buffer);
-    report(rt, written, &buffer)
-}
-
-fn in_17(rt: &impl Print, book: &[u8], parent: usize, m: Model) -> io::Result<()> {
-    let mut buffer = [b'.'; 17];
-    let written = declaration_writing::write_declaration(book, parent, m, &mut buffer);
-    report(rt, written, &buffer)
-}
-
-fn in_16(rt: &impl Print, book: &[u8], parent: usize, m: Model) -> io::Result<()> {
-    let mut buffer = [b'.'; 16];
-    let written = declaration_writing::write_declaration(book, parent, m, &mut buffer);
-    report(rt, written, &buffer)
-}
-
-fn in_2252(rt: &impl Print, book: &[u8], parent: usize, m: Model) -> io::Result<()> {
-    let mut buffer = [b'.'; 2252];
-    let written = declaration_writing::write_declaration(book, parent, m, &mut buffer);
-    report(rt, written, &buffer)
-}
-
-fn in_2253(rt: &impl Print, book: &[u8], parent: usize, m: Model) -> io::Result<()> {
-    let mut buffer = [b'.'; 2253];
-    let written = declaration_writing::write_declaration(book, parent, m, &mut buffer);
-    report(rt, written, &buffer)
-}
-
-fn in_2260(rt: &impl Print, book: &[u8], parent: usize, m: Model) -> io::Result<()> {
-    let mut buffer = [b'.'; 2260];
+// A declaration written into a buffer of N bytes.
+fn write_in<const N: usize>(rt: &impl Print, book: &[u8], parent: usize, m: Model) -> io::Result<()>
+    requires { N < 2 ^ 63 }
+{
+    let mut buffer = [b'.'; N];
     let written = declaration_writing::write_declaration(book, parent, m, &mut buffer);
     report(rt, written, &buffer)
 }
@@ -141,60 +116,60 @@ fn in_2260(rt: &impl Print, book: &[u8], parent: usize, m: Model) -> io::Result<
 // The declaration fits, or it does not.
 fn written_cases(rt: &impl Print) -> io::Result<()> {
     let book = small_book();
-    in_40(rt, &book, 0, model(empty(), 0))?;
-    in_40(rt, &book, 2, model(one_name(1), 0))?;
-    in_17(rt, &book, 2, model(one_name(1), 0))
+    write_in::<40>(rt, &book, 0, model(empty(), 0))?;
+    write_in::<40>(rt, &book, 2, model(one_name(1), 0))?;
+    write_in::<17>(rt, &book, 2, model(one_name(1), 0))
 }
 
 fn short_cases(rt: &impl Print) -> io::Result<()> {
     let book = small_book();
-    in_16(rt, &book, 2, model(one_name(1), 0))?;
-    in_40(rt, &book, 1, model(two_factors(), 0))
+    write_in::<16>(rt, &book, 2, model(one_name(1), 0))?;
+    write_in::<40>(rt, &book, 1, model(two_factors(), 0))
 }
 
 // Text and no name.
 fn text_cases(rt: &impl Print) -> io::Result<()> {
     let book = small_book();
-    in_40(rt, &book, 0, model(empty(), 1))?;
-    in_16(rt, &book, 0, model(empty(), 1))
+    write_in::<40>(rt, &book, 0, model(empty(), 1))?;
+    write_in::<16>(rt, &book, 0, model(empty(), 1))
 }
 
 // Text among names, and the same names without text.
 fn mixed_cases(rt: &impl Print) -> io::Result<()> {
     let book = small_book();
-    in_40(rt, &book, 2, model(one_name(3), 1))?;
-    in_40(rt, &book, 2, model(two_names(3), 1))?;
-    in_40(rt, &book, 2, model(two_names(3), 0))
+    write_in::<40>(rt, &book, 2, model(one_name(3), 1))?;
+    write_in::<40>(rt, &book, 2, model(two_names(3), 1))?;
+    write_in::<40>(rt, &book, 2, model(two_names(3), 0))
 }
 
 // Text beside two factors, beside a factor without a star, and a text byte of 2.
 fn bad_text_cases(rt: &impl Print) -> io::Result<()> {
     let book = small_book();
-    in_40(rt, &book, 1, model(two_factors(), 1))?;
-    in_40(rt, &book, 2, model(two_names(2), 1))?;
-    in_40(rt, &book, 2, model(two_names(3), 2))
+    write_in::<40>(rt, &book, 1, model(two_factors(), 1))?;
+    write_in::<40>(rt, &book, 2, model(two_names(2), 1))?;
+    write_in::<40>(rt, &book, 2, model(two_names(3), 2))
 }
 
 // 8 before 10, 10 before 12.
 fn parent_cases(rt: &impl Print) -> io::Result<()> {
     let book = small_book();
-    in_40(rt, &book, 3, model(two_factors(), 0))?;
-    in_40(rt, &book, 256, model(two_factors(), 0))?;
-    in_16(rt, &book, 3, model(pairs(), 0))
+    write_in::<40>(rt, &book, 3, model(two_factors(), 0))?;
+    write_in::<40>(rt, &book, 256, model(two_factors(), 0))?;
+    write_in::<16>(rt, &book, 3, model(pairs(), 0))
 }
 
 fn record_cases(rt: &impl Print) -> io::Result<()> {
     let book = small_book();
-    in_16(rt, &book, 0, model(pairs(), 0))?;
-    in_16(rt, &book, 0, model(empty(), 2))
+    write_in::<16>(rt, &book, 0, model(pairs(), 0))?;
+    write_in::<16>(rt, &book, 0, model(empty(), 2))
 }
 
 // The book is checked first.
 fn book_cases(rt: &impl Print) -> io::Result<()> {
     let cut = cut_book();
-    in_16(rt, &cut, 3, model(pairs(), 0))?;
+    write_in::<16>(rt, &cut, 3, model(pairs(), 0))?;
     let unused = unused_book();
-    in_16(rt, &unused, 3, model(pairs(), 0))
+    write_in::<16>(rt, &unused, 3, model(pairs(), 0))
 }
 
 // The longest declaration, in a buffer that is one byte short, one that it fills, and a longer one.
@@ -208,7 +183,7 @@ fn main(rt: HostRuntime) -> io::Result<()> {
     record_cases(&rt)?;
     book_cases(&rt)?;
     let book = test_lines::read_input(&rt)?;
-    in_2252(&rt, &book, 63, model(pairs(), 0))?;
-    in_2253(&rt, &book, 63, model(pairs(), 0))?;
-    in_2260(&rt, &book, 63, model(pairs(), 0))
+    write_in::<2252>(&rt, &book, 63, model(pairs(), 0))?;
+    write_in::<2253>(&rt, &book, 63, model(pairs(), 0))?;
+    write_in::<2260>(&rt, &book, 63, model(pairs(), 0))
 }

@@ -4,4 +4,4 @@ use Rattle.book.proofs.Taken.{laid}
 use Rattle.test_book.proofs.print_case.Goals as goal
 
 pub print_rest-requires : goal.print_rest-requires
-print_rest-requires g c = laid _ _ c.take_book-reading.ensures c.in-Done.is
+print_rest-requires g c = laid _ _ c.in-Ok.ensures

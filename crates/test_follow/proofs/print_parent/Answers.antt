@@ -5,5 +5,5 @@ use Rattle.follow_row.specs.Row.{row_size}
 use Rattle.follow_row.proofs.Keeps.{row_none}
 use Rattle.test_follow.proofs.print_parent.Goals as goal
 
-pub take_parent-reading-requires : goal.take_parent-reading-requires
-take_parent-reading-requires g c = row_none _ row_size refl
+pub take_parent-taken-requires : goal.take_parent-taken-requires
+take_parent-taken-requires g c = row_none _ row_size refl
