@@ -1,4 +1,5 @@
--- A means: the verdict at the end of a walk. `walk_pairs` promises what `walk` of crates/document/specs/Walk.antt answers.
+-- A means: the verdict at the end of a walk. `walk_pairs` promises what `walk` answers, of
+-- crates/document/specs/Walk.antt.
 -- Assumes nothing.
 use Rattle.std.specs.Prelude.{ℕ, ◌≡◌, Bool, List}
 use Rattle.refusal.specs.declared.Acceptance.{Acceptance}

@@ -1,6 +1,6 @@
 -- `walk_pairs` meets its contract.
 -- Assumes nothing.
-use Rattle.std.proofs.Common.{ℕ, ◌≡◌, ◌≤◌, ◌<◌, ◌+◌, ◌*◌, ◌%◌, ◌∙◌, refl, ap, length, arith, Ok}
+use Rattle.std.proofs.Common.{◌≡◌, ◌<◌, ◌+◌, ◌*◌, ◌%◌, ◌∙◌, refl, ap, length, arith, Ok}
 use Rattle.std.proofs.Math.ListN.{length-set}
 use Rattle.refusal.specs.Answer.{acceptance}
 use Rattle.document_step.specs.Step.{frame_at, place_at, outside}
@@ -28,7 +28,7 @@ loop-i-preserved c =
       | in-Open w ↦
           let told = c.in-Ok.is ∙ ap Ok w.in-Open.is in
           let room = has_room c.judge_pair.ensures told in
-          rw (w.frames-is, w.s-is, next, w.opening-s.ensures) (
+          rw (w.frames-is, w.s-is, next, w.opening-s.ensures, w.anew.ensures) (
             length-set _ _ _ ∙ l.invariant.0,
             omega arith,
             goes _ _ _ (2 * l.i) c.requires even within _ _ _ _ _ c.judge_pair.ensures told _ (after_open _ _ _ _ _ _ _ l.invariant.0 room) l.invariant.2,
@@ -36,7 +36,7 @@ loop-i-preserved c =
       | in-Close w ↦
           let told = c.in-Ok.is ∙ ap Ok w.in-Close.is in
           let room = has_room c.judge_pair.ensures told in
-          rw (w.frames-is, w.s-is, next) (
+          rw (w.frames-is, w.s-is, next, w.anew-s.ensures) (
             l.invariant.0,
             omega arith,
             goes _ _ _ (2 * l.i) c.requires even within _ _ _ _ _ c.judge_pair.ensures told _ (after_close _ _ _ _ _ _ room) l.invariant.2,
