@@ -395,8 +395,9 @@ program_dtd bytes b taken = ap output_of taken
 -- ==== paper 02, request U2
 
 -- "After each block the facts of every parent are exactly those that the blocks so far show": t is the table before a
--- block, which keeps the blocks bs, and u the table after it, as `gather_block` of crates/follow_table promises
--- (`Gathers Keeps`). Then the steps that u has for a parent are those that its words in bs and in this block show.
+-- block, which keeps the blocks bs, and u the table after it, as `gather_block` of crates/book_blocks promises where it
+-- gathers the facts of every parent (`Gathers Keeps`; `EachParent` of crates/follow_table). Then the steps that u has for
+-- a parent are those that its words in bs and in this block show.
 pub after_each_block : (n : ℕ) (bs : List Block) (block : Field Block) (t u : List ℕ) → n ≤ places →
     BlocksBelow n (bs ++ (block.value ∷ [])) → Keeps bs t → (call : Gathers Keeps (Ok block) t u) →
     (parent : ℕ) → parent < tabled → (x y : Point) →
