@@ -4,6 +4,7 @@
 ghost use Rattle.std.specs.Prelude.{◌≡◌, max, drop};
 ghost use Rattle.byte_row.specs.Largest.{largest};
 
+// The larger of two bytes.
 pub fn larger(a: u8, b: u8) -> u8
     ensures { result ≡ max a b }
 {
@@ -16,7 +17,7 @@ pub fn largest_from(row: &[u8], from: usize) -> u8
 {
     let mut top: u8 = 0;
     for x in &row[from.min(row.len())..] {
-        top = top.max(*x);
+        top = larger(top, *x);
     }
     top
 }

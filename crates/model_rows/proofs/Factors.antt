@@ -70,10 +70,16 @@ module _ (count : ℕ) (factor : List ℕ) (from : ℕ) where
   pub among_start : leb 0 count ≡ every_below from among
   among_start = le-leb 0 count (omega arith) ∙ sym ((all_law from among).1 (λ x l. rw (lt-ltb x from l)))
 
-  pub among_more : (x top v : ℕ) → x < length factor → from ≤ x → leb top count ≡ every_below x among → leb v count ≡ may_hold count true (get_or factor x 0)
+  pub among_more : (x top v : ℕ) → from ≤ x → leb top count ≡ every_below x among → leb v count ≡ may_hold count true (get_or factor x no_factor)
       → leb (max top v) count ≡ every_below (x + 1) among
   unfolding every_below
-  among_more x top v l h p q = rw (add-one x, both_most top v count, p, q, le-ltb x from h, get_or_default_zero factor x no_factor l)
+  among_more x top v h p q = rw (add-one x, both_most top v count, p, q, le-ltb x from h)
+
+  -- The same where the row has the entry: as the code reads it.
+  pub among_next : (x top v : ℕ) → x < length factor → from ≤ x → leb top count ≡ every_below x among → leb v count ≡ may_hold count true (get_or factor x 0)
+      → leb (max top v) count ≡ every_below (x + 1) among
+  among_next x top v l h p q =
+      among_more x top v h p (rw (get_or_default_zero factor x no_factor l) q)
 
   pub among_done : (x top : ℕ) → length factor ≤ x → leb top count ≡ every_below x among → leb top count ≡ every_below (length factor) among
   unfolding may_hold

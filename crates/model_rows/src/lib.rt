@@ -6,7 +6,7 @@ ghost use Rattle.model.specs.Record.{no_factor};
 ghost use Rattle.nameset.specs.Tests.{every_below};
 ghost use Rattle.model.specs.Check.{may_hold, may_be, all_placed, all_known};
 
-use byte_row::largest_from;
+use byte_row::{larger, largest_from};
 use model::NO_FACTOR;
 
 // An entry counted from 1, and 0 for none: it is at most F exactly where a name may have that entry.
@@ -19,13 +19,13 @@ fn counted(v: u8) -> u8
 
 // Whether each number from a place on is in one of the first `count` factors or in none. No early end: the loop runs
 // over many entries at once.
-#[tactic(auto, using(crate::proofs::Factors::among_start, crate::proofs::Factors::among_more, crate::proofs::Factors::among_done))]
+#[tactic(auto, using(crate::proofs::Factors::among_start, crate::proofs::Factors::among_next, crate::proofs::Factors::among_done))]
 fn all_among(count: usize, factor: &[u8], from: usize) -> bool
     ensures { result ≡ every_below (length factor.now) (λ x. ltb x from || may_hold count true (get_or factor.now x no_factor)) }
 {
     let mut top: u8 = 0;
     for x in from..factor.len() {
-        top = top.max(counted(factor[x]));
+        top = larger(top, counted(factor[x]));
     }
     (top as usize) <= count
 }

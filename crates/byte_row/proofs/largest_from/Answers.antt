@@ -8,7 +8,7 @@ pub loop-x-init : goal.loop-x-init
 loop-x-init c = most_begin _ _ _ c.min.ensures
 
 pub loop-x-preserved : goal.loop-x-preserved
-loop-x-preserved c = c.loop-x.invariant ∙ most_next _ _ _ _ c.loop-x-test.true c.max-top.ensures
+loop-x-preserved c = c.loop-x.invariant ∙ most_next _ _ _ _ c.loop-x-test.true c.larger-top.ensures
 
 pub returns : goal.returns
 returns c = sym (c.loop-x.invariant ∙ most_done _ _ _ c.loop-x-test.false)
