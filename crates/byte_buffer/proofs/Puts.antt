@@ -5,12 +5,8 @@ use mathlib.Core.Path.{◌≡◌, refl, sym, ◌∙◌, ap, subst}
 use mathlib.Core.List.{List, [], ◌∷◌, ◌++◌}
 use native.Mathlib.Omega.{arith}
 use native.Mathlib.Nat.{add-zero}
-use lib.ListN.{length, set, take, drop, length-set, length-append}
-use lib.Seq.{sets, sets-eq, length-sets, take-append_seam}
-use borrow.Rule.Slice.PartMut.{put_mid}
-use Rattle.std.proofs.Common.{append_assoc}
-use Rattle.std.proofs.lemmas.Slice.{put_mid-paste}
-use Rattle.std.proofs.lemmas.List.Edits.{paste_all}
+use lib.ListN.{length, get_or, set, take, drop, length-set, length-append}
+use lib.Seq.{sets, sets-eq, length-take-le, take_all, take-append_seam, take-suc}
 use borrow.Author.Tests.{ne_eqb}
 use Rattle.byte_buffer.specs.Put.{wrote, Put, shown}
 
@@ -79,17 +75,31 @@ left_last d₀ at whole d to piece d' to' l p =
 
 -- ---- bytes of a list
 
--- the part of the buffer from the place on, with the bytes in it
-pub put_over : (d : List ℕ) (at k : ℕ) (bytes ys : List ℕ) → ys ≡ bytes → k ≡ length bytes → at + length bytes ≤ length d →
-    Put d at bytes (at + length bytes) (put_mid at k d ys)
-unfolding wrote
-put_over d at k bytes ys e n h =
-    let holds : put_mid at k d ys ≡ sets d at bytes =
-    put_mid-paste at k d ys bytes (length bytes) e (sym n) refl
-    ∙ paste_all d at bytes (length bytes) refl
-    ∙ sym (sets-eq bytes d at h ∙ append_assoc (take at d) bytes (drop (at + length bytes) d))
-    in
-    record { place = refl; holds = holds; same = ap length holds ∙ length-sets d at bytes }
+-- the first j bytes of s stand in the buffer; shut, so that its arguments are found in a goal
+pub sofar : List ℕ → ℕ → List ℕ → ℕ → List ℕ
+sofar d at s j = wrote d at (take j s)
+
+pub sofar_none : (d : List ℕ) (at : ℕ) (s : List ℕ) → d ≡ sofar d at s 0
+unfolding sofar
+sofar_none d at s = sym (wrote_none d at)
+
+pub sofar_more : (d e : List ℕ) (at : ℕ) (s : List ℕ) (j : ℕ) → e ≡ sofar d at s j → j < length s → set e (at + j) (get_or s j 0) ≡ sofar d at s (j + 1)
+unfolding sofar wrote
+sofar_more d e at s j q h =
+    let o : j + 1 ≡ suc j = omega arith in
+    let l : length (take j s) ≡ j = length-take-le j s (omega arith) in
+    ap (λ (x : List ℕ). set x (at + j) (get_or s j 0)) q
+    ∙ ap (λ (k : ℕ). set (sets d at (take j s)) (at + k) (get_or s j 0)) (sym l)
+    ∙ sets_join (take j s) (get_or s j 0 ∷ []) d at
+    ∙ ap (sets d at) (sym (take-suc s j 0 h) ∙ ap (λ (k : ℕ). take k s) (sym o))
+
+pub sofar_all : (d e : List ℕ) (at : ℕ) (s : List ℕ) (j : ℕ) → e ≡ sofar d at s j → length e ≡ length d → j ≤ length s → length s ≤ j → Put d at s (at + j) e
+unfolding sofar
+sofar_all d e at s j q l h k = record { place = omega arith; holds = q ∙ ap (wrote d at) (take_all j s k); same = l }
+
+pub sofar_end : (d e : List ℕ) (at : ℕ) (s : List ℕ) (j : ℕ) → e ≡ sofar d at s j → length e ≡ length d → j ≡ length s → Put d at s (at + length s) e
+sofar_end d e at s j q l h =
+    subst (λ (k : ℕ). Put d at s (at + k) e) h (sofar_all d e at s j q l (omega arith) (omega arith))
 
 -- ---- one byte or none
 

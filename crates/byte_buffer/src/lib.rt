@@ -4,15 +4,15 @@
 ghost use Rattle.std.specs.Prelude.{◌+◌, ◌≤◌, length};
 ghost use Rattle.byte_buffer.specs.Put.{Put, shown};
 
-// All of the bytes.
-#[tactic(auto, using(crate::proofs::Puts::put_over))]
+// All of the bytes, one by one: with `copy_from_slice` the library for C would need `memmove` from outside.
 pub fn put_all(buffer: &mut [u8], at: usize, bytes: &[u8]) -> usize
     requires { at + length bytes.now ≤ length buffer.old }
     ensures { Put buffer.old at bytes.now result buffer.new }
 {
-    let to = at + bytes.len();
-    buffer[at..to].copy_from_slice(bytes);
-    to
+    for i in 0..bytes.len() {
+        buffer[at + i] = bytes[i];
+    }
+    at + bytes.len()
 }
 
 // One byte, or nothing for 0.

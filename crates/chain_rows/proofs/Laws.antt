@@ -1,6 +1,9 @@
 -- Laws of rows: a row that was put, a set name by name, and rows joined one after the other.
 -- Assumes nothing.
 use Prim.Native.Nat.{ℕ, ◌+◌, ◌≤◌, ◌<◌}
+use lib.ListN.{length, get_or, set, length-set}
+use Rattle.std.proofs.lemmas.List.{ext_get_or, get_or-set_other}
+use Rattle.std.proofs.lemmas.Grind.{get_or-set_at}
 use mathlib.Core.Path.{◌≡◌, refl, sym, ◌∙◌, ap}
 use mathlib.Core.Bool.{Bool, false, ◌&&◌, ◌||◌, or-false, or_assoc, and-true, and-false}
 use mathlib.Core.List.{List}
@@ -21,7 +24,7 @@ use Rattle.chain_levels.specs.Below.{any_below}
 use Rattle.chain_levels.proofs.Tests.{refuted}
 use Rattle.chain_peel.specs.Sets.{in_rows}
 use Rattle.chain_peel.proofs.Rows.{rows_none, rows_first}
-use Rattle.chain_rows.specs.Rows.{in_row, OnlyNames, among_rows}
+use Rattle.chain_rows.specs.Rows.{in_row, Copied, OnlyNames, among_rows}
 
 -- ---- rows
 
@@ -29,6 +32,27 @@ use Rattle.chain_rows.specs.Rows.{in_row, OnlyNames, among_rows}
 pub row_is : (rows : List ℕ) (a : ℕ) (s : NameSet) → s ≡ row_at rows a → (b : ℕ) → member s b ≡ in_row rows a b
 unfolding in_row
 row_is rows a s e b = ap (λ (t : NameSet). member t b) e
+
+-- The first a rows are the same.
+pub record Alike (old new : List ℕ) (a : ℕ) : Type 0 where
+  pub size : length new ≡ places
+  pub law : (k : ℕ) → k < a → get_or new k 0 ≡ get_or old k 0
+
+pub alike_none : (old new : List ℕ) → length new ≡ places → Alike old new 0
+alike_none old new h = record { size = h; law = λ k l. absurd (omega arith) }
+
+pub alike_more : (old new : List ℕ) (a : ℕ) → Alike old new a → a < places → Alike old (set new a (get_or old a 0)) (a + 1)
+alike_more old new a r h = record { size = simp length-set r.size; law = λ k l. at k l (ℕ_discrete k a) }
+  where
+    at : (k : ℕ) → k < a + 1 → Dec (k ≡ a) → get_or (set new a (get_or old a 0)) k 0 ≡ get_or old k 0
+    at k l (yes e) = get_or-set_at new a k (get_or old a 0) 0 e (omega (arith, r.size)) ∙ ap (λ (j : ℕ). get_or old j 0) (sym e)
+    at k l (no d) = get_or-set_other new a k (get_or old a 0) 0 d ∙ r.law k (omega arith)
+
+pub alike_all : (old new : List ℕ) (a : ℕ) → length old ≡ places → Alike old new a → places ≤ a → Copied old new
+alike_all old new a o r h = record { size = r.size; law = λ i b. ap (λ (rows : List ℕ). in_row rows i b) same }
+  where
+    same : new ≡ old
+    same = ext_get_or 0 new old (r.size ∙ sym o) (λ k l. r.law k (omega (arith, r.size)))
 
 pub put_same : (rows : List ℕ) (i : ℕ) (s : NameSet) (b : ℕ) → HasRow rows i → in_row (put_row rows i s) i b ≡ member s b
 unfolding in_row

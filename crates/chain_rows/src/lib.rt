@@ -32,13 +32,15 @@ pub fn pick(s: NameSet, wanted: NameSet) -> usize
     }
 }
 
-// A copy of rows.
+// A copy of rows, made row by row: see `put_all` of byte_buffer.
 pub fn copied(rows: &[u64]) -> [u64; ROWS]
     requires { IsRows places rows.now }
     ensures { Copied rows.now result }
 {
     let mut out = [0u64; ROWS];
-    out.copy_from_slice(rows);
+    for a in 0..ROWS {
+        out[a] = rows[a];
+    }
     out
 }
 
