@@ -11,6 +11,12 @@ locals, also of those that the compiler made. From a call for C on, these are fo
   result and no local is an array or has one in it, at any depth of structs and enums, and no such value is made behind
   a reference. A reference to an array is right.
 
+A generic function is followed as it is called: with the types and the impls that the call gives in the places of its
+parameters. So an array that is given as a type is found where it is taken, returned or made, and a method of an impl
+that is given, the body of a closure for example, counts as called where the generic function calls it. The MIR names
+the methods of each impl, for some impls none. What cannot be followed is an error: a parameter that nothing is given
+for, an impl that the MIR does not name, and one with a method that is no function there.
+
 Not seen is a record that is kept in another way than by arrays, for example in many fields of one number each.
 
 Usage: python3 tests/copies_check.py
@@ -48,7 +54,10 @@ class Unreadable(Exception):
 
 
 # What is raised where it is not.
-NOT_AS_EXPECTED = (Unreadable, ValueError, LookupError, TypeError)
+NOT_AS_EXPECTED = (Unreadable, ValueError, LookupError, TypeError, RecursionError)
+
+# More text than this for what a call gives means that generic functions call each other without end.
+MOST_GIVEN = 20000
 
 
 def kind_of(node):
@@ -90,13 +99,17 @@ def shown(kind):
     return data[0]["name"] if word == "Named" else data[0] if word == "Struct" else word
 
 
-def with_arguments(kind, arguments):
-    """A type with these in the places of its parameters."""
-    if isinstance(kind, dict) and kind.keys() == {"Param"}:
-        return arguments[kind["Param"]]
-    if isinstance(kind, dict):
-        return {word: with_arguments(data, arguments) for word, data in kind.items()}
-    return [with_arguments(part, arguments) for part in kind] if isinstance(kind, list) else kind
+def with_arguments(part, arguments):
+    """A type or a body with these in the places of its parameters: types for `Param`, methods for `Given`."""
+    if isinstance(part, list):
+        return [with_arguments(inner, arguments) for inner in part]
+    if not isinstance(part, dict):
+        return part
+    for word in arguments.keys() & part.keys():
+        if part[word] >= len(arguments[word]):
+            raise Unreadable(f"nothing is given for the parameter {part}")
+        return arguments[word][part[word]]
+    return {word: with_arguments(data, arguments) for word, data in part.items()}
 
 
 class Types:
@@ -118,7 +131,7 @@ class Types:
             return [data[1]]
         if word != "Named" or data[0]["name"] not in self.fields:
             raise Unreadable(f"{shown(kind)} is no struct or enum that is known")
-        return with_arguments(self.fields[data[0]["name"]], data[1])
+        return with_arguments(self.fields[data[0]["name"]], {"Param": data[1]})
 
     def has_array(self, kind):
         word, _ = kind_of(kind)
@@ -126,8 +139,7 @@ class Types:
             return True
         if word in ("Struct", "Named"):
             return any(self.has_array(field) for fields in self.variants(kind) for field in fields)
-        # What stands for a parameter of a generic function is looked at where it is called.
-        if word in ("Int", "Float", "Bool", "Unit", "Ref", "Ptr", "Param"):
+        if word in ("Int", "Float", "Bool", "Unit", "Ref", "Ptr"):
             return False
         raise Unreadable(f"the type {shown(kind)} is not known")
 
@@ -153,9 +165,10 @@ class Types:
 # ---- functions
 
 class Function:
-    def __init__(self, name, item):
-        self.name, self.parameters, self.body = name, item["params"], item["body"]
-        self.locals = [local["ty"] for local in item["locals"]]
+    def __init__(self, name, item, types, dicts):
+        given = {"Param": types, "Given": dicts}
+        self.name, self.parameters, self.body = name, item["params"], with_arguments(item["body"], given)
+        self.locals = [with_arguments(local["ty"], given) for local in item["locals"]]
 
     def has(self, at, kind):
         """That a local has this type, in words. The first local is the result, then come the parameters."""
@@ -180,59 +193,71 @@ class Function:
                 yield types.of_place(self, data[TARGET[kind]])
 
 
-def called_by(nodes):
-    """The calls of functions by these nodes: the name, and what is given for the parameters of a generic function. The
-    call of a method that is given so is none of them: it is counted where the method is given."""
-    for kind, data in map(kind_of, nodes):
-        if kind == "Call":
-            how, called = kind_of(data[0])
-            if how == "Method" and kind_of(called[0])[0] == "Given":
-                continue
-            if how != "Fn":
-                raise Unreadable(f"a call of another kind than of a function: {how}")
-            yield called
+class Functions:
+    """The functions as they are called: of a generic one, each that the calls make of it. And the types."""
 
+    def __init__(self, libraries):
+        self.items, self.methods, self.types, self.made = {}, {}, Types(), {}
+        for library in libraries:
+            for name, item in library:
+                self.items[name] = item
+                for declared in item["types"]:
+                    self.types.add(declared)
+                for declared in item["generics"]["impls"]:
+                    if self.methods.setdefault(declared["name"], declared["methods"]) != declared["methods"]:
+                        raise Unreadable(f"the impl {declared['name']} is in it twice, with other methods")
 
-def calls_in(nodes, functions):
-    """The names of the functions that are called by these nodes, and of the methods that are given to them."""
-    for name, given in called_by(nodes):
-        yield name
-        for how, implementation in map(kind_of, given["dicts"]):
-            if how == "Impl":
-                yield from (other for other in functions if other.startswith(implementation[0] + "::"))
-            elif how != "Given":
-                raise Unreadable(f"methods that are given in another way than by an impl: {how}")
+    def methods_of(self, dictionary):
+        """The methods that are given so, and what is given to them: types, and the methods of other impls."""
+        how, data = kind_of(dictionary)
+        if how != "Impl":
+            raise Unreadable(f"methods that are given in another way than by an impl: {how}")
+        name, types, dicts = data
+        if name not in self.methods or not self.items.keys() >= set(self.methods[name]):
+            raise Unreadable(f"the impl {name}, or a method of it, is not in it")
+        for inner in dicts:
+            self.methods_of(inner)
+        return self.methods[name], types, dicts
 
+    def get(self, name, types=(), dicts=()):
+        """The function with this in the places of its parameters."""
+        if name not in self.items:
+            raise Unreadable(f"the function {name} is not in it")
+        key = json.dumps([name, types, dicts])
+        if len(key) > MOST_GIVEN:
+            raise Unreadable(f"the calls of {name} have no end")
+        if key not in self.made:
+            for dictionary in dicts:
+                self.methods_of(dictionary)
+            self.made[key] = Function(name, self.items[name], types, dicts)
+        return self.made[key]
 
-def read(libraries):
-    """All functions by name, and the types."""
-    functions, types = {}, Types()
-    for library in libraries:
-        for name, item in library:
-            functions[name] = Function(name, item)
-            for declared in item["types"]:
-                types.add(declared)
-    return functions, types
-
-
-def given_by(nodes, types):
-    """The generic functions that these nodes call for a type with an array, each with the type."""
-    for name, given in called_by(nodes):
-        yield from ((name, kind) for kind in given["types"] if types.has_array(kind))
+    def called_by(self, nodes):
+        """The functions that are called by these nodes. The parameters of an impl come before those of its methods."""
+        for kind, data in map(kind_of, nodes):
+            if kind == "Call":
+                how, called = kind_of(data[0])
+                if how == "Fn":
+                    name, given = called
+                    yield self.get(name, given["types"], given["dicts"])
+                elif how == "Method":
+                    dictionary, number, given = called
+                    methods, types, dicts = self.methods_of(dictionary)
+                    yield self.get(methods[number], types + given["types"], dicts + given["dicts"])
+                else:
+                    raise Unreadable(f"a call of another kind than of a function: {how}")
 
 
 # ---- what is looked at
 
-def callees(functions, name):
+def callees(functions, function):
     """A function, and all that it calls, directly or by others, each with the functions that lead there."""
-    found, waiting = {}, [(name, (name,))]
+    found, waiting = {}, [(function, (function.name,))]
     while waiting:
-        name, route = waiting.pop(0)
-        if name not in found:
-            if name not in functions:
-                raise Unreadable(f"the function {name} is not in it")
-            found[name] = route
-            waiting += [(other, route + (other,)) for other in calls_in(functions[name].nodes(), functions)]
+        function, route = waiting.pop(0)
+        if function not in found:
+            found[function] = route
+            waiting += [(other, route + (other.name,)) for other in functions.called_by(function.nodes())]
     return found
 
 
@@ -240,12 +265,12 @@ def repeated_by(functions, call):
     """The functions with loops, and those that run more than once: called in loops, or by themselves, directly or by
     others. Both with the functions that lead there."""
     looping, repeated = {}, {}
-    for name, route in callees(functions, call).items():
-        loops = functions[name].loops()
+    for function, route in callees(functions, functions.get(call)).items():
+        loops = function.loops()
         if loops:
-            looping[name] = route
-        again = [other for other in calls_in(functions[name].nodes(), functions) if name in callees(functions, other)]
-        for other in again + [other for loop in loops for other in calls_in(loop, functions)]:
+            looping[function] = route
+        again = [other for other in functions.called_by(function.nodes()) if function in callees(functions, other)]
+        for other in again + [other for loop in loops for other in functions.called_by(loop)]:
             for inner, further in callees(functions, other).items():
                 repeated.setdefault(inner, route + further)
     return looping, repeated
@@ -253,27 +278,24 @@ def repeated_by(functions, call):
 
 def findings(libraries, calls=None):
     """A line for each copy; and how many functions were looked at, those with loops and those called in loops."""
-    functions, types = read(libraries)
-    found, looped, called = [], set(), set()
+    functions = Functions(libraries)
+    types, found, looped, called = functions.types, [], set(), set()
     for call, expected in (calls or CALLS).items():
         looping, repeated = repeated_by(functions, call)
-        looped.update(looping)
-        called.update(repeated)
+        names = {function.name for function in repeated}
+        looped.update(function.name for function in looping)
+        called.update(names)
         found += [f"{call}: {name} is called in none of its loops. Correct CALLS in tests/copies_check.py."
-                  for name in expected if name not in repeated]
-        for name, route in repeated.items():
-            function = functions[name]
+                  for name in expected if name not in names]
+        for function, route in repeated.items():
             held = [function.has(at, shown(kind)) for at, kind in enumerate(function.locals) if types.has_array(kind)]
-            made = [f"{name} makes a value of type {shown(kind)}"
+            made = [f"{function.name} makes a value of type {shown(kind)}"
                     for kind in function.made_in(function.nodes(), types) if types.has_array(kind)]
-            given = [f"{name} calls {other} for {shown(kind)}" for other, kind in given_by(function.nodes(), types)]
-            found += [f"{what} ({' > '.join(route)})" for what in held or made or given]
-        for name, route in looping.items():
-            for kind in (kind for loop in functions[name].loops() for kind in functions[name].made_in(loop, types)):
+            found += [f"{what} ({' > '.join(route)})" for what in held or made]
+        for function, route in looping.items():
+            for kind in (kind for loop in function.loops() for kind in function.made_in(loop, types)):
                 if types.has_array(kind):
-                    found.append(f"a loop of {name} makes a value of type {shown(kind)} ({' > '.join(route)})")
-            found += [f"a loop of {name} calls {other} for {shown(kind)} ({' > '.join(route)})"
-                      for loop in functions[name].loops() for other, kind in given_by(loop, types)]
+                    found.append(f"a loop of {function.name} makes a value of type {shown(kind)} ({' > '.join(route)})")
     return list(dict.fromkeys(found)), len(looped), len(called)
 
 

@@ -35,6 +35,7 @@ DECLARED = [{"name": name, "shape": shape} for name, shape in [
     ("Either", {"Variants": [[{"Param": 0}], [BYTE, {"Param": 1}]]}),
 ]]
 
+PARAM = {"Param": 0}
 ZERO = {"Int": {"width": 8, "value": 0}}
 RETURN = ["Return"]
 
@@ -51,9 +52,18 @@ def assign(to, value=ZERO):
     return [{"Assign": [to, {"Opd": value}]}]
 
 
+def impl(name, types=(), impls=()):
+    return {"Impl": [name, list(types), list(impls)]}
+
+
 def call(name, to=0, types=(), impls=()):
-    given = {"types": list(types), "dicts": [{"Impl": [impl, [], []]} for impl in impls]}
-    return [{"Call": [{"Fn": [name, given]}, [], place(to)]}]
+    return [{"Call": [{"Fn": [name, {"types": list(types), "dicts": list(impls)}]}, [], place(to)]}]
+
+
+def method(number=0, types=(), impls=()):
+    """A call of a method of the first impl that the function is given."""
+    given = {"types": list(types), "dicts": list(impls)}
+    return [{"Call": [{"Method": [{"Given": 0}, number, given]}, [], place(0)]}]
 
 
 def seq(first, *others):
@@ -64,10 +74,11 @@ def loop(statement):
     return ["Block", "Loop", *statement]
 
 
-def function(body, *kinds, parameters=0):
-    """A function of the MIR; the first of its types is that of the result."""
+def function(body, *kinds, parameters=0, impls=()):
+    """A function of the MIR; the first of its types is that of the result. Beside it are impls, each with methods."""
     locals_ = [{"ty": kind, "home": "ValueLocal"} for kind in kinds or ("Bool",)]
-    return {"params": parameters, "locals": locals_, "types": DECLARED, "body": body}
+    generics = {"impls": [{"name": name, "methods": list(methods)} for name, *methods in impls]}
+    return {"params": parameters, "locals": locals_, "types": DECLARED, "generics": generics, "body": body}
 
 
 def program(**changed):
@@ -110,18 +121,60 @@ class Copies(unittest.TestCase):
         run = function(seq(loop(call("step")), loop(body)), "Bool", named("Either", BYTE, ROW))
         self.assertEqual(self.found(run=run), ["a loop of run makes a value of type [u8; 64] (call > run)"])
 
-    def test_what_is_given_to_a_generic_function(self):
-        method = [{"Call": [{"Method": [{"Given": 0}, 0, {"types": [], "dicts": []}]}, [], place(0)]}]
-        generic = function(method, BYTE, {"Param": 0}, parameters=1)
-        for kind, found in [(lent(ROW), []), (ROW, ["a loop of run calls step for [u8; 64] (call > run)"])]:
-            run = function(loop(call("step", types=[kind])))
-            self.assertEqual(self.found(run=run, step=generic), found)
-        deep = function(call("before", types=[ROW]))
-        self.assertIn("deep calls before for [u8; 64] (call > run > step > deep)", self.found(deep=deep))
-        run = function(loop(call("step", impls=["closure+Fn"])))
-        called = {"run": run, "step": generic, "closure+Fn::call": function(RETURN, ROW)}
-        self.assertEqual(self.found(**called),
-                         ["closure+Fn::call returns [u8; 64] by value (call > run > closure+Fn::call)"])
+    def test_a_type_that_is_given(self):
+        generic = function(RETURN, BYTE, PARAM, parameters=1)
+        for kind, found in [(lent(ROW), []), (ROW, [f"step takes [u8; 64] by value {ROUTE}"])]:
+            self.assertEqual(self.found(run=function(loop(call("step", types=[kind]))), step=generic), found)
+        sized = function(RETURN, {"Array": [BYTE, PARAM]})
+        self.assertEqual(self.found(run=function(loop(call("step", types=[{"Const": 64}]))), step=sized),
+                         [f"step returns [u8; 64] by value {ROUTE}"])
+        run = function(seq(loop(call("step")), call("each", types=[ROW])))
+        self.assertEqual(self.found(run=run, each=function(loop(assign(place(1))), "Bool", PARAM)),
+                         ["a loop of each makes a value of type [u8; 64] (call > run > each)"])
+        each = function(loop(call("one", types=[BYTE, PARAM])))
+        self.assertEqual(self.found(run=run, each=each, one=function(RETURN, BYTE, {"Param": 1}, parameters=1)),
+                         ["one takes [u8; 64] by value (call > run > each > one)"])
+
+    def test_a_method_that_is_given(self):
+        given = seq(call("each", impls=[impl("Other")]), call("each", impls=[impl("Closure")]))
+        known = [("Other", "deep", "deep"), ("Closure", "deep", "Closure::call")]
+        called = {"Closure::call": function(call("one")), "one": function(RETURN, BYTE, ROW, parameters=1)}
+        said = "one takes [u8; 64] by value (call > run > each > Closure::call > one)"
+        for each, found in [(method(1), []), (loop(method(0)), []), (loop(method(1)), [said])]:
+            run = function(seq(loop(call("step")), given), impls=known)
+            self.assertEqual(self.found(run=run, each=function(each), **called), found)
+        run = function(loop(call("step", impls=[impl("Closure")])), impls=[("Closure", "Closure::call")])
+        self.assertEqual(self.found(run=run, step=function(method()), **called),
+                         ["one takes [u8; 64] by value (call > run > step > Closure::call > one)"])
+
+    def test_what_is_given_to_a_method(self):
+        over = impl("Over", [ROW], [impl("Closure")])
+        run = function(seq(loop(call("step")), call("each", impls=[over])),
+                       impls=[("Over", "Over::call"), ("Closure", "Closure::call"), ("Mark",)])
+        called = {"run": run, "each": function(loop(method(0, [BYTE], [impl("Mark")]))),
+                  "Over::call": function(method(0, [PARAM, {"Param": 1}]))}
+        said = "Closure::call returns [u8; 64] by value (call > run > each > Over::call > Closure::call)"
+        for kind, found in [(PARAM, [said]), ({"Param": 1}, [])]:
+            self.assertEqual(self.found(**called, **{"Closure::call": function(RETURN, kind)}), found)
+
+    def test_what_is_given_and_not_known(self):
+        generic, known = function(method(), BYTE, parameters=1), [("Closure", "deep"), ("Mark",)]
+        unknown = [([impl("Closure")], []), ([impl("Closure")], [("Closure", "nowhere")]), ([{"Other": 0}], known),
+                   ([impl("Closure", [], [impl("Other")])], known)]
+        for changed, cases in [({"step": generic}, [([], known), ([impl("Mark")], known), *unknown]), ({}, unknown)]:
+            run = function(loop(call("step", impls=[impl("Closure")])), impls=known)
+            self.assertEqual(self.found(run=run, **changed), [])
+            for given, impls in cases:
+                with self.assertRaises(checker.NOT_AS_EXPECTED):
+                    self.found(run=function(loop(call("step", impls=given)), impls=impls), **changed)
+        with self.assertRaises(checker.NOT_AS_EXPECTED):
+            self.found(deep=function(RETURN, impls=[("Closure", "deep")]),
+                       before=function(RETURN, impls=[("Closure", "before")]))
+
+    def test_calls_without_an_end(self):
+        for kind in [lent(PARAM), named("Either", PARAM, PARAM)]:
+            with self.assertRaises(checker.NOT_AS_EXPECTED):
+                self.found(step=function(call("deep", types=[BYTE])), deep=function(call("deep", types=[kind]), PARAM))
 
     def test_a_function_that_a_step_calls(self):
         deep = function(RETURN, BYTE, named("Chain"), parameters=1)
@@ -203,7 +256,7 @@ class Copies(unittest.TestCase):
                 self.found(run=function(loop(body), "Bool", named("State")))
         indirect = copy.deepcopy(call("step"))
         indirect[0]["Call"][0] = {"Method": ["step", {}]}
-        unknown = [{"Vector": [BYTE, {"Lit": 4}]}, named("Other")]
+        unknown = [PARAM, {"Vector": [BYTE, {"Lit": 4}]}, named("Other")]
         for changed in [*({"step": function(RETURN, kind)} for kind in unknown),
                         {"run": function(loop(seq(call("step"), indirect)))},
                         {"run": function(loop(call("step"))[:-1])}, {"run": function(loop(call("step")) + RETURN)},
