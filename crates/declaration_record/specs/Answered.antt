@@ -1,6 +1,6 @@
 -- A means: what stands beside the number of an answer, and which refusal a repeated name gives. `read_kept` in
 -- crates/demands/proofs/Demands.antt says what is due of a refused call; `factors_twice` in proofs/Steps.antt joins
--- `twice_or_unknown` to the walk.
+-- `twice_or_unknown` to the walk. To be believed are `parent_due` and `model_due`.
 -- Assumes nothing.
 use Rattle.std.specs.Prelude.{ℕ, Bool, cond, Ok, Err}
 use Rattle.refusal.specs.declared.Refusal.{Refusal}

@@ -1,5 +1,5 @@
 -- A means: the number of a name by the book, and what a reader answers. `known_in` in proofs/Named.antt and
--- `name_number` in proofs/Names.antt say what the numbers are.
+-- `name_number` in proofs/Names.antt say what the numbers are. To be believed is `declared`.
 -- Assumes nothing.
 use Rattle.std.specs.Prelude.{ℕ, Bool, List, Ok, Err, is_some}
 use Rattle.std.specs.Option.{unwrap_or}

@@ -1,5 +1,6 @@
 -- A means: what the call that writes a declaration answers: 1 to 7, 16, 17, 8, 10, 12, in this order, else the
 -- declaration. `write_refusals`, `write_kept` and `write_done` in crates/demands/proofs/Demands.antt say what that is.
+-- To be believed is `length_due`.
 -- Assumes nothing.
 use Rattle.std.specs.Prelude.{ℕ, ◌≡◌, not, List, [], ltb, length, Ok, Err}
 use Rattle.refusal.specs.declared.Refusal.TheVariants.{BadParent, NotAModel, BufferTooShort}

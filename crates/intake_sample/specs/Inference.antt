@@ -1,6 +1,6 @@
 -- A means: the checks of the call for the model of a parent, in the order of paper 01's table, and its answer.
 -- `model_refusals`, demand 3 and request U5 in crates/demands/proofs/Demands.antt say what that is. To be believed are
--- `sample_of` and `text_of`.
+-- `sample_of`, `text_of` and `answer_model`.
 -- Assumes nothing.
 use Rattle.std.specs.Prelude.{ℕ, ◌≡◌, Bool, true, false, List, [], ◌∷◌, length, Ok}
 use Rattle.nameset.specs.Places.{places}
